@@ -10,7 +10,7 @@ use lib.Bits.{bitXor, xor-lt, xor-zero-r}
 use lib.Dec.{T, eqb, eqb→eq, eqb-refl, lit<}
 use lib.ListN.{length, getD, take, drop, length-append, length-take, length-drop}
 use lib.Seq.{getD-take, getD-drop, take-at, drop-at, drop-drop, length-take-le}
-use Rattle.octets.specs.Buffers.{Octets, put, _⊕_, both, same}
+use Rattle.octets.specs.Buffers.{Octets, put, _⊞_, both, same}
 use Rattle.octets.proofs.XorLaws.{xor-cancel}
 
 -- ---- bytes
@@ -42,35 +42,35 @@ octets-take (suc n) (a ∷ s) p = octets-cons (p .octet 0) (octets-take n s (oct
 
 -- ---- exclusive or
 
-pub length-xor : (s k : List ℕ) → length (s ⊕ k) ≡ length s
-unfolding _⊕_
+pub length-xor : (s k : List ℕ) → length (s ⊞ k) ≡ length s
+unfolding _⊞_
 length-xor [] k = refl
 length-xor (a ∷ s) [] = refl
 length-xor (a ∷ s) (b ∷ k) = ap suc (length-xor s k)
 
-pub getD-xor : (s k : List ℕ) (i : ℕ) → i < length s → getD (s ⊕ k) i 0 ≡ bitXor (getD s i 0) (getD k i 0)
-unfolding _⊕_
+pub getD-xor : (s k : List ℕ) (i : ℕ) → i < length s → getD (s ⊞ k) i 0 ≡ bitXor (getD s i 0) (getD k i 0)
+unfolding _⊞_
 getD-xor [] k i h = absurd (not-suc-le-zero h)
 getD-xor (a ∷ s) [] i h = sym (xor-zero-r (getD (a ∷ s) i 0))
 getD-xor (a ∷ s) (b ∷ k) zero h = refl
 getD-xor (a ∷ s) (b ∷ k) (suc i) h = getD-xor s k i (le-of-suc-le-suc h)
 
--- (s ⊕ k) ⊕ k = s
-pub xor-twice : (s k : List ℕ) → s ⊕ k ⊕ k ≡ s
-unfolding _⊕_
+-- (s ⊞ k) ⊞ k = s
+pub xor-twice : (s k : List ℕ) → s ⊞ k ⊞ k ≡ s
+unfolding _⊞_
 xor-twice [] k = refl
 xor-twice (a ∷ s) [] = refl
 xor-twice (a ∷ s) (b ∷ k) = ap₂ (λ (x : ℕ) (t : List ℕ). x ∷ t) (xor-cancel a b) (xor-twice s k)
 
-pub octets-xor : (s k : List ℕ) → Octets s → Octets k → Octets (s ⊕ k)
-unfolding _⊕_
+pub octets-xor : (s k : List ℕ) → Octets s → Octets k → Octets (s ⊞ k)
+unfolding _⊞_
 octets-xor [] k p q = p
 octets-xor (a ∷ s) [] p q = p
 octets-xor (a ∷ s) (b ∷ k) p q =
     octets-cons (xor-lt 8 a b (p .octet 0) (q .octet 0)) (octets-xor s k (octets-tail p) (octets-tail q))
 
-pub append-xor : (s t k l : List ℕ) → length s ≡ length k → (s ++ t) ⊕ (k ++ l) ≡ (s ⊕ k) ++ (t ⊕ l)
-unfolding _⊕_
+pub append-xor : (s t k l : List ℕ) → length s ≡ length k → (s ++ t) ⊞ (k ++ l) ≡ (s ⊞ k) ++ (t ⊞ l)
+unfolding _⊞_
 append-xor [] t [] l e = refl
 append-xor [] t (b ∷ k) l e = absurd (omega arith)
 append-xor (a ∷ s) t [] l e = absurd (omega arith)

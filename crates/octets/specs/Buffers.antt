@@ -7,7 +7,7 @@ use lib.Bits.{bitXor}
 use lib.Dec.{eqb}
 use lib.ListN.{length, getD, take, drop}
 
-infixl 60 _⊕_
+infixl 60 _⊞_
 -- s is made of bytes
 pub record Octets (s : List ℕ) : Type 0 where
   pub octet : (i : ℕ) → getD s i 0 < 256
@@ -16,11 +16,11 @@ pub record Octets (s : List ℕ) : Type 0 where
 unfoldable pub put : List ℕ → ℕ → List ℕ → List ℕ
 put d at s = take at d ++ s ++ drop (at + length s) d
 
--- s ⊕ k, byte by byte: as long as s, with zeros for the bytes that k lacks
-unfoldable pub _⊕_ : List ℕ → List ℕ → List ℕ
-[] ⊕ k = []
-(a ∷ s) ⊕ [] = a ∷ s
-(a ∷ s) ⊕ (b ∷ k) = bitXor a b ∷ (s ⊕ k)
+-- s ⊞ k, byte by byte: as long as s, with zeros for the bytes that k lacks
+unfoldable pub _⊞_ : List ℕ → List ℕ → List ℕ
+[] ⊞ k = []
+(a ∷ s) ⊞ [] = a ∷ s
+(a ∷ s) ⊞ (b ∷ k) = bitXor a b ∷ (s ⊞ k)
 
 -- both tests
 abbrev pub both : Bool → Bool → Bool
