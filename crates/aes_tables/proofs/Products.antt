@@ -72,7 +72,7 @@ product-linear a x y hx hy = times-linear 8 a x y hx hy
 
 -- ---- the inverse
 
--- (4.11): b • b⁻¹ = {01} for every byte b but {00}
+-- 4.4: b • b⁻¹ = {01} for every byte b but {00}
 pub inverse-product : (b : ℕ) → b < 255 → suc b • inverse (suc b) ≡ 1
 unfolding xTimes times _•_ square powers inverse
 inverse-product b h = eqb→eq _ _ (at-each 255 (λ y. eqb (suc y • inverse (suc y)) 1) tt b h)

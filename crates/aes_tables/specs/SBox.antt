@@ -10,7 +10,7 @@ unfoldable pub fromBits : ℕ → (ℕ → ℕ) → ℕ
 fromBits zero f = 0
 fromBits (suc n) f = fromBits n f + f n % 2 * 2 ^ n
 
--- (5.2), with the constant {63}
+-- the affine map, with the constant {63}
 unfoldable pub affine : ℕ → ℕ
 affine b = fromBits 8 (λ i. bit b i + bit b ((i + 4) % 8) + bit b ((i + 5) % 8) + bit b ((i + 6) % 8) + bit b ((i + 7) % 8) + bit 0x63 i)
 

@@ -1,0 +1,77 @@
+-- The bytes of a word: of four bytes packed, of a rotated word, of a sum.
+-- Assumes nothing.
+use mathlib.Core.Path.{_≡_, ap, _∙_}
+use mathlib.Core.List.{List, [], _∷_}
+use Prim.Native.Nat.{ℕ, _+_, _*_, _/_, _%_, _^_, _<_}
+use native.Mathlib.Omega.{arith}
+use lib.Bits.{bitXor, xor-shr, xor-mod}
+use Rattle.octets.specs.Buffers.{_⊞_}
+use Rattle.aes_tables.specs.Tables.{column}
+use Rattle.aes.specs.Words.{bytes, turned}
+
+pub bytes-column : (a b c d : ℕ) → a < 256 → b < 256 → c < 256 → d < 256 → bytes (column a b c d) ≡ a ∷ b ∷ c ∷ d ∷ []
+bytes-column a b c d ha hb hc hd = λ i. e0 i ∷ e1 i ∷ e2 i ∷ e3 i ∷ []
+  where
+    e0 : column a b c d % 256 ≡ a
+    e0 = omega arith
+
+    e1 : column a b c d / 256 % 256 ≡ b
+    e1 = omega arith
+
+    e2 : column a b c d / 65536 % 256 ≡ c
+    e2 = omega arith
+
+    e3 : column a b c d / 16777216 % 256 ≡ d
+    e3 = omega arith
+
+-- ---- a word rotated by bytes
+
+module _ (a b c d : ℕ) (ha : a < 256) (hb : b < 256) (hc : c < 256) (hd : d < 256) where
+  column-rotate1 : column a b c d / 16777216 + column a b c d % 16777216 * 256 ≡ column d a b c
+  column-rotate1 = omega arith
+
+  column-rotate2 : column a b c d / 65536 + column a b c d % 65536 * 65536 ≡ column c d a b
+  column-rotate2 = high ∙ omega arith
+    where
+      high : column a b c d / 65536 + column a b c d % 65536 * 65536 ≡ (c + d * 256) + (a + b * 256) * 65536
+      high = omega arith
+
+  column-rotate3 : column a b c d / 256 + column a b c d % 256 * 16777216 ≡ column b c d a
+  column-rotate3 = omega arith
+
+module _ (w : ℕ) (h : w < 2 ^ 32) where
+  -- a word is made of its bytes
+  whole : w ≡ column (w % 256) (w / 256 % 256) (w / 65536 % 256) (w / 16777216 % 256)
+  whole =
+      let high : w / 16777216 % 256 ≡ w / 16777216 = omega arith in
+      omega (arith, high)
+
+  byte : (n : ℕ) → n % 256 < 256
+  byte n = omega arith
+
+  pub bytes-rotate1 : bytes (w / 16777216 + w % 16777216 * 256) ≡ turned 1 (bytes w)
+  unfolding turned
+  bytes-rotate1 =
+      ap (λ (x : ℕ). bytes (x / 16777216 + x % 16777216 * 256)) whole
+      ∙ ap bytes (column-rotate1 _ _ _ _ (byte _) (byte _) (byte _) (byte _)) ∙ bytes-column _ _ _ _ (byte _) (byte _) (byte _) (byte _)
+
+  pub bytes-rotate2 : bytes (w / 65536 + w % 65536 * 65536) ≡ turned 2 (bytes w)
+  unfolding turned
+  bytes-rotate2 =
+      ap (λ (x : ℕ). bytes (x / 65536 + x % 65536 * 65536)) whole
+      ∙ ap bytes (column-rotate2 _ _ _ _ (byte _) (byte _) (byte _) (byte _)) ∙ bytes-column _ _ _ _ (byte _) (byte _) (byte _) (byte _)
+
+  pub bytes-rotate3 : bytes (w / 256 + w % 256 * 16777216) ≡ turned 3 (bytes w)
+  unfolding turned
+  bytes-rotate3 =
+      ap (λ (x : ℕ). bytes (x / 256 + x % 256 * 16777216)) whole
+      ∙ ap bytes (column-rotate3 _ _ _ _ (byte _) (byte _) (byte _) (byte _)) ∙ bytes-column _ _ _ _ (byte _) (byte _) (byte _) (byte _)
+
+-- ---- a sum of words
+
+pub bytes-xor : (x y : ℕ) → bytes (bitXor x y) ≡ bytes x ⊞ bytes y
+unfolding _⊞_
+bytes-xor x y = λ i. xor-mod x y 8 i ∷ at 8 i ∷ at 16 i ∷ at 24 i ∷ []
+  where
+    at : (k : ℕ) → bitXor x y / 2 ^ k % 256 ≡ bitXor (x / 2 ^ k % 256) (y / 2 ^ k % 256)
+    at k = ap (λ (n : ℕ). n % 256) (xor-shr x y k) ∙ xor-mod (x / 2 ^ k) (y / 2 ^ k) 8

@@ -1,0 +1,42 @@
+use mathlib.Core.Path.{ap, _∙_}
+use mathlib.Core.List.{List, _++_}
+use Prim.Native.Nat.{ℕ}
+use Rattle.aes.specs.Words.{blockBytes}
+use Rattle.octets.specs.Buffers.{_⊞_}
+use Rattle.aes.specs.Cipher.{at, state, byColumn, subBytes, shiftRows, mixColumns}
+use borrow.Author.Needs.{needs}
+use Rattle.aes.proofs.encrypt.round.Statement.{statement}
+use Rattle.aes.proofs.encrypt.round.Tie as tie
+
+column-requires : tie.Need-column-requires
+column-requires c κs = search needs
+
+column-requires-2 : tie.Need-column-requires-2
+column-requires-2 c κs = search needs
+
+column-requires-3 : tie.Need-column-requires-3
+column-requires-3 c κs = search needs
+
+column-requires-4 : tie.Need-column-requires-4
+column-requires-4 c κs = search needs
+
+add-requires : tie.Need-add-requires
+add-requires c κs = search needs
+
+returns : tie.Need-returns
+unfolding blockBytes at state byColumn subBytes shiftRows mixColumns
+returns c =
+    c .add .ensures
+    ∙ ap (λ (l : List ℕ). l ⊞ blockBytes (c .before .before .before .before .before .args .k))
+    (λ i. c .before .before .before .before .column .ensures i ++ (c .before .before .before .column2 .ensures i ++ (c .before .before .column3 .ensures i ++ c .before .column4 .ensures i)))
+
+pub round-spec : {M : Type 1} → statement M
+round-spec =
+    tie.close
+    (tie.spec
+    column-requires
+    column-requires-2
+    column-requires-3
+    column-requires-4
+    add-requires
+    returns)

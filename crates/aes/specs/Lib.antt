@@ -1,0 +1,4 @@
+pub mod Cipher
+pub mod KeyExpansion
+pub mod InvCipher
+pub mod Words

@@ -1,0 +1,78 @@
+// The inverse cipher, FIPS 197 section 5.3.
+use super::Block;
+use super::add;
+use super::round_key;
+use super::word::byte0;
+use super::word::byte1;
+use super::word::byte2;
+use super::word::byte3;
+use super::word::mixed;
+use super::word::substituted;
+ghost use mathlib.Core.Path.{_≡_};
+ghost use mathlib.Core.List.{map, _∷_, []};
+ghost use Prim.Native.Nat.{_/_, _%_, _<_};
+ghost use Rattle.octets.specs.Buffers.{_⊞_};
+ghost use Rattle.aes_tables.specs.SBox.{invSBox};
+ghost use Rattle.aes_tables.specs.Tables.{IsTable, invMixEntry};
+ghost use Rattle.aes.specs.InvCipher.{invSubBytes, invShiftRows, invMixColumns, invMixColumn, invCipher as invCipherOf};
+ghost use Rattle.aes.specs.Words.{bytes, blockBytes};
+
+// A column after InvShiftRows and InvSubBytes.
+fn sub_column(sbox: &[u8; 256], a: u32, b: u32, c: u32, d: u32) -> u32
+    requires { ⌜ IsTable invSBox (now sbox) ⌝ }
+    ensures { λ r. ⌜ bytes r ≡ invSBox (a % 256) ∷ invSBox (b / 256 % 256) ∷ invSBox (c / 65536 % 256) ∷ invSBox (d / 16777216 % 256) ∷ [] ⌝ }
+{
+    substituted(sbox, byte0(a), byte1(b), byte2(c), byte3(d))
+}
+
+// A column after InvMixColumns.
+fn mix_column(t: &[u32; 256], w: u32) -> u32
+    requires { ⌜ IsTable invMixEntry (now t) ⌝ }
+    ensures { λ r. ⌜ bytes r ≡ invMixColumn (w % 256) (w / 256 % 256) (w / 65536 % 256) (w / 16777216 % 256) ⌝ }
+{
+    mixed(t, byte0(w), byte1(w), byte2(w), byte3(w))
+}
+
+fn sub_round(sbox: &[u8; 256], s: Block, k: Block) -> Block
+    requires { ⌜ IsTable invSBox (now sbox) ⌝ }
+    ensures { λ r. ⌜ blockBytes r ≡ invSubBytes (invShiftRows (blockBytes s)) ⊞ blockBytes k ⌝ }
+{
+    add(
+        Block {
+            a: sub_column(sbox, s.a, s.d, s.c, s.b),
+            b: sub_column(sbox, s.b, s.a, s.d, s.c),
+            c: sub_column(sbox, s.c, s.b, s.a, s.d),
+            d: sub_column(sbox, s.d, s.c, s.b, s.a),
+        },
+        k,
+    )
+}
+
+fn mix_columns(t: &[u32; 256], s: Block) -> Block
+    requires { ⌜ IsTable invMixEntry (now t) ⌝ }
+    ensures { λ r. ⌜ blockBytes r ≡ invMixColumns (blockBytes s) ⌝ }
+{
+    Block {
+        a: mix_column(t, s.a),
+        b: mix_column(t, s.b),
+        c: mix_column(t, s.c),
+        d: mix_column(t, s.d),
+    }
+}
+
+// INVCIPHER, at an expanded key and its number of rounds.
+pub fn inv_cipher(t: &[u32; 256], sbox: &[u8; 256], w: &[u32; 60], rounds: usize, x: Block) -> Block
+    requires { ⌜ IsTable invMixEntry (now t) ⌝ }
+    requires { ⌜ IsTable invSBox (now sbox) ⌝ }
+    requires { ⌜ 0 < rounds ⌝ }
+    requires { ⌜ rounds < 15 ⌝ }
+    ensures { λ r. ⌜ blockBytes r ≡ invCipherOf rounds (map bytes (now (w .entry))) (blockBytes x) ⌝ }
+{
+    let mut s = add(x, round_key(w, rounds));
+    let mut i = rounds - 1;
+    while 0 < i {
+        s = mix_columns(t, sub_round(sbox, s, round_key(w, i)));
+        i -= 1;
+    }
+    sub_round(sbox, s, round_key(w, 0))
+}

@@ -1,0 +1,81 @@
+// The cipher, FIPS 197 section 5.1.
+use super::Block;
+use super::add;
+use super::round_key;
+use super::word::byte0;
+use super::word::byte1;
+use super::word::byte2;
+use super::word::byte3;
+use super::word::mixed;
+use super::word::substituted;
+ghost use mathlib.Core.Path.{_≡_};
+ghost use mathlib.Core.List.{map, _∷_, []};
+ghost use Prim.Native.Nat.{_/_, _%_, _<_};
+ghost use Rattle.octets.specs.Buffers.{_⊞_};
+ghost use Rattle.aes_tables.specs.SBox.{sBox};
+ghost use Rattle.aes_tables.specs.Tables.{IsTable, mixEntry};
+ghost use Rattle.aes.specs.Cipher.{subBytes, shiftRows, mixColumns, mixColumn, cipher as cipherOf};
+ghost use Rattle.aes.specs.Words.{bytes, blockBytes};
+
+// A column after SubBytes, ShiftRows and MixColumns.
+fn column(t: &[u32; 256], a: u32, b: u32, c: u32, d: u32) -> u32
+    requires { ⌜ IsTable mixEntry (now t) ⌝ }
+    ensures { λ r. ⌜ bytes r ≡ mixColumn (sBox (a % 256)) (sBox (b / 256 % 256)) (sBox (c / 65536 % 256)) (sBox (d / 16777216 % 256)) ⌝ }
+{
+    mixed(t, byte0(a), byte1(b), byte2(c), byte3(d))
+}
+
+// A column after SubBytes and ShiftRows.
+pub fn last_column(sbox: &[u8; 256], a: u32, b: u32, c: u32, d: u32) -> u32
+    requires { ⌜ IsTable sBox (now sbox) ⌝ }
+    ensures { λ r. ⌜ bytes r ≡ sBox (a % 256) ∷ sBox (b / 256 % 256) ∷ sBox (c / 65536 % 256) ∷ sBox (d / 16777216 % 256) ∷ [] ⌝ }
+{
+    substituted(sbox, byte0(a), byte1(b), byte2(c), byte3(d))
+}
+
+fn round(t: &[u32; 256], s: Block, k: Block) -> Block
+    requires { ⌜ IsTable mixEntry (now t) ⌝ }
+    ensures { λ r. ⌜ blockBytes r ≡ mixColumns (shiftRows (subBytes (blockBytes s))) ⊞ blockBytes k ⌝ }
+{
+    add(
+        Block {
+            a: column(t, s.a, s.b, s.c, s.d),
+            b: column(t, s.b, s.c, s.d, s.a),
+            c: column(t, s.c, s.d, s.a, s.b),
+            d: column(t, s.d, s.a, s.b, s.c),
+        },
+        k,
+    )
+}
+
+fn final_round(sbox: &[u8; 256], s: Block, k: Block) -> Block
+    requires { ⌜ IsTable sBox (now sbox) ⌝ }
+    ensures { λ r. ⌜ blockBytes r ≡ shiftRows (subBytes (blockBytes s)) ⊞ blockBytes k ⌝ }
+{
+    add(
+        Block {
+            a: last_column(sbox, s.a, s.b, s.c, s.d),
+            b: last_column(sbox, s.b, s.c, s.d, s.a),
+            c: last_column(sbox, s.c, s.d, s.a, s.b),
+            d: last_column(sbox, s.d, s.a, s.b, s.c),
+        },
+        k,
+    )
+}
+
+// CIPHER, at an expanded key and its number of rounds.
+pub fn cipher(t: &[u32; 256], sbox: &[u8; 256], w: &[u32; 60], rounds: usize, x: Block) -> Block
+    requires { ⌜ IsTable mixEntry (now t) ⌝ }
+    requires { ⌜ IsTable sBox (now sbox) ⌝ }
+    requires { ⌜ 0 < rounds ⌝ }
+    requires { ⌜ rounds < 15 ⌝ }
+    ensures { λ r. ⌜ blockBytes r ≡ cipherOf rounds (map bytes (now (w .entry))) (blockBytes x) ⌝ }
+{
+    let mut s = add(x, round_key(w, 0));
+    let mut i = 0;
+    while i < rounds - 1 {
+        s = round(t, s, round_key(w, i + 1));
+        i += 1;
+    }
+    final_round(sbox, s, round_key(w, rounds))
+}
