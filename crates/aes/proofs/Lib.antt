@@ -1,3 +1,6 @@
 pub mod WordLaws
 pub mod RoundLaws
 pub mod KeyLaws
+pub mod MixLaws
+pub mod BlockLaws
+pub mod Inverse

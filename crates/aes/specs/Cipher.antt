@@ -1,9 +1,10 @@
 -- FIPS 197, section 5.1: the cipher. A block, a state and a round key are 16 bytes, a state column by column (3.4); a word is
 -- 4 bytes; w is the expanded key, a list of words.
+use mathlib.Core.Path.{_≡_}
 use mathlib.Core.List.{List, [], _∷_, _++_, map}
 use Prim.Native.Nat.{ℕ, zero, suc, _+_, _-_, _*_, _%_}
-use lib.ListN.{getD}
-use Rattle.octets.specs.Buffers.{_⊞_}
+use lib.ListN.{length, getD}
+use Rattle.octets.specs.Buffers.{Octets, _⊞_}
 use Rattle.aes_tables.specs.Field.{_⊕_, _•_}
 use Rattle.aes_tables.specs.SBox.{sBox}
 
@@ -64,3 +65,8 @@ rounds w (suc n) s = addRoundKey w (suc n) (mixColumns (shiftRows (subBytes (rou
 -- CIPHER(in, Nr, w)
 unfoldable pub cipher : ℕ → List (List ℕ) → List ℕ → List ℕ
 cipher nr w s = addRoundKey w nr (shiftRows (subBytes (rounds w (nr - 1) (addRoundKey w 0 s))))
+
+-- a block: 16 bytes
+pub record IsBlock (s : List ℕ) : Type 0 where
+  pub size : length s ≡ 16
+  pub bytes : Octets s

@@ -13,7 +13,7 @@ use Rattle.aes_tables.specs.Field.{_⊕_, xTimes, times, _•_, square, 
 
 -- ---- products of bytes are bytes
 
-xTimes-lt : (x : ℕ) → x < 256 → xTimes x < 256
+pub xTimes-lt : (x : ℕ) → x < 256 → xTimes x < 256
 unfolding xTimes
 xTimes-lt x h = xor-lt 8 (x * 2 % 256) (x / 128 * 0x1b) (omega arith) (omega arith)
 
