@@ -5,11 +5,14 @@ use mathlib.Core.Path.{_≡_, refl, sym, ap, ap₂, _∙_, subst}
 use mathlib.Core.List.{List, [], _∷_, _++_, append-assoc}
 use Prim.Native.Nat.{ℕ, zero, suc, _+_, _-_, _≤_, _<_, zero-le}
 use native.Mathlib.Nat.{le-of-suc-le-suc, not-suc-le-zero, suc-inj}
+use native.Mathlib.Numerals.{add-one}
 use native.Mathlib.Omega.{arith}
+use mir.Syntax.{w8}
+use mir.Val.{Fits}
 use lib.Bits.{bitXor, xor-lt, xor-zero-r}
 use lib.Dec.{T, eqb, eqb→eq, eqb-refl, lit<}
-use lib.ListN.{length, getD, take, drop, length-append, length-take, length-drop}
-use lib.Seq.{getD-take, getD-drop, take-at, drop-at, drop-drop, length-take-le}
+use lib.ListN.{length, getD, take, drop, set, length-append, length-take, length-drop}
+use lib.Seq.{getD-take, getD-drop, take-at, drop-at, drop-drop, length-take-le, append-snoc, set-split}
 use Rattle.octets.specs.Buffers.{Octets, put, _⊞_, both, same}
 use Rattle.octets.proofs.XorLaws.{xor-cancel}
 
@@ -17,6 +20,10 @@ use Rattle.octets.proofs.XorLaws.{xor-cancel}
 
 pub octets-nil : Octets []
 octets-nil = record { octet = λ i. lit< tt }
+
+-- what a slice of u8 is known to be
+pub octets-fit : (s : List ℕ) → ((i : ℕ) → Fits w8 (getD s i 0)) → Octets s
+octets-fit s f = record { octet = λ i. f i .fits }
 
 pub octets-cons : {a : ℕ} {s : List ℕ} → a < 256 → Octets s → Octets (a ∷ s)
 octets-cons {a} {s} h p = record { octet = go }
@@ -105,6 +112,14 @@ module _ (d : List ℕ) (at : ℕ) (s : List ℕ) (fits : at + length s ≤ leng
       (sym (drop-drop (length t) (at + length s) (put d at s)) ∙ ap (drop (length t)) drop-put
       ∙ drop-drop (length t) (at + length s) d)
       ∙ ap₂ (λ (x : List ℕ) (k : ℕ). x ++ drop k d) (append-assoc (take at d) s t) n
+
+-- one byte
+pub put-one : (d : List ℕ) (at a : ℕ) → at < length d → put d at (a ∷ []) ≡ set d at a
+unfolding put
+put-one d at a h =
+    ap (λ (k : ℕ). take at d ++ (a ∷ []) ++ drop k d) (add-one at)
+    ∙ append-snoc (take at d) a (drop (suc at) d)
+    ∙ sym (set-split d at a h)
 
 -- ---- comparison
 

@@ -1,3 +1,4 @@
 pub mod XorLaws
 pub mod Table
 pub mod BufferLaws
+pub mod NumberLaws

@@ -1,0 +1,21 @@
+use borrow.Author.Needs.{needs}
+use Rattle.octets.proofs.NumberLaws.{put-be}
+use Rattle.octets.proofs.be.write_u32_be.Statement.{statement}
+use Rattle.octets.proofs.be.write_u32_be.Tie as tie
+
+returns : tie.Need-returns
+returns c =
+    let a = c .before .before .before .before .before .before .before .before .before .args in
+    cc (put-be 2 2 (a .out .now) (a .at) (a .x) (search needs))
+
+pub write-u32-be-spec : {M : Type 1} → statement M
+write-u32-be-spec =
+    tie.close
+    (tie.spec
+    (λ c. search needs)
+    (λ c κs. search needs)
+    (λ c. search needs)
+    (λ c. search needs)
+    (λ c κs. search needs)
+    (λ c. search needs)
+    returns)

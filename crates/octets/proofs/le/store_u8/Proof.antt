@@ -1,0 +1,20 @@
+use mathlib.Core.Path.{_≡_, _∙_, sym, ap}
+use mathlib.Core.List.{List, _∷_, []}
+use Prim.Native.Nat.{ℕ}
+use native.Mathlib.Nat.{mod-eq-of-lt, div-one}
+use borrow.Author.Needs.{needs}
+use Rattle.octets.specs.Buffers.{put}
+use Rattle.octets.specs.Numbers.{toLe}
+use Rattle.octets.proofs.BufferLaws.{put-one}
+use Rattle.octets.proofs.NumberLaws.{toLe-one}
+use Rattle.octets.proofs.le.store_u8.Statement.{statement}
+use Rattle.octets.proofs.le.store_u8.Tie as tie
+
+returns : tie.Need-returns
+returns c =
+    let a = c .args in
+    sym (ap (put (a .out .now) (a .at)) (toLe-one (a .x) (search needs)) ∙ put-one (a .out .now) (a .at) (a .x) (search needs))
+
+pub store-u8-spec : {M : Type 1} → statement M
+store-u8-spec =
+    tie.close (tie.spec (λ c. search needs) (λ c. search needs) returns)
