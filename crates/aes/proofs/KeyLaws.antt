@@ -7,14 +7,16 @@ use native.Mathlib.Nat.{add-zero, div-lt-iff-lt-mul, le-div-iff-mul-le}
 use native.Mathlib.Numerals.{add-one}
 use native.Mathlib.Omega.{arith}
 use lib.Bits.{bitXor}
-use lib.ListN.{getD, set, take, length}
-use lib.Seq.{take-suc-set, getD-take}
+use lib.ListN.{getD, set, take, drop, length}
+use lib.Seq.{take-suc-set, getD-take, getD-drop}
 use borrow.Author.Tests.{eq-eqb, ne-eqb, lt-ltb, le-ltb}
-use Rattle.octets.specs.Buffers.{_⊞_}
+use Rattle.octets.specs.Buffers.{Octets, _⊞_}
+use Rattle.octets.specs.Numbers.{le}
+use Rattle.octets.proofs.BufferLaws.{octets-drop}
 use Rattle.aes.specs.Cipher.{word}
 use Rattle.aes.specs.KeyExpansion.{rotWord, subWord, rcon, temp, keyWords, expanded, keyExpansion}
 use Rattle.aes.specs.Words.{bytes}
-use Rattle.aes.proofs.WordLaws.{bytes-xor}
+use Rattle.aes.proofs.WordLaws.{bytes-le, bytes-xor}
 use Rattle.aes.proofs.RoundLaws.{word-law}
 
 -- Rcon is asked at 1 to 10
@@ -41,6 +43,11 @@ module _ (nk i : ℕ) (t : List ℕ) where
 -- a word is stored behind the first i
 stored : (w : List ℕ) (i v : ℕ) → i < length w → map bytes (take (suc i) (set w i v)) ≡ map bytes (take i w) ++ bytes v ∷ []
 stored w i v h = ap (map bytes) (take-suc-set w i v h) ∙ map-append bytes (take i w) (v ∷ [])
+
+-- a word of the key, as it is read
+pub key-bytes : (key : List ℕ) (i : ℕ) → Octets key
+    → bytes (le 4 (drop i key)) ≡ getD key i 0 ∷ getD key (i + 1) 0 ∷ getD key (i + 2) 0 ∷ getD key (i + 3) 0 ∷ []
+key-bytes key i p = bytes-le (drop i key) (octets-drop i p) ∙ simp (getD-drop, add-zero)
 
 pub key-law : (w key : List ℕ) (i v : ℕ) → i < length w → map bytes (take i w) ≡ keyWords key i
     → bytes v ≡ getD key (4 * i) 0 ∷ getD key (4 * i + 1) 0 ∷ getD key (4 * i + 2) 0 ∷ getD key (4 * i + 3) 0 ∷ []

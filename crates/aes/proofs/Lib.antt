@@ -4,3 +4,4 @@ pub mod KeyLaws
 pub mod MixLaws
 pub mod BlockLaws
 pub mod Inverse
+pub mod KeyedLaws

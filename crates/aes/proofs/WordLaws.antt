@@ -1,11 +1,16 @@
--- The bytes of a word: of four bytes packed, of a rotated word, of a sum.
+-- The bytes of a word: of four bytes packed, of a rotated word, of a sum, read and written.
 -- Assumes nothing.
-use mathlib.Core.Path.{_≡_, ap, _∙_}
-use mathlib.Core.List.{List, [], _∷_}
-use Prim.Native.Nat.{ℕ, _+_, _*_, _/_, _%_, _^_, _<_}
+use mathlib.Core.Path.{_≡_, sym, ap, ap₂, _∙_}
+use mathlib.Core.List.{List, [], _∷_, _++_}
+use Prim.Native.Nat.{ℕ, _+_, _*_, _/_, _%_, _^_, _≤_, _<_}
 use native.Mathlib.Omega.{arith}
 use lib.Bits.{bitXor, xor-shr, xor-mod}
-use Rattle.octets.specs.Buffers.{_⊞_}
+use lib.ListN.{length, getD, take, drop, length-drop}
+use lib.Seq.{getD-drop, drop-drop, take-add, length-take-le}
+use Rattle.octets.specs.Buffers.{Octets, put, _⊞_}
+use Rattle.octets.specs.Numbers.{le, toLe}
+use Rattle.octets.proofs.BufferLaws.{octets-take, octets-drop, put-put}
+use Rattle.octets.proofs.NumberLaws.{le-take, toLe-le}
 use Rattle.aes_tables.specs.Tables.{column}
 use Rattle.aes.specs.Words.{bytes, turned}
 
@@ -75,3 +80,49 @@ bytes-xor x y = λ i. xor-mod x y 8 i ∷ at 8 i ∷ at 16 i ∷ at 24 i ∷ []
   where
     at : (k : ℕ) → bitXor x y / 2 ^ k % 256 ≡ bitXor (x / 2 ^ k % 256) (y / 2 ^ k % 256)
     at k = ap (λ (n : ℕ). n % 256) (xor-shr x y k) ∙ xor-mod (x / 2 ^ k) (y / 2 ^ k) 8
+
+-- ---- words read and written
+
+pub bytes-le : (s : List ℕ) → Octets s → bytes (le 4 s) ≡ getD s 0 0 ∷ getD s 1 0 ∷ getD s 2 0 ∷ getD s 3 0 ∷ []
+unfolding le
+bytes-le s p =
+    let e : le 4 s ≡ column (getD s 0 0) (getD s 1 0) (getD s 2 0) (getD s 3 0) = omega arith in
+    ap bytes e ∙ bytes-column _ _ _ _ (p .octet 0) (p .octet 1) (p .octet 2) (p .octet 3)
+
+pub toLe-bytes : (w : ℕ) → toLe 4 w ≡ bytes w
+unfolding toLe
+toLe-bytes w = λ i. w % 256 ∷ w / 256 % 256 ∷ e2 i ∷ e3 i ∷ []
+  where
+    e2 : w / 256 / 256 % 256 ≡ w / 65536 % 256
+    e2 = omega arith
+
+    e3 : w / 256 / 256 / 256 % 256 ≡ w / 16777216 % 256
+    e3 = omega arith
+
+pub bytes-read : (s : List ℕ) (at : ℕ) → Octets s → at + 4 ≤ length s → bytes (le 4 (drop at s)) ≡ take 4 (drop at s)
+bytes-read s at p h =
+    let t = take 4 (drop at s) in
+    ap bytes (sym (le-take 4 (drop at s))) ∙ sym (toLe-bytes (le 4 t))
+    ∙ toLe-le (octets-take 4 (drop at s) (octets-drop at p)) (length-take-le 4 (drop at s) (omega (arith, length-drop at s)))
+
+-- a block is its four words
+pub four-words : (s : List ℕ) (at : ℕ)
+    → take 4 (drop at s) ++ (take 4 (drop (at + 4) s) ++ (take 4 (drop (at + 8) s) ++ take 4 (drop (at + 12) s))) ≡ take 16 (drop at s)
+four-words s at =
+    let t = drop at s in
+    sym (take-add 4 12 t ∙ ap (λ (x : List ℕ). take 4 t ++ x)
+    (ap (take 12) (drop-drop 4 at s) ∙ take-add 4 8 (drop (at + 4) s) ∙ ap (λ (x : List ℕ). take 4 (drop (at + 4) s) ++ x)
+    (ap (take 8) (drop-drop 4 (at + 4) s ∙ next 4) ∙ take-add 4 4 (drop (at + 8) s) ∙ ap (λ (x : List ℕ). take 4 (drop (at + 8) s) ++ x)
+    (ap (take 4) (drop-drop 4 (at + 8) s ∙ next 8)))))
+  where
+    next : (k : ℕ) → drop (at + k + 4) s ≡ drop (at + (k + 4)) s
+    next k = let e : at + k + 4 ≡ at + (k + 4) = omega arith in ap (λ (n : ℕ). drop n s) e
+
+-- four words written one behind the other
+pub put-words : (d : List ℕ) (at a b c e : ℕ) → at + 16 ≤ length d
+    → put (put (put (put d at (bytes a)) (at + 4) (bytes b)) (at + 8) (bytes c)) (at + 12) (bytes e)
+    ≡ put d at (bytes a ++ (bytes b ++ (bytes c ++ bytes e)))
+put-words d at a b c e h =
+    ap (λ (x : List ℕ). put (put x (at + 8) (bytes c)) (at + 12) (bytes e)) (put-put d at (bytes a) (omega arith) (bytes b))
+    ∙ ap (λ (x : List ℕ). put x (at + 12) (bytes e)) (put-put d at (bytes a ++ bytes b) (omega arith) (bytes c))
+    ∙ put-put d at (bytes a ++ (bytes b ++ bytes c)) (omega arith) (bytes e)

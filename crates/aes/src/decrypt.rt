@@ -1,6 +1,9 @@
 // The inverse cipher, FIPS 197 section 5.3.
 use super::Block;
 use super::add;
+use super::key::expand;
+use super::key::key_words;
+use super::read_block;
 use super::round_key;
 use super::word::byte0;
 use super::word::byte1;
@@ -8,13 +11,15 @@ use super::word::byte2;
 use super::word::byte3;
 use super::word::mixed;
 use super::word::substituted;
+use super::write_block;
 ghost use mathlib.Core.Path.{_≡_};
 ghost use mathlib.Core.List.{map, _∷_, []};
 ghost use Prim.Native.Nat.{_/_, _%_, _<_};
 ghost use Rattle.octets.specs.Buffers.{_⊞_};
 ghost use Rattle.aes_tables.specs.SBox.{invSBox};
 ghost use Rattle.aes_tables.specs.Tables.{IsTable, invMixEntry};
-ghost use Rattle.aes.specs.InvCipher.{invSubBytes, invShiftRows, invMixColumns, invMixColumn, invCipher as invCipherOf};
+ghost use Rattle.aes.specs.InvCipher.{invSubBytes, invShiftRows, invMixColumns, invMixColumn, invCipher as invCipherOf, invAes};
+ghost use Rattle.aes.specs.Keyed.{lawful, inPlace};
 ghost use Rattle.aes.specs.Words.{bytes, blockBytes};
 
 // A column after InvShiftRows and InvSubBytes.
@@ -75,4 +80,25 @@ pub fn inv_cipher(t: &[u32; 256], sbox: &[u8; 256], w: &[u32; 60], rounds: usize
         i -= 1;
     }
     sub_round(sbox, s, round_key(w, 0))
+}
+
+// Decrypts a block in place, as encrypt_block encrypts it.
+pub fn decrypt_block(key: &[u8], block: &mut [u8]) -> bool
+    ensures { λ r. ⌜ r ≡ lawful (now (key .entry)) (now (block .entry)) ⌝ }
+    ensures { λ r. ⌜ now (block .exit) ≡ inPlace invAes (now (key .entry)) (now (block .entry)) ⌝ }
+{
+    let nk = key_words(key.len());
+    if nk == 0 {
+        return false;
+    }
+    if block.len() != 16 {
+        return false;
+    }
+    let key_sbox = aes_tables::sbox();
+    let w = expand(&key_sbox, key, nk);
+    let sbox = aes_tables::inv_sbox();
+    let t = aes_tables::inv_mix_table();
+    let x = inv_cipher(&t, &sbox, &w, nk + 6, read_block(block, 0));
+    write_block(block, 0, x);
+    true
 }

@@ -1,6 +1,9 @@
 // The cipher, FIPS 197 section 5.1.
 use super::Block;
 use super::add;
+use super::key::expand;
+use super::key::key_words;
+use super::read_block;
 use super::round_key;
 use super::word::byte0;
 use super::word::byte1;
@@ -8,6 +11,7 @@ use super::word::byte2;
 use super::word::byte3;
 use super::word::mixed;
 use super::word::substituted;
+use super::write_block;
 ghost use mathlib.Core.Path.{_≡_};
 ghost use mathlib.Core.List.{map, _∷_, []};
 ghost use Prim.Native.Nat.{_/_, _%_, _<_};
@@ -15,6 +19,8 @@ ghost use Rattle.octets.specs.Buffers.{_⊞_};
 ghost use Rattle.aes_tables.specs.SBox.{sBox};
 ghost use Rattle.aes_tables.specs.Tables.{IsTable, mixEntry};
 ghost use Rattle.aes.specs.Cipher.{subBytes, shiftRows, mixColumns, mixColumn, cipher as cipherOf};
+ghost use Rattle.aes.specs.KeyExpansion.{aes};
+ghost use Rattle.aes.specs.Keyed.{lawful, inPlace};
 ghost use Rattle.aes.specs.Words.{bytes, blockBytes};
 
 // A column after SubBytes, ShiftRows and MixColumns.
@@ -78,4 +84,25 @@ pub fn cipher(t: &[u32; 256], sbox: &[u8; 256], w: &[u32; 60], rounds: usize, x:
         i += 1;
     }
     final_round(sbox, s, round_key(w, rounds))
+}
+
+// Encrypts a block in place under a key of 16, 24 or 32 bytes. Any other length of either is refused: false, and the block
+// stays.
+pub fn encrypt_block(key: &[u8], block: &mut [u8]) -> bool
+    ensures { λ r. ⌜ r ≡ lawful (now (key .entry)) (now (block .entry)) ⌝ }
+    ensures { λ r. ⌜ now (block .exit) ≡ inPlace aes (now (key .entry)) (now (block .entry)) ⌝ }
+{
+    let nk = key_words(key.len());
+    if nk == 0 {
+        return false;
+    }
+    if block.len() != 16 {
+        return false;
+    }
+    let sbox = aes_tables::sbox();
+    let t = aes_tables::mix_table();
+    let w = expand(&sbox, key, nk);
+    let x = cipher(&t, &sbox, &w, nk + 6, read_block(block, 0));
+    write_block(block, 0, x);
+    true
 }

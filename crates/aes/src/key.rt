@@ -3,15 +3,28 @@ use super::encrypt::last_column;
 use super::word::pack;
 use super::word::rotate3;
 ghost use mathlib.Core.Path.{_≡_};
-ghost use mathlib.Core.List.{map, _∷_, []};
+ghost use mathlib.Core.List.{map};
 ghost use Prim.Native.Nat.{_+_, _*_, _<_, _≤_};
-ghost use lib.ListN.{length, take, getD};
+ghost use lib.ListN.{length, take};
 ghost use Rattle.aes_tables.specs.SBox.{sBox};
 ghost use Rattle.aes_tables.specs.Tables.{IsTable};
 ghost use Rattle.aes.specs.KeyExpansion.{subWord, rotWord, rcon as rconOf, temp as tempOf, keyExpansion};
+ghost use Rattle.aes.specs.Keyed.{nkOf};
 ghost use Rattle.aes.specs.Words.{bytes};
 
 const RCON: [u8; 10] = [1, 2, 4, 8, 16, 32, 64, 128, 27, 54];
+
+// Nk for a key of so many bytes; 0 where AES has no such key.
+pub fn key_words(len: usize) -> usize
+    ensures { λ r. ⌜ r ≡ nkOf len ⌝ }
+{
+    match len {
+        16 => 4,
+        24 => 6,
+        32 => 8,
+        _ => 0,
+    }
+}
 
 // SUBWORD.
 fn sub_word(sbox: &[u8; 256], w: u32) -> u32
@@ -55,13 +68,6 @@ fn temp(sbox: &[u8; 256], nk: usize, i: usize, t: u32) -> u32
     t
 }
 
-fn key_word(key: &[u8], at: usize) -> u32
-    requires { ⌜ at + 4 ≤ length (now key) ⌝ }
-    ensures { λ r. ⌜ bytes r ≡ getD (now (key .entry)) at 0 ∷ getD (now (key .entry)) (at + 1) 0 ∷ getD (now (key .entry)) (at + 2) 0 ∷ getD (now (key .entry)) (at + 3) 0 ∷ [] ⌝ }
-{
-    pack(key[at], key[at + 1], key[at + 2], key[at + 3])
-}
-
 // KEYEXPANSION for a key of nk words: 4 * nk + 28 words, and zeros behind them.
 pub fn expand(sbox: &[u8; 256], key: &[u8], nk: usize) -> [u32; 60]
     requires { ⌜ IsTable sBox (now sbox) ⌝ }
@@ -73,7 +79,7 @@ pub fn expand(sbox: &[u8; 256], key: &[u8], nk: usize) -> [u32; 60]
     let mut w = [0u32; 60];
     let mut i = 0;
     while i < nk {
-        w[i] = key_word(key, 4 * i);
+        w[i] = octets::read_u32_le(key, 4 * i);
         i += 1;
     }
     let mut n = 0;

@@ -3,8 +3,9 @@
 // text bytes, so the time may depend on them where the processor's cache does.
 ghost use mathlib.Core.Path.{_≡_};
 ghost use mathlib.Core.List.{map};
-ghost use Prim.Native.Nat.{_<_};
-ghost use Rattle.octets.specs.Buffers.{_⊞_};
+ghost use Prim.Native.Nat.{_+_, _<_, _≤_};
+ghost use lib.ListN.{length, take, drop};
+ghost use Rattle.octets.specs.Buffers.{_⊞_, put};
 ghost use Rattle.aes.specs.Cipher.{roundKey};
 ghost use Rattle.aes.specs.Words.{bytes, blockBytes};
 
@@ -21,8 +22,32 @@ pub struct Block {
     pub d: u32,
 }
 
-// The sum of a state and a round key.
-fn add(s: Block, k: Block) -> Block
+// The 16 bytes at a place.
+pub fn read_block(s: &[u8], at: usize) -> Block
+    requires { ⌜ at + 16 ≤ length (now s) ⌝ }
+    ensures { λ r. ⌜ blockBytes r ≡ take 16 (drop at (now (s .entry))) ⌝ }
+{
+    Block {
+        a: octets::read_u32_le(s, at),
+        b: octets::read_u32_le(s, at + 4),
+        c: octets::read_u32_le(s, at + 8),
+        d: octets::read_u32_le(s, at + 12),
+    }
+}
+
+// The 16 bytes of a block, to a place.
+pub fn write_block(out: &mut [u8], at: usize, x: Block)
+    requires { ⌜ at + 16 ≤ length (now out) ⌝ }
+    ensures { λ _. ⌜ now (out .exit) ≡ put (now (out .entry)) at (blockBytes x) ⌝ }
+{
+    octets::write_u32_le(out, at, x.a);
+    octets::write_u32_le(out, at + 4, x.b);
+    octets::write_u32_le(out, at + 8, x.c);
+    octets::write_u32_le(out, at + 12, x.d);
+}
+
+// The sum of two blocks.
+pub fn add(s: Block, k: Block) -> Block
     ensures { λ r. ⌜ blockBytes r ≡ blockBytes s ⊞ blockBytes k ⌝ }
 {
     Block {

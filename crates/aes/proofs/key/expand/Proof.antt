@@ -1,36 +1,37 @@
-use mathlib.Core.Path.{_≡_, refl}
+use mathlib.Core.Path.{_≡_, refl, ap, _∙_}
 use mathlib.Core.List.{map}
 use Prim.Native.Nat.{_+_, _-_, _*_, _≤_}
 use native.Mathlib.Omega.{arith}
 use borrow.Author.Needs.{needs}
 use lib.ListN.{length, take, length-set}
+use Rattle.octets.proofs.BufferLaws.{octets-fit}
 use Rattle.aes.specs.KeyExpansion.{keyWords, expanded}
 use Rattle.aes.specs.Words.{bytes}
-use Rattle.aes.proofs.KeyLaws.{key-law, next-law, start-law, end-law}
+use Rattle.aes.proofs.KeyLaws.{key-bytes, key-law, next-law, start-law, end-law}
 use Rattle.aes.proofs.key.expand.Statement.{statement}
 use Rattle.aes.proofs.key.expand.Tie as tie
 
 abbrev Inv-loop : tie.InvT-loop
-Inv-loop bx key nk w₀ i₀ w i = (i ≤ nk) × (length w ≡ 60) × (map bytes (take i w) ≡ keyWords key i)
+Inv-loop sbox key nk w₀ i₀ w i = (i ≤ nk) × (length w ≡ 60) × (map bytes (take i w) ≡ keyWords key i)
 
 abbrev μ-loop : tie.MeasureT-loop
-μ-loop bx key nk w₀ i₀ w i = nk - i
+μ-loop sbox key nk w₀ i₀ w i = nk - i
 
 abbrev Inv-loop2 : tie.InvT-loop2
-Inv-loop2 bx key nk w₀ i n₀ w n = (n ≤ 3 * nk + 28) × (length w ≡ 60) × (map bytes (take (nk + n) w) ≡ expanded nk key n)
+Inv-loop2 sbox key nk w₀ i n₀ w n = (n ≤ 3 * nk + 28) × (length w ≡ 60) × (map bytes (take (nk + n) w) ≡ expanded nk key n)
 
 abbrev μ-loop2 : tie.MeasureT-loop2
-μ-loop2 bx key nk w₀ i n₀ w n = 3 * nk + 28 - n
+μ-loop2 sbox key nk w₀ i n₀ w n = 3 * nk + 28 - n
 
 loop-holds : tie.Need-loop-holds Inv-loop μ-loop Inv-loop2 μ-loop2
 unfolding keyWords
 loop-holds c = (search needs, refl, refl)
 
-mul-key-word : tie.Need-mul-key-word Inv-loop μ-loop Inv-loop2 μ-loop2
-mul-key-word c = search needs
+mul-read-u32-le : tie.Need-mul-read-u32-le Inv-loop μ-loop Inv-loop2 μ-loop2
+mul-read-u32-le c = search needs
 
-key-word-requires : tie.Need-key-word-requires Inv-loop μ-loop Inv-loop2 μ-loop2
-key-word-requires c κs = search needs
+read-u32-le-requires : tie.Need-read-u32-le-requires Inv-loop μ-loop Inv-loop2 μ-loop2
+read-u32-le-requires c κs = search needs
 
 mul-w : tie.Need-mul-w Inv-loop μ-loop Inv-loop2 μ-loop2
 mul-w c = search needs
@@ -48,7 +49,7 @@ loop-again : tie.Need-loop-again Inv-loop μ-loop Inv-loop2 μ-loop2
 loop-again c = (
   search needs,
   simp length-set (omega arith),
-  key-law (c .before .before .loop .w) (c .before .before .before .before .args .key .now) (c .before .before .loop .i) (c .key-word .result) (search needs) (c .before .before .loop .inv .2) (c .key-word .ensures),
+  key-law (c .before .before .loop .w) (c .before .before .before .before .args .key .now) (c .before .before .loop .i) (c .read-u32-le .result) (search needs) (c .before .before .loop .inv .2) (ap bytes (c .read-u32-le .ensures) ∙ key-bytes (c .before .before .before .before .args .key .now) (4 * c .before .before .loop .i) (octets-fit _ (c .before .before .before .shared-slice-known .given))),
 )
 
 loop2-holds : tie.Need-loop2-holds Inv-loop μ-loop Inv-loop2 μ-loop2
@@ -119,8 +120,8 @@ expand-spec =
     Inv-loop2
     μ-loop2
     loop-holds
-    mul-key-word
-    key-word-requires
+    mul-read-u32-le
+    read-u32-le-requires
     mul-w
     array-write-w
     add-i

@@ -1,0 +1,131 @@
+-- The cipher at the words that the key expansion left is AES under the key; the lengths of keys; blocks in place.
+-- Assumes nothing.
+use mathlib.Core.Path.{_≡_, refl, sym, ap, ap₂, _∙_, subst}
+use mathlib.Core.Bool.{Bool, true, false}
+use mathlib.Core.List.{List, [], _∷_, _++_, map, append-nil}
+use Prim.Native.Nat.{ℕ, zero, suc, _+_, _-_, _*_, _≤_, _<_}
+use native.Mathlib.Omega.{arith}
+use lib.Dec.{T, eqb, ltb, eqb→eq}
+use lib.ListN.{length, getD, take, drop, drop-of-length-le}
+use lib.Seq.{getD-take, take-all}
+use borrow.Author.Tests.{eq-eqb, ne-eqb, lt-ltb, le-ltb}
+use Rattle.octets.specs.Buffers.{both, put, _⊞_}
+use Rattle.aes.specs.Cipher.{subBytes, shiftRows, mixColumns, word, roundKey, addRoundKey, rounds, cipher}
+use Rattle.aes.specs.KeyExpansion.{if, keyExpansion, aes}
+use Rattle.aes.specs.InvCipher.{invSubBytes, invShiftRows, invMixColumns, invRounds, invCipher, invAes}
+use Rattle.aes.specs.Keyed.{pick, nkOf, lawful, inPlace}
+use Rattle.aes.specs.Words.{bytes}
+use Rattle.aes.proofs.RoundLaws.{word-law}
+
+-- ---- the words behind the expanded key are not looked at
+
+module _ (l : List ℕ) (m : ℕ) where
+  word-take : (i : ℕ) → i < m → word (map bytes l) i ≡ word (map bytes (take m l)) i
+  word-take i h = word-law l i ∙ ap bytes (sym (getD-take m l i 0 h)) ∙ sym (word-law (take m l) i)
+
+  round-key-take : (r : ℕ) → 4 * r + 3 < m → roundKey (map bytes l) r ≡ roundKey (map bytes (take m l)) r
+  unfolding roundKey
+  round-key-take r h =
+      λ i. word-take (4 * r) (omega arith) i
+      ++ (word-take (4 * r + 1) (omega arith) i ++ (word-take (4 * r + 2) (omega arith) i ++ word-take (4 * r + 3) h i))
+
+-- two expanded keys with the same round keys
+module _ (v w : List (List ℕ)) (nr : ℕ) (e : (r : ℕ) → r ≤ nr → roundKey v r ≡ roundKey w r) where
+  add-same : (r : ℕ) → r ≤ nr → (s : List ℕ) → addRoundKey v r s ≡ addRoundKey w r s
+  unfolding addRoundKey
+  add-same r h s = ap (λ (k : List ℕ). s ⊞ k) (e r h)
+
+  rounds-same : (n : ℕ) → n ≤ nr → (s : List ℕ) → rounds v n s ≡ rounds w n s
+  unfolding rounds
+  rounds-same zero h s = refl
+  rounds-same (suc n) h s =
+      add-same (suc n) h (mixColumns (shiftRows (subBytes (rounds v n s))))
+      ∙ ap (λ (t : List ℕ). addRoundKey w (suc n) (mixColumns (shiftRows (subBytes t)))) (rounds-same n (omega arith) s)
+
+  cipher-same : (s : List ℕ) → cipher nr v s ≡ cipher nr w s
+  unfolding cipher
+  cipher-same s =
+      add-same nr (omega arith) (shiftRows (subBytes (rounds v (nr - 1) (addRoundKey v 0 s))))
+      ∙ ap (λ (t : List ℕ). addRoundKey w nr (shiftRows (subBytes t)))
+      (rounds-same (nr - 1) (omega arith) (addRoundKey v 0 s) ∙ ap (rounds w (nr - 1)) (add-same 0 (omega arith) s))
+
+  inv-rounds-same : (n : ℕ) → n ≤ nr → (s : List ℕ) → invRounds v n s ≡ invRounds w n s
+  unfolding invRounds
+  inv-rounds-same zero h s = refl
+  inv-rounds-same (suc n) h s =
+      inv-rounds-same n (omega arith) (invMixColumns (addRoundKey v (suc n) (invSubBytes (invShiftRows s))))
+      ∙ ap (λ (t : List ℕ). invRounds w n (invMixColumns t)) (add-same (suc n) h (invSubBytes (invShiftRows s)))
+
+  inv-cipher-same : (s : List ℕ) → invCipher nr v s ≡ invCipher nr w s
+  unfolding invCipher
+  inv-cipher-same s =
+      add-same 0 (omega arith) (invSubBytes (invShiftRows (invRounds v (nr - 1) (addRoundKey v nr s))))
+      ∙ ap (λ (t : List ℕ). addRoundKey w 0 (invSubBytes (invShiftRows t)))
+      (inv-rounds-same (nr - 1) (omega arith) (addRoundKey v nr s) ∙ ap (invRounds w (nr - 1)) (add-same nr (omega arith) s))
+
+-- ---- the cipher under a key
+
+module _ (nk : ℕ) (key l : List ℕ) (expands : map bytes (take (4 * nk + 28) l) ≡ keyExpansion nk key) where
+  keys : (r : ℕ) → r ≤ nk + 6 → roundKey (map bytes l) r ≡ roundKey (keyExpansion nk key) r
+  keys r h = round-key-take l (4 * nk + 28) r (omega arith) ∙ ap (λ (w : List (List ℕ)). roundKey w r) expands
+
+  pub cipher-aes : (s : List ℕ) → cipher (nk + 6) (map bytes l) s ≡ aes nk key s
+  unfolding aes
+  cipher-aes s = cipher-same (map bytes l) (keyExpansion nk key) (nk + 6) keys s
+
+  pub inv-cipher-aes : (s : List ℕ) → invCipher (nk + 6) (map bytes l) s ≡ invAes nk key s
+  unfolding invAes
+  inv-cipher-aes s = inv-cipher-same (map bytes l) (keyExpansion nk key) (nk + 6) keys s
+
+-- ---- the lengths of keys
+
+-- what a key's length says of Nk
+pub record KeyLength (n nk : ℕ) : Type 0 where
+  pub words : n ≡ 4 * nk
+  pub least : 4 ≤ nk
+  pub most : nk ≤ 8
+
+pub key-length : (n : ℕ) → (nkOf n ≡ 0 → ⊥) → KeyLength n (nkOf n)
+unfolding nkOf
+key-length n = go (eqb n 16) (eqb n 24) (eqb n 32) (eqb→eq n 16) (eqb→eq n 24) (eqb→eq n 32)
+  where
+    go : (a b c : Bool) → (T a → n ≡ 16) → (T b → n ≡ 24) → (T c → n ≡ 32) → (pick a 4 (pick b 6 (pick c 8 0)) ≡ 0 → ⊥)
+        → KeyLength n (pick a 4 (pick b 6 (pick c 8 0)))
+    go true b c e f g h = record { words = e tt; least = omega arith; most = omega arith }
+    go false true c e f g h = record { words = f tt; least = omega arith; most = omega arith }
+    go false false true e f g h = record { words = g tt; least = omega arith; most = omega arith }
+    go false false false e f g h = absurd (h refl)
+
+-- ---- a block in place
+
+put-all : (d s : List ℕ) → length d ≤ length s → put d 0 s ≡ s
+unfolding put
+put-all d s h =
+    let e : length d ≤ 0 + length s = omega arith in
+    ap (λ (x : List ℕ). s ++ x) (drop-of-length-le d e) ∙ append-nil s
+
+module _ (key s : List ℕ) where
+  pub no-key : nkOf (length key) ≡ 0 → lawful key s ≡ false
+  unfolding lawful
+  no-key e = ap (λ (n : ℕ). both (ltb 0 n) (eqb (length s) 16)) e
+
+  pub no-block : (nkOf (length key) ≡ 0 → ⊥) → (length s ≡ 16 → ⊥) → lawful key s ≡ false
+  unfolding lawful
+  no-block h n = let k : 0 < nkOf (length key) = omega arith in ap₂ both (lt-ltb _ _ k) (ne-eqb _ _ n)
+
+  pub both-lawful : (nkOf (length key) ≡ 0 → ⊥) → length s ≡ 16 → lawful key s ≡ true
+  unfolding lawful
+  both-lawful h n = let k : 0 < nkOf (length key) = omega arith in ap₂ both (lt-ltb _ _ k) (eq-eqb _ _ n)
+
+  module _ (f : ℕ → List ℕ → List ℕ → List ℕ) where
+    pub in-place-refused : lawful key s ≡ false → s ≡ inPlace f key s
+    unfolding inPlace
+    in-place-refused e = sym (ap (λ (b : Bool). if b (f (nkOf (length key)) key s) s) e)
+
+    -- the block x is read, and y, the same under f, is written in its place
+    pub in-place : (nk : ℕ) (o x y : List ℕ) → lawful key s ≡ true → length s ≡ 16 → nk ≡ nkOf (length key) → x ≡ take 16 s
+        → y ≡ f nk key x → length y ≡ 16 → o ≡ put s 0 y → o ≡ inPlace f key s
+    unfolding inPlace
+    in-place nk o x y e l en ex ey ly eo =
+        eo ∙ put-all s y (omega arith) ∙ ey ∙ (λ i. f (en i) key (ex i)) ∙ ap (f (nkOf (length key)) key) (take-all 16 s (omega arith))
+        ∙ sym (ap (λ (b : Bool). if b (f (nkOf (length key)) key s) s) e)

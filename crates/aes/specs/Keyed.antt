@@ -1,0 +1,24 @@
+-- AES under a key of bytes: which lengths there are, and a block encrypted or decrypted in place.
+use mathlib.Core.Bool.{Bool, true, false}
+use mathlib.Core.List.{List}
+use Prim.Native.Nat.{ℕ}
+use lib.Dec.{eqb, ltb}
+use lib.ListN.{length}
+use Rattle.octets.specs.Buffers.{both}
+use Rattle.aes.specs.KeyExpansion.{if}
+
+abbrev pub pick : Bool → ℕ → ℕ → ℕ
+pick true a b = a
+pick false a b = b
+
+-- Nk for a key of n bytes; 0 where AES has no such key
+unfoldable pub nkOf : ℕ → ℕ
+nkOf n = pick (eqb n 16) 4 (pick (eqb n 24) 6 (pick (eqb n 32) 8 0))
+
+-- a key of AES, and one block
+unfoldable pub lawful : List ℕ → List ℕ → Bool
+lawful key s = both (ltb 0 (nkOf (length key))) (eqb (length s) 16)
+
+-- the block under f, aes or its inverse, or what stood there where key or block has a wrong length
+unfoldable pub inPlace : (ℕ → List ℕ → List ℕ → List ℕ) → List ℕ → List ℕ → List ℕ
+inPlace f key s = if (lawful key s) (f (nkOf (length key)) key s) s
