@@ -96,6 +96,21 @@ key-length n = go (eqb n 16) (eqb n 24) (eqb n 32) (eqb→eq n 16) (eqb→eq n 2
     go false false true e f g h = record { words = g tt; least = omega arith; most = omega arith }
     go false false false e f g h = absurd (h refl)
 
+-- ---- whether key and string have their lengths
+
+module _ (n : ℕ) (key s : List ℕ) where
+  pub no-key : nkOf (length key) ≡ 0 → lawful n key s ≡ false
+  unfolding lawful
+  no-key e = ap (λ (k : ℕ). both (ltb 0 k) (eqb (length s) n)) e
+
+  pub no-string : (nkOf (length key) ≡ 0 → ⊥) → (length s ≡ n → ⊥) → lawful n key s ≡ false
+  unfolding lawful
+  no-string h e = let k : 0 < nkOf (length key) = omega arith in ap₂ both (lt-ltb _ _ k) (ne-eqb _ _ e)
+
+  pub both-lawful : (nkOf (length key) ≡ 0 → ⊥) → length s ≡ n → lawful n key s ≡ true
+  unfolding lawful
+  both-lawful h e = let k : 0 < nkOf (length key) = omega arith in ap₂ both (lt-ltb _ _ k) (eq-eqb _ _ e)
+
 -- ---- a block in place
 
 put-all : (d s : List ℕ) → length d ≤ length s → put d 0 s ≡ s
@@ -104,28 +119,15 @@ put-all d s h =
     let e : length d ≤ 0 + length s = omega arith in
     ap (λ (x : List ℕ). s ++ x) (drop-of-length-le d e) ∙ append-nil s
 
-module _ (key s : List ℕ) where
-  pub no-key : nkOf (length key) ≡ 0 → lawful key s ≡ false
-  unfolding lawful
-  no-key e = ap (λ (n : ℕ). both (ltb 0 n) (eqb (length s) 16)) e
+module _ (key s : List ℕ) (f : ℕ → List ℕ → List ℕ → List ℕ) where
+  pub in-place-refused : lawful 16 key s ≡ false → s ≡ inPlace f key s
+  unfolding inPlace
+  in-place-refused e = sym (ap (λ (b : Bool). if b (f (nkOf (length key)) key s) s) e)
 
-  pub no-block : (nkOf (length key) ≡ 0 → ⊥) → (length s ≡ 16 → ⊥) → lawful key s ≡ false
-  unfolding lawful
-  no-block h n = let k : 0 < nkOf (length key) = omega arith in ap₂ both (lt-ltb _ _ k) (ne-eqb _ _ n)
-
-  pub both-lawful : (nkOf (length key) ≡ 0 → ⊥) → length s ≡ 16 → lawful key s ≡ true
-  unfolding lawful
-  both-lawful h n = let k : 0 < nkOf (length key) = omega arith in ap₂ both (lt-ltb _ _ k) (eq-eqb _ _ n)
-
-  module _ (f : ℕ → List ℕ → List ℕ → List ℕ) where
-    pub in-place-refused : lawful key s ≡ false → s ≡ inPlace f key s
-    unfolding inPlace
-    in-place-refused e = sym (ap (λ (b : Bool). if b (f (nkOf (length key)) key s) s) e)
-
-    -- the block x is read, and y, the same under f, is written in its place
-    pub in-place : (nk : ℕ) (o x y : List ℕ) → lawful key s ≡ true → length s ≡ 16 → nk ≡ nkOf (length key) → x ≡ take 16 s
-        → y ≡ f nk key x → length y ≡ 16 → o ≡ put s 0 y → o ≡ inPlace f key s
-    unfolding inPlace
-    in-place nk o x y e l en ex ey ly eo =
-        eo ∙ put-all s y (omega arith) ∙ ey ∙ (λ i. f (en i) key (ex i)) ∙ ap (f (nkOf (length key)) key) (take-all 16 s (omega arith))
-        ∙ sym (ap (λ (b : Bool). if b (f (nkOf (length key)) key s) s) e)
+  -- the block x is read, and y, the same under f, is written in its place
+  pub in-place : (nk : ℕ) (o x y : List ℕ) → lawful 16 key s ≡ true → length s ≡ 16 → nk ≡ nkOf (length key) → x ≡ take 16 s
+      → y ≡ f nk key x → length y ≡ 16 → o ≡ put s 0 y → o ≡ inPlace f key s
+  unfolding inPlace
+  in-place nk o x y e l en ex ey ly eo =
+      eo ∙ put-all s y (omega arith) ∙ ey ∙ (λ i. f (en i) key (ex i)) ∙ ap (f (nkOf (length key)) key) (take-all 16 s (omega arith))
+      ∙ sym (ap (λ (b : Bool). if b (f (nkOf (length key)) key s) s) e)

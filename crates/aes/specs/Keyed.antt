@@ -15,10 +15,10 @@ pick false a b = b
 unfoldable pub nkOf : ℕ → ℕ
 nkOf n = pick (eqb n 16) 4 (pick (eqb n 24) 6 (pick (eqb n 32) 8 0))
 
--- a key of AES, and one block
-unfoldable pub lawful : List ℕ → List ℕ → Bool
-lawful key s = both (ltb 0 (nkOf (length key))) (eqb (length s) 16)
+-- a key of AES, and a string of n bytes
+unfoldable pub lawful : ℕ → List ℕ → List ℕ → Bool
+lawful n key s = both (ltb 0 (nkOf (length key))) (eqb (length s) n)
 
 -- the block under f, aes or its inverse, or what stood there where key or block has a wrong length
 unfoldable pub inPlace : (ℕ → List ℕ → List ℕ → List ℕ) → List ℕ → List ℕ → List ℕ
-inPlace f key s = if (lawful key s) (f (nkOf (length key)) key s) s
+inPlace f key s = if (lawful 16 key s) (f (nkOf (length key)) key s) s

@@ -84,7 +84,7 @@ pub fn inv_cipher(t: &[u32; 256], sbox: &[u8; 256], w: &[u32; 60], rounds: usize
 
 // Decrypts a block in place, as encrypt_block encrypts it.
 pub fn decrypt_block(key: &[u8], block: &mut [u8]) -> bool
-    ensures { λ r. ⌜ r ≡ lawful (now (key .entry)) (now (block .entry)) ⌝ }
+    ensures { λ r. ⌜ r ≡ lawful 16 (now (key .entry)) (now (block .entry)) ⌝ }
     ensures { λ r. ⌜ now (block .exit) ≡ inPlace invAes (now (key .entry)) (now (block .entry)) ⌝ }
 {
     let nk = key_words(key.len());

@@ -89,7 +89,7 @@ pub fn cipher(t: &[u32; 256], sbox: &[u8; 256], w: &[u32; 60], rounds: usize, x:
 // Encrypts a block in place under a key of 16, 24 or 32 bytes. Any other length of either is refused: false, and the block
 // stays.
 pub fn encrypt_block(key: &[u8], block: &mut [u8]) -> bool
-    ensures { λ r. ⌜ r ≡ lawful (now (key .entry)) (now (block .entry)) ⌝ }
+    ensures { λ r. ⌜ r ≡ lawful 16 (now (key .entry)) (now (block .entry)) ⌝ }
     ensures { λ r. ⌜ now (block .exit) ≡ inPlace aes (now (key .entry)) (now (block .entry)) ⌝ }
 {
     let nk = key_words(key.len());

@@ -3,18 +3,19 @@
 use mathlib.Core.Bool.{Bool, true, false}
 use mathlib.Core.Path.{_≡_, refl, sym, ap, ap₂, _∙_, subst}
 use mathlib.Core.List.{List, [], _∷_, _++_, append-assoc}
-use Prim.Native.Nat.{ℕ, zero, suc, _+_, _-_, _≤_, _<_, zero-le}
-use native.Mathlib.Nat.{le-of-suc-le-suc, not-suc-le-zero, suc-inj}
+use Prim.Native.Nat.{ℕ, zero, suc, _+_, _-_, _≤_, _<_, min}
+use native.Mathlib.Nat.{le-of-eq, le-of-lt, le-of-suc-le-suc, not-suc-le-zero, suc-inj}
 use native.Mathlib.Numerals.{add-one}
 use native.Mathlib.Omega.{arith}
 use mir.Syntax.{w8}
 use mir.Val.{Fits}
-use lib.Bits.{bitXor, xor-lt, xor-zero-r}
+use lib.Bits.{bitXor, bitOr, xor-lt, xor-self, xor-zero-r, or-zero-l, or-add-and, and-le-l, and-le-r}
+use borrow.Author.Tests.{eq-eqb, ne-eqb, eqb-true, eqb-false}
 use lib.Dec.{T, eqb, eqb→eq, eqb-refl, lit<}
-use lib.ListN.{length, getD, take, drop, set, length-append, length-take, length-drop}
-use lib.Seq.{getD-take, getD-drop, take-at, drop-at, drop-drop, length-take-le, append-snoc, set-split}
+use lib.ListN.{length, getD, take, drop, set, replicate, length-append, length-take, length-drop}
+use lib.Seq.{getD-take, getD-drop, take-at, drop-at, drop-drop, length-take-le, append-snoc, set-split, paste-zero, take-suc, take-length, take-all, take-nil}
 use Rattle.octets.specs.Buffers.{Octets, put, _⊞_, both, same}
-use Rattle.octets.proofs.XorLaws.{xor-cancel}
+use Rattle.octets.proofs.XorLaws.{xor-cancel, xor-zero}
 
 -- ---- bytes
 
@@ -46,6 +47,10 @@ pub octets-take : (n : ℕ) (s : List ℕ) → Octets s → Octets (take n s)
 octets-take zero s p = octets-nil
 octets-take (suc n) [] p = octets-nil
 octets-take (suc n) (a ∷ s) p = octets-cons (p .octet 0) (octets-take n s (octets-tail p))
+
+-- what `&s[at..]` holds
+pub rest : (s : List ℕ) (at : ℕ) → take (length s - at) (drop at s) ≡ drop at s
+rest s at = take-all (length s - at) (drop at s) (le-of-eq (length-drop at s))
 
 -- ---- exclusive or
 
@@ -82,6 +87,31 @@ append-xor [] t [] l e = refl
 append-xor [] t (b ∷ k) l e = absurd (omega arith)
 append-xor (a ∷ s) t [] l e = absurd (omega arith)
 append-xor (a ∷ s) t (b ∷ k) l e = ap (λ (r : List ℕ). bitXor a b ∷ r) (append-xor s t k l (suc-inj e))
+
+-- byte by byte: none of k, one more byte of it, as much as there is room for
+pub xor-none : (s : List ℕ) → s ⊞ [] ≡ s
+unfolding _⊞_
+xor-none [] = refl
+xor-none (a ∷ s) = refl
+
+xor-suc : (s k : List ℕ) (i : ℕ) → i < length s → i < length k
+    → set (s ⊞ take i k) i (bitXor (getD (s ⊞ take i k) i 0) (getD k i 0)) ≡ s ⊞ take (suc i) k
+unfolding _⊞_
+xor-suc [] k i h l = absurd (not-suc-le-zero h)
+xor-suc (a ∷ s) [] i h l = absurd (not-suc-le-zero l)
+xor-suc (a ∷ s) (b ∷ k) zero h l = ap (λ (t : List ℕ). bitXor a b ∷ t) (sym (xor-none s))
+xor-suc (a ∷ s) (b ∷ k) (suc i) h l = ap (λ (t : List ℕ). bitXor a b ∷ t) (xor-suc s k i (le-of-suc-le-suc h) (le-of-suc-le-suc l))
+
+pub xor-next : (s k : List ℕ) (i : ℕ) → i < length s → i < length k
+    → set (s ⊞ take i k) i (bitXor (getD (s ⊞ take i k) i 0) (getD k i 0)) ≡ s ⊞ take (i + 1) k
+xor-next s k i h l = xor-suc s k i h l ∙ ap (λ (n : ℕ). s ⊞ take n k) (sym (add-one i))
+
+pub xor-all : (s k : List ℕ) (n : ℕ) → min (length s) (length k) ≤ n → s ⊞ take n k ≡ s ⊞ k
+unfolding _⊞_
+xor-all [] k n h = refl
+xor-all (a ∷ s) [] n h = ap (λ (t : List ℕ). (a ∷ s) ⊞ t) (take-nil n)
+xor-all (a ∷ s) (b ∷ k) zero h = absurd (omega arith)
+xor-all (a ∷ s) (b ∷ k) (suc n) h = ap (λ (t : List ℕ). bitXor a b ∷ t) (xor-all s k n (omega arith))
 
 -- ---- what is put into a buffer
 
@@ -121,6 +151,45 @@ put-one d at a h =
     ∙ append-snoc (take at d) a (drop (suc at) d)
     ∙ sym (set-split d at a h)
 
+-- a string put in byte by byte: none of it, one more byte, all of it
+pub put-none : (d : List ℕ) (at : ℕ) → d ≡ put d at []
+unfolding put
+put-none d at = paste-zero d at []
+
+module _ (d : List ℕ) (at : ℕ) (s : List ℕ) (i : ℕ) (inside : at + i < length d) (more : i < length s) where
+  part : length (take i s) ≡ i
+  part = length-take-le i s (le-of-lt more)
+
+  fits : at + length (take i s) ≤ length d
+  fits = omega (arith, part)
+
+  pub put-next : set (put d at (take i s)) (at + i) (getD s i 0) ≡ put d at (take (i + 1) s)
+  put-next =
+      sym (put-one (put d at (take i s)) (at + i) (getD s i 0) (omega (arith, length-put d at (take i s) fits)))
+      ∙ ap (λ (k : ℕ). put (put d at (take i s)) (at + k) (getD s i 0 ∷ [])) (sym part)
+      ∙ put-put d at (take i s) fits (getD s i 0 ∷ [])
+      ∙ ap (put d at) (sym (take-suc s i 0 more) ∙ ap (λ (k : ℕ). take k s) (sym (add-one i)))
+
+pub put-all : (d : List ℕ) (at : ℕ) (s : List ℕ) (n : ℕ) → n ≡ length s → put d at (take n s) ≡ put d at s
+put-all d at s n e = ap (λ (k : ℕ). put d at (take k s)) e ∙ ap (put d at) (take-length s)
+
+-- a string with zeros behind it reads as the string itself
+getD-zeros : (n i : ℕ) → getD {A = ℕ} (replicate n 0) i 0 ≡ 0
+getD-zeros zero i = refl
+getD-zeros (suc n) zero = refl
+getD-zeros (suc n) (suc i) = getD-zeros n i
+
+getD-behind : (s z : List ℕ) → ((i : ℕ) → getD z i 0 ≡ 0) → (i : ℕ) → getD (s ++ z) i 0 ≡ getD s i 0
+getD-behind [] z e i = e i
+getD-behind (a ∷ s) z e zero = refl
+getD-behind (a ∷ s) z e (suc i) = getD-behind s z e i
+
+pub getD-padded : (n : ℕ) (s : List ℕ) (i : ℕ) → getD (put (replicate n 0) 0 s) i 0 ≡ getD s i 0
+unfolding put
+getD-padded n s i =
+    let k = 0 + length s in
+    getD-behind s (drop k (replicate n 0)) (λ j. getD-drop k (replicate n 0) j 0 ∙ getD-zeros n (k + j)) i
+
 -- ---- comparison
 
 pub same-refl : (s : List ℕ) → T (same s s)
@@ -142,3 +211,41 @@ same-eq (a ∷ s) (b ∷ t) p = go (eqb a b) (eqb→eq a b) (same-eq s t) p
     go : (x : Bool) → (T x → a ≡ b) → (T (same s t) → s ≡ t) → T (both x (same s t)) → a ∷ s ≡ b ∷ t
     go true e f q = ap₂ (λ (n : ℕ) (l : List ℕ). n ∷ l) (e tt) (f q)
     go false e f q = absurd q
+
+both-true : (x : Bool) → both x true ≡ x
+both-true true = refl
+both-true false = refl
+
+both-assoc : (x y z : Bool) → both x (both y z) ≡ both (both x y) z
+both-assoc true y z = refl
+both-assoc false y z = refl
+
+-- one more byte
+same-suc : (s t : List ℕ) (i : ℕ) → i < length s → i < length t
+    → same (take (suc i) s) (take (suc i) t) ≡ both (same (take i s) (take i t)) (eqb (getD s i 0) (getD t i 0))
+unfolding same
+same-suc [] t i h l = absurd (not-suc-le-zero h)
+same-suc (a ∷ s) [] i h l = absurd (not-suc-le-zero l)
+same-suc (a ∷ s) (b ∷ t) zero h l = both-true (eqb a b)
+same-suc (a ∷ s) (b ∷ t) (suc i) h l =
+    ap (both (eqb a b)) (same-suc s t i (le-of-suc-le-suc h) (le-of-suc-le-suc l))
+    ∙ both-assoc (eqb a b) (same (take i s) (take i t)) (eqb (getD s i 0) (getD t i 0))
+
+pub same-next : (s t : List ℕ) (i : ℕ) → i < length s → i < length t
+    → same (take (i + 1) s) (take (i + 1) t) ≡ both (same (take i s) (take i t)) (eqb (getD s i 0) (getD t i 0))
+same-next s t i h l = ap (λ (n : ℕ). same (take n s) (take n t)) (add-one i) ∙ same-suc s t i h l
+
+-- the differences so far, or that of two more bytes: none if there was none and the two are equal
+pub no-difference : (d a b : ℕ) → eqb (bitOr d (bitXor a b)) 0 ≡ both (eqb d 0) (eqb a b)
+no-difference d a b = go (eqb d 0) (eqb a b) refl refl
+  where
+    go : (x y : Bool) → eqb d 0 ≡ x → eqb a b ≡ y → eqb (bitOr d (bitXor a b)) 0 ≡ both x y
+    go true true p q =
+        eq-eqb (bitOr d (bitXor a b)) 0
+        (ap₂ (λ (m n : ℕ). bitOr m (bitXor n b)) (eqb-true d 0 p) (eqb-true a b q) ∙ or-zero-l (bitXor b b) ∙ xor-self b)
+    go true false p q =
+        ne-eqb (bitOr d (bitXor a b)) 0
+        (λ e. eqb-false a b q (xor-zero a b (omega (arith, or-add-and d (bitXor a b), and-le-l d (bitXor a b), and-le-r d (bitXor a b)))))
+    go false y p q =
+        ne-eqb (bitOr d (bitXor a b)) 0
+        (λ e. eqb-false d 0 p (omega (arith, or-add-and d (bitXor a b), and-le-l d (bitXor a b), and-le-r d (bitXor a b))))

@@ -2,18 +2,18 @@
 -- Assumes nothing.
 use mathlib.Core.Path.{_≡_, refl, sym, ap, ap₂, _∙_, subst}
 use mathlib.Core.List.{List, [], _∷_, _++_}
-use Prim.Native.Nat.{ℕ, zero, suc, _+_, _*_, _/_, _%_, _^_, _<_, _≤_}
+use Prim.Native.Nat.{ℕ, zero, suc, _+_, _-_, _*_, _/_, _%_, _^_, _<_, _≤_}
 use native.Mathlib.Nat.{add-zero, zero-add, add-suc, suc-add, add-assoc, add-comm, mul-comm, mul-assoc, add-mul, pow-zero, pow-suc, pow-succ', mod-lt, mod-eq-of-lt, div-add-mod', mod-one, div-one, div-div-eq-div-mul, mul-add-div-right, mul-add-mod-self-right, one-le-pow, lt-suc-self, le-refl}
 use native.Mathlib.Omega.{arith}
 use lib.Bits.{bitOr, or-shifted-r}
 use lib.Arith.{digits-lt, digits-div, digits-mod, mod-mul}
 use lib.Dec.{lit<}
-use lib.ListN.{length, getD, take, drop}
+use lib.ListN.{length, getD, take, drop, replicate, drop-of-length-le}
 use lib.Pow.{pow-add, shl-exact}
 use lib.Seq.{getD-take, getD-drop, drop-drop}
 use Rattle.octets.specs.Buffers.{Octets, put}
 use Rattle.octets.specs.Numbers.{be, le, toBe, toLe}
-use Rattle.octets.proofs.BufferLaws.{octets-nil, octets-cons, octets-tail, octets-drop, put-put}
+use Rattle.octets.proofs.BufferLaws.{octets-nil, octets-cons, octets-tail, octets-drop, rest, put-put, getD-padded}
 
 pub 256-pos : (n : ℕ) → 0 < 256 ^ n
 256-pos n = one-le-pow n 256 (lit< tt)
@@ -113,6 +113,26 @@ be-take n s = be-same n (take n s) s (λ i h. getD-take n s i 0 h)
 
 pub le-take : (n : ℕ) (s : List ℕ) → le n (take n s) ≡ le n s
 le-take n s = le-same n (take n s) s (λ i h. getD-take n s i 0 h)
+
+-- nothing is left of s, and s with zeros behind it
+pub be-past : (n : ℕ) (s : List ℕ) {at : ℕ} → length s ≤ at → 0 ≡ be n (drop at s)
+be-past n s h = sym (ap (be n) (drop-of-length-le s h) ∙ be-nil n)
+
+pub le-past : (n : ℕ) (s : List ℕ) {at : ℕ} → length s ≤ at → 0 ≡ le n (drop at s)
+le-past n s h = sym (ap (le n) (drop-of-length-le s h) ∙ le-nil n)
+
+pub be-padded : (n m : ℕ) (s : List ℕ) → be n (put (replicate m 0) 0 s) ≡ be n s
+be-padded n m s = be-same n (put (replicate m 0) 0 s) s (λ i h. getD-padded m s i)
+
+pub le-padded : (n m : ℕ) (s : List ℕ) → le n (put (replicate m 0) 0 s) ≡ le n s
+le-padded n m s = le-same n (put (replicate m 0) 0 s) s (λ i h. getD-padded m s i)
+
+module _ (n m : ℕ) (s : List ℕ) (at : ℕ) {t : List ℕ} (e : t ≡ put (replicate m 0) 0 (take (length s - at) (drop at s))) where
+  pub be-rest : be n t ≡ be n (drop at s)
+  be-rest = ap (be n) (e ∙ ap (put (replicate m 0) 0) (rest s at)) ∙ be-padded n m (drop at s)
+
+  pub le-rest : le n t ≡ le n (drop at s)
+  le-rest = ap (le n) (e ∙ ap (put (replicate m 0) 0) (rest s at)) ∙ le-padded n m (drop at s)
 
 -- ---- the bytes of a number
 

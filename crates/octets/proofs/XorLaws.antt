@@ -5,7 +5,7 @@ use Prim.Native.Nat.{ℕ, zero, suc, _+_, _*_, _/_, _%_, _<_}
 use native.Mathlib.Nat.{mod-lt, zero-mul, one-mul}
 use native.Mathlib.Omega.{arith}
 use lib.Arith.{bin-ind, digits-mod}
-use lib.Bits.{bitXor, differ, xor-step, xor-shr, xor-comm, xor-self, xor-zero-r}
+use lib.Bits.{bitXor, differ, xor-step, xor-shr, xor-comm, xor-self, xor-zero-l, xor-zero-r}
 use lib.Dec.{lit<}
 
 -- ---- one digit
@@ -70,3 +70,6 @@ xor-medial a b c d =
 -- (a ⊕ k) ⊕ k = a
 pub xor-cancel : (a k : ℕ) → bitXor (bitXor a k) k ≡ a
 xor-cancel a k = xor-assoc a k k ∙ ap (bitXor a) (xor-self k) ∙ xor-zero-r a
+
+pub xor-zero : (a b : ℕ) → bitXor a b ≡ 0 → a ≡ b
+xor-zero a b e = sym (xor-cancel a b) ∙ ap (λ (n : ℕ). bitXor n b) e ∙ xor-zero-l b

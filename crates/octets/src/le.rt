@@ -1,7 +1,7 @@
 // Little-endian numbers: the first byte is the lowest.
-use super::byte_or_zero;
+use super::padded;
 ghost use mathlib.Core.Path.{_≡_};
-ghost use Prim.Native.Nat.{_+_, _^_, _≤_, _<_};
+ghost use Prim.Native.Nat.{_+_, _≤_};
 ghost use lib.ListN.{length, drop};
 ghost use Rattle.octets.specs.Numbers.{le, toLe};
 ghost use Rattle.octets.specs.Buffers.{put};
@@ -34,54 +34,40 @@ fn load_u64(s: &[u8], at: usize) -> u64
     load_u32(s, at) as u64 | (load_u32(s, at + 4) as u64) << 32
 }
 
-// The n bytes from a place on, where they may run past the end.
-fn padded(s: &[u8], at: usize, n: usize) -> u64
-    requires { ⌜ n ≤ 8 ⌝ }
-    ensures { λ r. ⌜ (r ≡ le n (drop at (now (s .entry)))) × (r < 256 ^ n) ⌝ }
+pub fn read_u16_le(s: &[u8], at: usize) -> u16
+    ensures { λ r. ⌜ r ≡ le 2 (drop at (now (s .entry))) ⌝ }
 {
     if s.len() <= at {
         return 0;
     }
-    let mut x: u64 = 0;
-    let mut i = n;
-    while 0 < i {
-        i -= 1;
-        x = byte_or_zero(s, at + i) as u64 | x << 8;
+    if 2 <= s.len() - at {
+        return load_u16(s, at);
     }
-    x
-}
-
-pub fn read_u16_le(s: &[u8], at: usize) -> u16
-    ensures { λ r. ⌜ r ≡ le 2 (drop at (now (s .entry))) ⌝ }
-{
-    if at <= s.len() {
-        if 2 <= s.len() - at {
-            return load_u16(s, at);
-        }
-    }
-    padded(s, at, 2) as u16
+    load_u16(&padded(&s[at..]), 0)
 }
 
 pub fn read_u32_le(s: &[u8], at: usize) -> u32
     ensures { λ r. ⌜ r ≡ le 4 (drop at (now (s .entry))) ⌝ }
 {
-    if at <= s.len() {
-        if 4 <= s.len() - at {
-            return load_u32(s, at);
-        }
+    if s.len() <= at {
+        return 0;
     }
-    padded(s, at, 4) as u32
+    if 4 <= s.len() - at {
+        return load_u32(s, at);
+    }
+    load_u32(&padded(&s[at..]), 0)
 }
 
 pub fn read_u64_le(s: &[u8], at: usize) -> u64
     ensures { λ r. ⌜ r ≡ le 8 (drop at (now (s .entry))) ⌝ }
 {
-    if at <= s.len() {
-        if 8 <= s.len() - at {
-            return load_u64(s, at);
-        }
+    if s.len() <= at {
+        return 0;
     }
-    padded(s, at, 8)
+    if 8 <= s.len() - at {
+        return load_u64(s, at);
+    }
+    load_u64(&padded(&s[at..]), 0)
 }
 
 fn store_u8(out: &mut [u8], at: usize, x: u8)

@@ -6,7 +6,7 @@ use lib.ListN.{length}
 use Rattle.aes.specs.InvCipher.{invAes}
 use Rattle.aes.specs.Keyed.{nkOf}
 use Rattle.aes.specs.Words.{blockBytes}
-use Rattle.aes.proofs.KeyedLaws.{KeyLength, key-length, no-key, no-block, both-lawful, in-place-refused, in-place, inv-cipher-aes}
+use Rattle.aes.proofs.KeyedLaws.{KeyLength, key-length, no-key, no-string, both-lawful, in-place-refused, in-place, inv-cipher-aes}
 use Rattle.aes.proofs.decrypt.decrypt_block.Statement.{statement}
 use Rattle.aes.proofs.decrypt.decrypt_block.Tie as tie
 
@@ -22,13 +22,13 @@ lengths c =
 returns : tie.Need-returns
 returns c =
     let a = c .before .before .before .before .args in
-    let no = no-key (a .key .now) (a .block .now) (sym (c .before .key-words .ensures) ∙ c .if1 .taken) in
+    let no = no-key 16 (a .key .now) (a .block .now) (sym (c .before .key-words .ensures) ∙ c .if1 .taken) in
     (sym no, in-place-refused (a .key .now) (a .block .now) invAes no)
 
 returns-2 : tie.Need-returns-2
 returns-2 c =
     let a = c .before .before .before .before .before .args in
-    let no = no-block (a .key .now) (a .block .now) (has-key (c .before)) (c .if2 .taken) in
+    let no = no-string 16 (a .key .now) (a .block .now) (has-key (c .before)) (c .if2 .taken) in
     (sym no, in-place-refused (a .key .now) (a .block .now) invAes no)
 
 expand-requires : tie.Need-expand-requires
@@ -56,7 +56,7 @@ returns-3 c =
     let key = a .key .now in
     let s = a .block .now in
     let nk = k .before .key-words .result in
-    let yes = both-lawful key s (has-key k) (e .before .before .before .if2 .left) in (
+    let yes = both-lawful 16 key s (has-key k) (e .before .before .before .if2 .left) in (
       sym yes,
       in-place key s invAes nk _ _ _ yes (e .before .before .before .if2 .left) (k .before .key-words .ensures) (r .read-block .ensures)
           (x .inv-cipher .ensures ∙ inv-cipher-aes nk key (e .expand .result) (e .expand .ensures) _) refl (c .before .before .write-block .ensures),

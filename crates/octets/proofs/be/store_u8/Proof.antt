@@ -13,7 +13,7 @@ use Rattle.octets.proofs.be.store_u8.Tie as tie
 returns : tie.Need-returns
 returns c =
     let a = c .args in
-    sym (ap (put (a .out .now) (a .at)) (toBe-one (a .x) (search needs)) ∙ put-one (a .out .now) (a .at) (a .x) (search needs))
+    sym (ap (put (a .out .now) (a .at)) (toBe-one (a .x) (c .fits .x .fits)) ∙ put-one (a .out .now) (a .at) (a .x) (search needs))
 
 pub store-u8-spec : {M : Type 1} → statement M
 store-u8-spec =

@@ -1,0 +1,113 @@
+-- GCTR block by block, in place, and AES in counter mode.
+-- Assumes nothing.
+use mathlib.Core.Path.{_≡_, refl, sym, ap, ap₂, _∙_, subst}
+use mathlib.Core.Bool.{Bool, true, false}
+use mathlib.Core.List.{List, [], _++_, map, append-assoc}
+use Prim.Native.Nat.{ℕ, zero, suc, _+_, _-_, _*_, _/_, _%_, _^_, _≤_, _<_, min}
+use native.Mathlib.Omega.{arith}
+use native.Mathlib.Decide.{decLe}
+use lib.ListN.{length, take, drop, length-append, length-take, length-drop, drop-of-length-le}
+use lib.Seq.{take-all, drop-drop}
+use Rattle.octets.specs.Buffers.{put, _⊞_}
+use Rattle.octets.proofs.BufferLaws.{length-xor, length-put, take-put, drop-put}
+use Rattle.octets.specs.Numbers.{toBe}
+use Rattle.aes.specs.Cipher.{cipher}
+use Rattle.aes.specs.KeyExpansion.{if, keyExpansion}
+use Rattle.aes.specs.Keyed.{nkOf, lawful}
+use Rattle.aes.specs.Words.{bytes}
+use Rattle.aes.proofs.KeyedLaws.{cipher-aes}
+use Rattle.ctr.specs.Gctr.{inc32, blockCount, gctrBlocks, gctr, aesBlock, counterBlock, aesCtr}
+
+-- what stands in a lent part is put back
+pub part-put : (d ys : List ℕ) (at k : ℕ) → length ys ≡ k → take at d ++ (ys ++ drop k (drop at d)) ≡ put d at ys
+unfolding put
+part-put d ys at k e =
+    sym (append-assoc (take at d) ys (drop k (drop at d)))
+    ∙ ap (λ (r : List ℕ). take at d ++ ys ++ r) (drop-drop k at d ∙ ap (λ (n : ℕ). drop (at + n) d) (sym e))
+
+-- ---- n bytes, or those that are left, put at a place
+
+module _ (d : List ℕ) (at n : ℕ) (b : List ℕ) (within : at ≤ length d) (size : length b ≡ min n (length d - at)) where
+  pub take-put-min : take (at + n) (put d at b) ≡ take at d ++ b
+  take-put-min = pick (decLe n (length d - at))
+    where
+      fits : at + length b ≤ length d
+      fits = omega arith
+
+      pick : Dec (n ≤ length d - at) → take (at + n) (put d at b) ≡ take at d ++ b
+      pick (yes h) = let e : at + n ≡ at + length b = omega arith in ap (λ (k : ℕ). take k (put d at b)) e ∙ take-put d at b fits
+      pick (no f) =
+          let e : length (put d at b) ≤ at + length b = omega (arith, length-put d at b fits) in
+          let l : length (put d at b) ≤ at + n = omega (arith, length-put d at b fits) in
+          take-all (at + n) (put d at b) l ∙ sym (take-all (at + length b) (put d at b) e) ∙ take-put d at b fits
+
+  pub drop-put-min : drop (at + n) (put d at b) ≡ drop (at + n) d
+  drop-put-min = pick (decLe n (length d - at))
+    where
+      fits : at + length b ≤ length d
+      fits = omega arith
+
+      pick : Dec (n ≤ length d - at) → drop (at + n) (put d at b) ≡ drop (at + n) d
+      pick (yes h) =
+          let e : at + n ≡ at + length b = omega arith in
+          ap (λ (k : ℕ). drop k (put d at b)) e ∙ drop-put d at b fits ∙ ap (λ (k : ℕ). drop k d) (sym e)
+      pick (no f) =
+          let l : length (put d at b) ≤ at + n = omega (arith, length-put d at b fits) in
+          let m : length d ≤ at + n = omega arith in
+          drop-of-length-le (put d at b) l ∙ sym (drop-of-length-le d m)
+
+-- ---- one block more
+
+-- the text o, of which the first `at` bytes are done, before and after the block at `at`
+module _ (ciph : ℕ → List ℕ) (s o : List ℕ) (at cb : ℕ) (within : at ≤ length o) (rest : drop at o ≡ drop at s) where
+  block : List ℕ
+  block = take 16 (drop at o) ⊞ ciph cb
+
+  length-block : length block ≡ min 16 (length o - at)
+  unfolding block
+  length-block = length-xor (take 16 (drop at o)) (ciph cb) ∙ length-take 16 (drop at o) ∙ ap (min 16) (length-drop at o)
+
+  pub next-length : length (put o at (take 16 (drop at o) ⊞ ciph cb)) ≡ length o
+  unfolding block
+  next-length = length-put o at block (omega (arith, length-block))
+
+  pub next-rest : drop (at + 16) (put o at (take 16 (drop at o) ⊞ ciph cb)) ≡ drop (at + 16) s
+  unfolding block
+  next-rest = drop-put-min o at 16 block within length-block ∙ sym (drop-drop 16 at o) ∙ ap (drop 16) rest ∙ drop-drop 16 at s
+
+  pub next-done : (m : ℕ) (e : List ℕ) → take at o ++ gctrBlocks ciph (suc m) cb (drop at s) ≡ e
+      → take (at + 16) (put o at (take 16 (drop at o) ⊞ ciph cb)) ++ gctrBlocks ciph m (inc32 cb) (drop (at + 16) s) ≡ e
+  unfolding block gctrBlocks
+  next-done m e h =
+      ap₂ (λ (x y : List ℕ). x ++ gctrBlocks ciph m (inc32 cb) y) (take-put-min o at 16 block within length-block) (sym (drop-drop 16 at s))
+      ∙ append-assoc (take at o) block (gctrBlocks ciph m (inc32 cb) (drop 16 (drop at s)))
+      ∙ ap (λ (t : List ℕ). take at o ++ ((take 16 t ⊞ ciph cb) ++ gctrBlocks ciph m (inc32 cb) (drop 16 (drop at s)))) rest
+      ∙ h
+
+-- ---- the block cipher may be replaced by an equal one
+
+gctrBlocks-same : (f g : ℕ → List ℕ) → ((x : ℕ) → f x ≡ g x) → (n cb : ℕ) (s : List ℕ) → gctrBlocks f n cb s ≡ gctrBlocks g n cb s
+unfolding gctrBlocks
+gctrBlocks-same f g e zero cb s = refl
+gctrBlocks-same f g e (suc n) cb s =
+    ap₂ (λ (k t : List ℕ). (take 16 s ⊞ k) ++ t) (e cb) (gctrBlocks-same f g e n (inc32 cb) (drop 16 s))
+
+pub gctr-same : (f g : ℕ → List ℕ) → ((x : ℕ) → f x ≡ g x) → (icb : ℕ) (s : List ℕ) → gctr f icb s ≡ gctr g icb s
+unfolding gctr
+gctr-same f g e icb s = gctrBlocks-same f g e (blockCount s) icb s
+
+-- ---- AES in counter mode
+
+module _ (key nonce : List ℕ) (c : ℕ) (s : List ℕ) where
+  pub ctr-refused : lawful 12 key nonce ≡ false → s ≡ aesCtr key nonce c s
+  unfolding aesCtr
+  ctr-refused e = sym (ap (λ (b : Bool). if b (gctr (aesBlock (nkOf (length key)) key) (counterBlock nonce c) s) s) e)
+
+  pub ctr-done : lawful 12 key nonce ≡ true → (o : List ℕ) (nk : ℕ) (w m : List ℕ) → nk ≡ nkOf (length key)
+      → map bytes (take (4 * nk + 28) w) ≡ keyExpansion nk key → m ≡ nonce
+      → o ≡ gctr (λ x. cipher (nk + 6) (map bytes w) (toBe 16 x)) (counterBlock m c) s → o ≡ aesCtr key nonce c s
+  unfolding aesCtr aesBlock
+  ctr-done e o nk w m en ew em eo =
+      eo ∙ gctr-same _ (aesBlock nk key) (λ x. cipher-aes nk key w ew (toBe 16 x)) (counterBlock m c) s
+      ∙ (λ i. gctr (aesBlock (en i) key) (counterBlock (em i) c) s)
+      ∙ sym (ap (λ (b : Bool). if b (gctr (aesBlock (nkOf (length key)) key) (counterBlock nonce c) s) s) e)

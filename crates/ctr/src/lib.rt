@@ -1,0 +1,120 @@
+// AES in counter mode: GCTR of SP 800-38D, in place. The counter block is a 12-byte nonce, as three words, and a 32-bit
+// big-endian counter that wraps.
+use aes::Block;
+ghost use mathlib.Core.Path.{_≡_};
+ghost use mathlib.Core.List.{_++_, map};
+ghost use Prim.Native.Nat.{_+_, _<_, _≤_};
+ghost use lib.ListN.{length, take, drop};
+ghost use Rattle.octets.specs.Buffers.{put, _⊞_};
+ghost use Rattle.octets.specs.Numbers.{toBe};
+ghost use Rattle.aes_tables.specs.SBox.{sBox};
+ghost use Rattle.aes_tables.specs.Tables.{IsTable, mixEntry};
+ghost use Rattle.aes.specs.Cipher.{cipher};
+ghost use Rattle.aes.specs.Keyed.{lawful};
+ghost use Rattle.aes.specs.Words.{bytes, blockBytes};
+ghost use Rattle.ctr.specs.Words.{nonceBytes};
+ghost use Rattle.ctr.specs.Gctr.{gctr as gctrOf, counterBlock, aesCtr};
+
+// The nonce as the first three words of a counter block.
+pub struct Nonce {
+    pub a: u32,
+    pub b: u32,
+    pub c: u32,
+}
+
+pub fn read_nonce(s: &[u8]) -> Nonce
+    requires { ⌜ length (now s) ≡ 12 ⌝ }
+    ensures { λ r. ⌜ nonceBytes r ≡ now (s .entry) ⌝ }
+{
+    Nonce {
+        a: octets::read_u32_le(s, 0),
+        b: octets::read_u32_le(s, 4),
+        c: octets::read_u32_le(s, 8),
+    }
+}
+
+// The counter's bytes, the highest first, as a word whose first byte is lowest.
+fn swapped(x: u32) -> u32
+    ensures { λ r. ⌜ bytes r ≡ toBe 4 x ⌝ }
+{
+    x / 0x100_0000 + x / 0x1_0000 % 256 * 256 + x / 256 % 256 * 0x1_0000 + x % 256 * 0x100_0000
+}
+
+fn counter_block(n: Nonce, counter: u32) -> Block
+    ensures { λ r. ⌜ blockBytes r ≡ bytes (n .a) ++ (bytes (n .b) ++ (bytes (n .c) ++ toBe 4 counter)) ⌝ }
+{
+    Block {
+        a: n.a,
+        b: n.b,
+        c: n.c,
+        d: swapped(counter),
+    }
+}
+
+// The last, short block.
+fn xor_tail(text: &mut [u8], at: usize, k: Block)
+    requires { ⌜ at ≤ length (now text) ⌝ }
+    ensures { λ _. ⌜ now (text .exit) ≡ put (now (text .entry)) at (drop at (now (text .entry)) ⊞ blockBytes k) ⌝ }
+{
+    let mut stream = [0u8; 16];
+    aes::write_block(&mut stream, 0, k);
+    octets::xor_into(&mut text[at..], &stream);
+}
+
+// The block at a place, which may be short, ⊕ k.
+fn xor_block(text: &mut [u8], at: usize, k: Block)
+    requires { ⌜ at ≤ length (now text) ⌝ }
+    ensures { λ _. ⌜ now (text .exit) ≡ put (now (text .entry)) at (take 16 (drop at (now (text .entry))) ⊞ blockBytes k) ⌝ }
+{
+    if 16 <= text.len() - at {
+        let x = aes::read_block(text, at);
+        aes::write_block(text, at, aes::add(x, k));
+    } else {
+        xor_tail(text, at, k);
+    }
+}
+
+// GCTR of the text, in place, at an expanded key and its number of rounds.
+pub fn gctr(
+    t: &[u32; 256],
+    sbox: &[u8; 256],
+    w: &[u32; 60],
+    rounds: usize,
+    n: Nonce,
+    counter: u32,
+    text: &mut [u8],
+)
+    requires { ⌜ IsTable mixEntry (now t) ⌝ }
+    requires { ⌜ IsTable sBox (now sbox) ⌝ }
+    requires { ⌜ 0 < rounds ⌝ }
+    requires { ⌜ rounds < 15 ⌝ }
+    ensures { λ _. ⌜ now (text .exit) ≡ gctrOf (λ x. cipher rounds (map bytes (now (w .entry))) (toBe 16 x)) (counterBlock (nonceBytes n) counter) (now (text .entry)) ⌝ }
+{
+    let blocks = (text.len() + 15) / 16;
+    let mut c = counter;
+    for i in 0..blocks {
+        let k = aes::encrypt::cipher(t, sbox, w, rounds, counter_block(n, c));
+        xor_block(text, 16 * i, k);
+        c = std::num::wrapping_add_u32(c, 1);
+    }
+}
+
+// AES in counter mode under a key of 16, 24 or 32 bytes and a nonce of 12, in place. Any other length of either is refused:
+// false, and the text stays.
+pub fn aes_ctr(key: &[u8], nonce: &[u8], counter: u32, text: &mut [u8]) -> bool
+    ensures { λ r. ⌜ r ≡ lawful 12 (now (key .entry)) (now (nonce .entry)) ⌝ }
+    ensures { λ r. ⌜ now (text .exit) ≡ aesCtr (now (key .entry)) (now (nonce .entry)) counter (now (text .entry)) ⌝ }
+{
+    let nk = aes::key::key_words(key.len());
+    if nk == 0 {
+        return false;
+    }
+    if nonce.len() != 12 {
+        return false;
+    }
+    let sbox = aes_tables::sbox();
+    let t = aes_tables::mix_table();
+    let w = aes::key::expand(&sbox, key, nk);
+    gctr(&t, &sbox, &w, nk + 6, read_nonce(nonce), counter, text);
+    true
+}
