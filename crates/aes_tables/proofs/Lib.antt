@@ -1,3 +1,4 @@
 pub mod Substitution
 pub mod Products
 pub mod Entries
+pub mod Coefficients

@@ -5,21 +5,6 @@ use borrow.Author.Needs.{needs}
 use Rattle.aes.proofs.decrypt.mix_column.Statement.{statement}
 use Rattle.aes.proofs.decrypt.mix_column.Tie as tie
 
-byte0-requires : tie.Need-byte0-requires
-byte0-requires c κs = search needs
-
-byte1-requires : tie.Need-byte1-requires
-byte1-requires c κs = search needs
-
-byte2-requires : tie.Need-byte2-requires
-byte2-requires c κs = search needs
-
-byte3-requires : tie.Need-byte3-requires
-byte3-requires c κs = search needs
-
-mixed-requires : tie.Need-mixed-requires
-mixed-requires c κs = search needs
-
 returns : tie.Need-returns
 returns c =
     c .mixed .ensures ∙ inv-mixed-law (c .before .before .before .before .before .args .t .now)
@@ -29,4 +14,4 @@ returns c =
 pub mix-column-spec : {M : Type 1} → statement M
 mix-column-spec =
     tie.close
-    (tie.spec byte0-requires byte1-requires byte2-requires byte3-requires mixed-requires returns)
+    (tie.spec (λ c κs. search needs) (λ c κs. search needs) (λ c κs. search needs) (λ c κs. search needs) (λ c κs. search needs) returns)

@@ -6,18 +6,6 @@ use borrow.Author.Needs.{needs}
 use Rattle.aes.proofs.decrypt.mix_columns.Statement.{statement}
 use Rattle.aes.proofs.decrypt.mix_columns.Tie as tie
 
-mix-column-requires : tie.Need-mix-column-requires
-mix-column-requires c κs = search needs
-
-mix-column-requires-2 : tie.Need-mix-column-requires-2
-mix-column-requires-2 c κs = search needs
-
-mix-column-requires-3 : tie.Need-mix-column-requires-3
-mix-column-requires-3 c κs = search needs
-
-mix-column-requires-4 : tie.Need-mix-column-requires-4
-mix-column-requires-4 c κs = search needs
-
 returns : tie.Need-returns
 unfolding blockBytes at byColumn invMixColumns
 returns c =
@@ -27,8 +15,8 @@ pub mix-columns-spec : {M : Type 1} → statement M
 mix-columns-spec =
     tie.close
     (tie.spec
-    mix-column-requires
-    mix-column-requires-2
-    mix-column-requires-3
-    mix-column-requires-4
+    (λ c κs. search needs)
+    (λ c κs. search needs)
+    (λ c κs. search needs)
+    (λ c κs. search needs)
     returns)

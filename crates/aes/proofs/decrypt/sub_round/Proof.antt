@@ -9,21 +9,6 @@ use borrow.Author.Needs.{needs}
 use Rattle.aes.proofs.decrypt.sub_round.Statement.{statement}
 use Rattle.aes.proofs.decrypt.sub_round.Tie as tie
 
-sub-column-requires : tie.Need-sub-column-requires
-sub-column-requires c κs = search needs
-
-sub-column-requires-2 : tie.Need-sub-column-requires-2
-sub-column-requires-2 c κs = search needs
-
-sub-column-requires-3 : tie.Need-sub-column-requires-3
-sub-column-requires-3 c κs = search needs
-
-sub-column-requires-4 : tie.Need-sub-column-requires-4
-sub-column-requires-4 c κs = search needs
-
-add-requires : tie.Need-add-requires
-add-requires c κs = search needs
-
 returns : tie.Need-returns
 unfolding blockBytes at state invSubBytes invShiftRows
 returns c =
@@ -35,9 +20,9 @@ pub sub-round-spec : {M : Type 1} → statement M
 sub-round-spec =
     tie.close
     (tie.spec
-    sub-column-requires
-    sub-column-requires-2
-    sub-column-requires-3
-    sub-column-requires-4
-    add-requires
+    (λ c κs. search needs)
+    (λ c κs. search needs)
+    (λ c κs. search needs)
+    (λ c κs. search needs)
+    (λ c κs. search needs)
     returns)

@@ -14,42 +14,12 @@ Inv-loop t bx w rounds s₀ i₀ s i = (i < rounds) × (blockBytes s ≡ roundsO
 abbrev μ-loop : tie.MeasureT-loop
 μ-loop t bx w rounds s₀ i₀ s i = rounds - i
 
-round-key-requires : tie.Need-round-key-requires Inv-loop μ-loop
-round-key-requires c κs = search needs
-
-add-requires : tie.Need-add-requires Inv-loop μ-loop
-add-requires c κs = search needs
-
 loop-holds : tie.Need-loop-holds Inv-loop μ-loop
 unfolding roundsOf
 loop-holds c = (search needs, refl)
 
-sub-loop : tie.Need-sub-loop Inv-loop μ-loop
-sub-loop c = search needs
-
-add-round-key : tie.Need-add-round-key Inv-loop μ-loop
-add-round-key c = search needs
-
-round-key-requires-2 : tie.Need-round-key-requires-2 Inv-loop μ-loop
-round-key-requires-2 c κs = search needs
-
-round-requires : tie.Need-round-requires Inv-loop μ-loop
-round-requires c κs = search needs
-
-add-i : tie.Need-add-i Inv-loop μ-loop
-add-i c = search needs
-
-loop-less : tie.Need-loop-less Inv-loop μ-loop
-loop-less c = search needs
-
 loop-again : tie.Need-loop-again Inv-loop μ-loop
 loop-again c = (search needs, round-law _ _ _ _ _ _ (c .before .before .before .loop .inv .1) (c .before .round-key2 .ensures) (c .round .ensures))
-
-round-key-requires-3 : tie.Need-round-key-requires-3 Inv-loop μ-loop
-round-key-requires-3 c κs = search needs
-
-final-round-requires : tie.Need-final-round-requires Inv-loop μ-loop
-final-round-requires c κs = search needs
 
 returns : tie.Need-returns Inv-loop μ-loop
 returns c =
@@ -62,16 +32,16 @@ cipher-spec =
     (tie.spec
     Inv-loop
     μ-loop
-    round-key-requires
-    add-requires
+    (λ c κs. search needs)
+    (λ c κs. search needs)
     loop-holds
-    sub-loop
-    add-round-key
-    round-key-requires-2
-    round-requires
-    add-i
-    loop-less
+    (λ c. search needs)
+    (λ c. search needs)
+    (λ c κs. search needs)
+    (λ c κs. search needs)
+    (λ c. search needs)
+    (λ c. search needs)
     loop-again
-    round-key-requires-3
-    final-round-requires
+    (λ c κs. search needs)
+    (λ c κs. search needs)
     returns)

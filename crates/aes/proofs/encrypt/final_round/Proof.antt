@@ -8,21 +8,6 @@ use borrow.Author.Needs.{needs}
 use Rattle.aes.proofs.encrypt.final_round.Statement.{statement}
 use Rattle.aes.proofs.encrypt.final_round.Tie as tie
 
-last-column-requires : tie.Need-last-column-requires
-last-column-requires c κs = search needs
-
-last-column-requires-2 : tie.Need-last-column-requires-2
-last-column-requires-2 c κs = search needs
-
-last-column-requires-3 : tie.Need-last-column-requires-3
-last-column-requires-3 c κs = search needs
-
-last-column-requires-4 : tie.Need-last-column-requires-4
-last-column-requires-4 c κs = search needs
-
-add-requires : tie.Need-add-requires
-add-requires c κs = search needs
-
 returns : tie.Need-returns
 unfolding blockBytes at state subBytes shiftRows
 returns c =
@@ -33,4 +18,4 @@ returns c =
 pub final-round-spec : {M : Type 1} → statement M
 final-round-spec =
     tie.close
-    (tie.spec last-column-requires last-column-requires-2 last-column-requires-3 last-column-requires-4 add-requires returns)
+    (tie.spec (λ c κs. search needs) (λ c κs. search needs) (λ c κs. search needs) (λ c κs. search needs) (λ c κs. search needs) returns)

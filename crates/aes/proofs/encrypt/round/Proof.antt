@@ -8,21 +8,6 @@ use borrow.Author.Needs.{needs}
 use Rattle.aes.proofs.encrypt.round.Statement.{statement}
 use Rattle.aes.proofs.encrypt.round.Tie as tie
 
-column-requires : tie.Need-column-requires
-column-requires c κs = search needs
-
-column-requires-2 : tie.Need-column-requires-2
-column-requires-2 c κs = search needs
-
-column-requires-3 : tie.Need-column-requires-3
-column-requires-3 c κs = search needs
-
-column-requires-4 : tie.Need-column-requires-4
-column-requires-4 c κs = search needs
-
-add-requires : tie.Need-add-requires
-add-requires c κs = search needs
-
 returns : tie.Need-returns
 unfolding blockBytes at state byColumn subBytes shiftRows mixColumns
 returns c =
@@ -34,9 +19,9 @@ pub round-spec : {M : Type 1} → statement M
 round-spec =
     tie.close
     (tie.spec
-    column-requires
-    column-requires-2
-    column-requires-3
-    column-requires-4
-    add-requires
+    (λ c κs. search needs)
+    (λ c κs. search needs)
+    (λ c κs. search needs)
+    (λ c κs. search needs)
+    (λ c κs. search needs)
     returns)

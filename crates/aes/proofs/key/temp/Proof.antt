@@ -9,18 +9,6 @@ use borrow.Author.Needs.{needs}
 use Rattle.aes.proofs.key.temp.Statement.{statement}
 use Rattle.aes.proofs.key.temp.Tie as tie
 
-rem-if1 : tie.Need-rem-if1
-rem-if1 c = search needs
-
-rot-word-requires : tie.Need-rot-word-requires
-rot-word-requires c κs = search needs
-
-sub-word-requires : tie.Need-sub-word-requires
-sub-word-requires c κs = search needs
-
-div-rcon : tie.Need-div-rcon
-div-rcon c = search needs
-
 rcon-requires : tie.Need-rcon-requires
 rcon-requires c κs = rcon-index _ _ (search needs) (search needs) (search needs)
 
@@ -29,12 +17,6 @@ returns c =
     bytes-xor _ _
     ∙ (λ j. (c .before .sub-word .ensures ∙ ap subWord (c .before .before .rot-word .ensures)) j ⊞ c .rcon .ensures j)
     ∙ sym (temp-first _ _ _ (c .before .before .before .if1 .taken))
-
-rem-if3 : tie.Need-rem-if3
-rem-if3 c = search needs
-
-sub-word-requires-2 : tie.Need-sub-word-requires-2
-sub-word-requires-2 c κs = search needs
 
 returns-2 : tie.Need-returns-2
 returns-2 c = c .sub-word2 .ensures ∙ sym (temp-fourth _ _ _ (c .before .before .before .if1 .left) (c .before .before .if2 .taken) (c .before .if3 .taken))
@@ -49,14 +31,14 @@ pub temp-spec : {M : Type 1} → statement M
 temp-spec =
     tie.close
     (tie.spec
-    rem-if1
-    rot-word-requires
-    sub-word-requires
-    div-rcon
+    (λ c. search needs)
+    (λ c κs. search needs)
+    (λ c κs. search needs)
+    (λ c. search needs)
     rcon-requires
     returns
-    rem-if3
-    sub-word-requires-2
+    (λ c. search needs)
+    (λ c κs. search needs)
     returns-2
     returns-3
     returns-4)

@@ -3,14 +3,8 @@ use borrow.Author.Needs.{needs}
 use Rattle.aes.proofs.word.rotate3.Statement.{statement}
 use Rattle.aes.proofs.word.rotate3.Tie as tie
 
-mul-result : tie.Need-mul-result
-mul-result c = search needs
-
-add-result : tie.Need-add-result
-add-result c = search needs
-
 returns : tie.Need-returns
 returns c = bytes-rotate3 (c .args .w) (search needs)
 
 pub rotate3-spec : {M : Type 1} → statement M
-rotate3-spec = tie.close (tie.spec mul-result add-result returns)
+rotate3-spec = tie.close (tie.spec (λ c. search needs) (λ c. search needs) returns)

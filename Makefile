@@ -1,0 +1,20 @@
+# Cargo builds under target/, the only folder that git ignores. `rt ci`, and so
+# `make test`, removes target/ with the static library and all of Cargo's files.
+export CARGO_TARGET_DIR := $(CURDIR)/target/host
+
+.PHONY: test vectors bench
+
+# The merge gate.
+test:
+	.ci/run
+
+# The data of the program vectors_aes and what it must print.
+vectors:
+	python3 tools/aes-vectors.py
+
+# The table of speeds. libssl-dev has the libcrypto.so that the linker asks for.
+bench:
+	rt staticlib bench
+	test -e "$$(cc -print-file-name=libcrypto.so)" || \
+		{ apt-get update && apt-get install -y --no-install-recommends libssl-dev; }
+	cargo run --release --manifest-path host/Cargo.toml -p bench

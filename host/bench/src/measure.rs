@@ -1,0 +1,98 @@
+//! Runs and times contestants in this process, and sums up samples.
+
+use std::io;
+use std::time::{Duration, Instant};
+
+use crate::rows::{Row, Work};
+
+/// A process that runs contestants, each named by its row and its place there.
+pub trait Runner {
+    /// What the contestant makes of the row's input.
+    fn output(&mut self, row: usize, contestant: usize) -> io::Result<Vec<u8>>;
+
+    /// The time of one call in nanoseconds, as one sample.
+    fn nanoseconds(&mut self, row: usize, contestant: usize) -> io::Result<f64>;
+}
+
+/// This process.
+pub struct Here<'a> {
+    rows: &'a [Row],
+    /// Shared by all contestants, as long as the longest row.
+    buffer: Vec<u8>,
+}
+
+impl<'a> Here<'a> {
+    pub fn new(rows: &'a [Row]) -> Self {
+        let longest = rows.iter().map(|row| row.size).max().unwrap_or(0);
+        Self {
+            rows,
+            buffer: vec![0; longest],
+        }
+    }
+
+    /// The contestant's work and the row's part of the buffer.
+    fn find(&mut self, row: usize, contestant: usize) -> io::Result<(&Work, &mut [u8])> {
+        let missing = || io::Error::new(io::ErrorKind::InvalidInput, "no such contestant");
+        let row = self.rows.get(row).ok_or_else(missing)?;
+        let contestant = row.contestants.get(contestant).ok_or_else(missing)?;
+        Ok((&contestant.work, &mut self.buffer[..row.size]))
+    }
+}
+
+impl Runner for Here<'_> {
+    fn output(&mut self, row: usize, contestant: usize) -> io::Result<Vec<u8>> {
+        let (work, data) = self.find(row, contestant)?;
+        for (index, byte) in data.iter_mut().enumerate() {
+            // An odd period: neighbouring blocks differ.
+            *byte = (index % 251) as u8;
+        }
+        work(data);
+        Ok(data.to_vec())
+    }
+
+    fn nanoseconds(&mut self, row: usize, contestant: usize) -> io::Result<f64> {
+        let (work, data) = self.find(row, contestant)?;
+        Ok(nanoseconds_per_call(work, data))
+    }
+}
+
+/// The shortest batch of calls that counts as a sample.
+const BATCH: Duration = Duration::from_millis(2);
+
+/// Batches double until one is long enough for the clock; the shorter ones warm
+/// the caches after another contestant or process had them.
+fn nanoseconds_per_call(work: &Work, data: &mut [u8]) -> f64 {
+    let mut calls = 1_u32;
+    loop {
+        let start = Instant::now();
+        for _ in 0..calls {
+            work(data);
+        }
+        let elapsed = start.elapsed();
+        if elapsed >= BATCH {
+            return elapsed.as_nanos() as f64 / f64::from(calls);
+        }
+        calls *= 2;
+    }
+}
+
+/// Median and quartiles.
+pub struct Summary {
+    pub lower: f64,
+    pub median: f64,
+    pub upper: f64,
+}
+
+impl Summary {
+    /// `None` without samples.
+    pub fn of(samples: &[f64]) -> Option<Self> {
+        let mut sorted = samples.to_vec();
+        sorted.sort_by(f64::total_cmp);
+        let last = sorted.len().checked_sub(1)?;
+        Some(Self {
+            lower: sorted[last / 4],
+            median: sorted[last / 2],
+            upper: sorted[last * 3 / 4],
+        })
+    }
+}
