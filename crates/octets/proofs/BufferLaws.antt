@@ -12,8 +12,8 @@ use mir.Val.{Fits}
 use lib.Bits.{bitXor, bitOr, xor-lt, xor-self, xor-zero-r, or-zero-l, or-add-and, and-le-l, and-le-r}
 use borrow.Author.Tests.{eq-eqb, ne-eqb, eqb-true, eqb-false}
 use lib.Dec.{T, eqb, eqb→eq, eqb-refl, lit<}
-use lib.ListN.{length, getD, take, drop, set, replicate, length-append, length-take, length-drop}
-use lib.Seq.{getD-take, getD-drop, take-at, drop-at, drop-drop, length-take-le, append-snoc, set-split, paste-zero, take-suc, take-length, take-all, take-nil}
+use lib.ListN.{length, getD, take, drop, set, replicate, length-append, length-drop}
+use lib.Seq.{getD-drop, take-at, drop-at, drop-drop, length-take-le, append-snoc, set-split, paste-zero, take-suc, take-length, take-all, take-nil}
 use Rattle.octets.specs.Buffers.{Octets, put, _⊞_, both, same}
 use Rattle.octets.proofs.XorLaws.{xor-cancel, xor-zero}
 

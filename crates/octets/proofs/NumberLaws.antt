@@ -3,7 +3,7 @@
 use mathlib.Core.Path.{_≡_, refl, sym, ap, ap₂, _∙_, subst}
 use mathlib.Core.List.{List, [], _∷_, _++_}
 use Prim.Native.Nat.{ℕ, zero, suc, _+_, _-_, _*_, _/_, _%_, _^_, _<_, _≤_}
-use native.Mathlib.Nat.{add-zero, zero-add, add-suc, suc-add, add-assoc, add-comm, mul-comm, mul-assoc, add-mul, pow-zero, pow-suc, pow-succ', mod-lt, mod-eq-of-lt, div-add-mod', mod-one, div-one, div-div-eq-div-mul, mul-add-div-right, mul-add-mod-self-right, one-le-pow, lt-suc-self, le-refl}
+use native.Mathlib.Nat.{add-zero, zero-add, add-suc, suc-add, add-comm, pow-zero, pow-suc, pow-succ', mod-lt, mod-eq-of-lt, div-add-mod', mod-one, div-one, div-div-eq-div-mul, mul-add-div-right, mul-add-mod-self-right, one-le-pow, lt-suc-self}
 use native.Mathlib.Omega.{arith}
 use lib.Bits.{bitOr, or-shifted-r}
 use lib.Arith.{digits-lt, digits-div, digits-mod, mod-mul}
@@ -54,15 +54,7 @@ toLe-add (suc n) m x =
     (toLe-add n m (x / 256)
     ∙ ap (λ (y : ℕ). toLe n (x / 256) ++ toLe m y) (div-div-eq-div-mul x 256 (256 ^ n) ∙ ap (λ (p : ℕ). x / p) (sym (pow-succ' 256 n))))
 
--- the first byte
-
-pub be-one : (s : List ℕ) (at : ℕ) → be 1 (drop at s) ≡ getD s at 0
-unfolding be
-be-one s at = simp (getD-drop, add-zero) (omega arith)
-
-pub le-one : (s : List ℕ) (at : ℕ) → le 1 (drop at s) ≡ getD s at 0
-unfolding le
-le-one s at = simp (getD-drop, add-zero) (omega (arith, pow-zero 256))
+-- no byte, one byte, one byte in front
 
 pub be-nil : (n : ℕ) → be n [] ≡ 0
 unfolding be
@@ -73,6 +65,14 @@ pub le-nil : (n : ℕ) → le n [] ≡ 0
 unfolding le
 le-nil zero = refl
 le-nil (suc n) = omega (arith, le-nil n)
+
+pub be-one : (s : List ℕ) (at : ℕ) → be 1 (drop at s) ≡ getD s at 0
+unfolding be
+be-one s at = simp (getD-drop, add-zero) (omega arith)
+
+pub le-one : (s : List ℕ) (at : ℕ) → le 1 (drop at s) ≡ getD s at 0
+unfolding le
+le-one s at = simp (getD-drop, add-zero) (omega (arith, pow-zero 256))
 
 pub be-cons : (n a : ℕ) (s : List ℕ) → be (suc n) (a ∷ s) ≡ a * 256 ^ n + be n s
 unfolding be
@@ -86,7 +86,7 @@ le-cons zero a s = omega (arith, pow-zero 256)
 le-cons (suc n) a s =
     ap (λ (x : ℕ). x + getD s n 0 * 256 ^ suc n) (le-cons n a s) ∙ rw pow-suc (omega arith)
 
--- ---- n bytes are below 256 ^ n, and of no others
+-- ---- bounds, and the bytes that count
 
 pub be-lt : (n : ℕ) {s : List ℕ} → Octets s → be n s < 256 ^ n
 unfolding be
@@ -114,7 +114,7 @@ be-take n s = be-same n (take n s) s (λ i h. getD-take n s i 0 h)
 pub le-take : (n : ℕ) (s : List ℕ) → le n (take n s) ≡ le n s
 le-take n s = le-same n (take n s) s (λ i h. getD-take n s i 0 h)
 
--- nothing is left of s, and s with zeros behind it
+-- past the end; with zeros behind; a copy of what is left of s, with zeros behind
 pub be-past : (n : ℕ) (s : List ℕ) {at : ℕ} → length s ≤ at → 0 ≡ be n (drop at s)
 be-past n s h = sym (ap (be n) (drop-of-length-le s h) ∙ be-nil n)
 
@@ -260,21 +260,22 @@ module _ (n m w : ℕ) (f : n + m ≤ w) (s : List ℕ) (p : Octets s) (at : ℕ
       ∙ add-comm (le m (drop n (drop at s)) * 256 ^ n) (le n (drop at s))
       ∙ sym (le-add n m (drop at s))
 
--- ---- a number written in two parts, the n bytes in front and the m behind them
+-- ---- a number written in two parts, n bytes and the m behind them
 
-module _ (n m : ℕ) (d : List ℕ) (at x : ℕ) (f : at + n ≤ length d) where
-  put-parts : (s t : List ℕ) → length s ≡ n → put (put d at s) (at + n) t ≡ put d at (s ++ t)
-  put-parts s t e =
-      ap (λ (k : ℕ). put (put d at s) (at + k) t) (sym e) ∙ put-put d at s (subst (λ (k : ℕ). at + k ≤ length d) (sym e) f) t
+module _ (n m : ℕ) (d : List ℕ) (at x : ℕ) (f : at + n ≤ length d) {v w : List ℕ} where
+  parts : (s t : List ℕ) → length s ≡ n → v ≡ put d at s → w ≡ put v (at + n) t → w ≡ put d at (s ++ t)
+  parts s t e p q =
+      q ∙ ap₂ (λ (o : List ℕ) (k : ℕ). put o (at + k) t) p (sym e)
+      ∙ put-put d at s (subst (λ (k : ℕ). at + k ≤ length d) (sym e) f) t
 
-  pub put-be : put (put d at (toBe n (x / 256 ^ m))) (at + n) (toBe m (x % 256 ^ m)) ≡ put d at (toBe (n + m) x)
-  put-be =
-      put-parts (toBe n (x / 256 ^ m)) (toBe m (x % 256 ^ m)) (length-toBe n (x / 256 ^ m))
+  pub put-be : v ≡ put d at (toBe n (x / 256 ^ m)) → w ≡ put v (at + n) (toBe m (x % 256 ^ m)) → w ≡ put d at (toBe (n + m) x)
+  put-be p q =
+      parts (toBe n (x / 256 ^ m)) (toBe m (x % 256 ^ m)) (length-toBe n (x / 256 ^ m)) p q
       ∙ ap (λ (t : List ℕ). put d at (toBe n (x / 256 ^ m) ++ t)) (toBe-mod m x)
       ∙ ap (put d at) (sym (toBe-add n m x))
 
-  pub put-le : put (put d at (toLe n (x % 256 ^ n))) (at + n) (toLe m (x / 256 ^ n)) ≡ put d at (toLe (n + m) x)
-  put-le =
-      put-parts (toLe n (x % 256 ^ n)) (toLe m (x / 256 ^ n)) (length-toLe n (x % 256 ^ n))
+  pub put-le : v ≡ put d at (toLe n (x % 256 ^ n)) → w ≡ put v (at + n) (toLe m (x / 256 ^ n)) → w ≡ put d at (toLe (n + m) x)
+  put-le p q =
+      parts (toLe n (x % 256 ^ n)) (toLe m (x / 256 ^ n)) (length-toLe n (x % 256 ^ n)) p q
       ∙ ap (λ (s : List ℕ). put d at (s ++ toLe m (x / 256 ^ n))) (toLe-mod n x)
       ∙ ap (put d at) (sym (toLe-add n m x))

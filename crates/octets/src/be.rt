@@ -6,6 +6,8 @@ ghost use lib.ListN.{length, drop};
 ghost use Rattle.octets.specs.Numbers.{be, toBe};
 ghost use Rattle.octets.specs.Buffers.{put};
 
+// ---- bytes that are there
+
 fn load_u8(s: &[u8], at: usize) -> u8
     requires { ⌜ at + 1 ≤ length (now s) ⌝ }
     ensures { λ r. ⌜ r ≡ be 1 (drop at (now (s .entry))) ⌝ }
@@ -20,7 +22,7 @@ fn load_u16(s: &[u8], at: usize) -> u16
     load_u8(s, at + 1) as u16 | (load_u8(s, at) as u16) << 8
 }
 
-// Flat, since the compiler makes one load of two such loads, and not of halves of halves.
+// Flat: the compiler makes one load of two of these, and does not where each is made of halves itself.
 fn load_u32(s: &[u8], at: usize) -> u32
     requires { ⌜ at + 4 ≤ length (now s) ⌝ }
     ensures { λ r. ⌜ r ≡ be 4 (drop at (now (s .entry))) ⌝ }
@@ -37,6 +39,8 @@ fn load_u64(s: &[u8], at: usize) -> u64
 {
     load_u32(s, at + 4) as u64 | (load_u32(s, at) as u64) << 32
 }
+
+// ---- from a string, where a byte past the end counts as 0
 
 pub fn read_u16_be(s: &[u8], at: usize) -> u16
     ensures { λ r. ⌜ r ≡ be 2 (drop at (now (s .entry))) ⌝ }
@@ -73,6 +77,8 @@ pub fn read_u64_be(s: &[u8], at: usize) -> u64
     }
     load_u64(&padded(&s[at..]), 0)
 }
+
+// ---- into a buffer
 
 fn store_u8(out: &mut [u8], at: usize, x: u8)
     requires { ⌜ at + 1 ≤ length (now out) ⌝ }

@@ -6,6 +6,8 @@ ghost use lib.ListN.{length, drop};
 ghost use Rattle.octets.specs.Numbers.{le, toLe};
 ghost use Rattle.octets.specs.Buffers.{put};
 
+// ---- bytes that are there
+
 fn load_u8(s: &[u8], at: usize) -> u8
     requires { ⌜ at + 1 ≤ length (now s) ⌝ }
     ensures { λ r. ⌜ r ≡ le 1 (drop at (now (s .entry))) ⌝ }
@@ -33,6 +35,8 @@ fn load_u64(s: &[u8], at: usize) -> u64
 {
     load_u32(s, at) as u64 | (load_u32(s, at + 4) as u64) << 32
 }
+
+// ---- from a string, where a byte past the end counts as 0
 
 pub fn read_u16_le(s: &[u8], at: usize) -> u16
     ensures { λ r. ⌜ r ≡ le 2 (drop at (now (s .entry))) ⌝ }
@@ -69,6 +73,8 @@ pub fn read_u64_le(s: &[u8], at: usize) -> u64
     }
     load_u64(&padded(&s[at..]), 0)
 }
+
+// ---- into a buffer
 
 fn store_u8(out: &mut [u8], at: usize, x: u8)
     requires { ⌜ at + 1 ≤ length (now out) ⌝ }

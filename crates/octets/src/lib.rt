@@ -67,8 +67,8 @@ fn least(a: usize, b: usize) -> usize
 pub fn xor_into(out: &mut [u8], with: &[u8])
     ensures { λ _. ⌜ now (out .exit) ≡ now (out .entry) ⊞ now (with .entry) ⌝ }
 {
-    let n = least(out.len(), with.len());
-    for i in 0..n {
+    let common = least(out.len(), with.len());
+    for i in 0..common {
         out[i] = out[i] ^ with[i];
     }
 }

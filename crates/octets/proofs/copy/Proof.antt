@@ -2,7 +2,6 @@
 use mathlib.Core.Path.{_≡_, refl, _∙_, ap}
 use mathlib.Core.List.{List}
 use Prim.Native.Nat.{ℕ, _+_, _-_, _≤_}
-use native.Mathlib.Omega.{arith}
 use borrow.Author.Needs.{needs}
 use lib.ListN.{length, getD, take, set, length-set}
 use Rattle.octets.specs.Buffers.{put}
@@ -24,7 +23,7 @@ loop-again c =
     let l = c .before .before .loop in
     let a = c .before .before .before .args in (
       search needs,
-      length-set (l .out) (a .at + l .i) (getD (a .from .now) (l .i) 0) ∙ l .inv .1,
+      simp length-set (l .inv .1),
       ap (λ (o : List ℕ). set o (a .at + l .i) (getD (a .from .now) (l .i) 0)) (l .inv .2)
           ∙ put-next (a .out .now) (a .at) (a .from .now) (l .i) (search needs) (search needs),
     )

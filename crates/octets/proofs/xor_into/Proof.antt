@@ -11,10 +11,10 @@ use Rattle.octets.proofs.xor_into.Statement.{statement}
 use Rattle.octets.proofs.xor_into.Tie as tie
 
 abbrev Inv-loop : tie.InvT-loop
-Inv-loop out₀ with n i₀ out i = (i ≤ n) × (length out ≡ length out₀) × (out ≡ out₀ ⊞ take i with)
+Inv-loop out₀ with common i₀ out i = (i ≤ common) × (length out ≡ length out₀) × (out ≡ out₀ ⊞ take i with)
 
 abbrev μ-loop : tie.MeasureT-loop
-μ-loop out₀ with n i₀ out i = n - i
+μ-loop out₀ with common i₀ out i = common - i
 
 loop-holds : tie.Need-loop-holds Inv-loop μ-loop
 loop-holds c = (search needs, refl, sym (xor-none (c .before .before .before .args .out .now)))
@@ -25,7 +25,7 @@ loop-again c =
     let a = c .before .before .before .before .before .before .before .args in
     let k = a .with .now in (
       search needs,
-      length-set (l .out) (l .i) (bitXor (getD (l .out) (l .i) 0) (getD k (l .i) 0)) ∙ l .inv .1,
+      simp length-set (l .inv .1),
       ap (λ (o : List ℕ). set o (l .i) (bitXor (getD o (l .i) 0) (getD k (l .i) 0))) (l .inv .2)
           ∙ xor-next (a .out .now) k (l .i) (search needs) (search needs),
     )

@@ -26,7 +26,7 @@ loop-again c =
     let s : List ℕ = replicate (a .n) 0 in
     let size = length-replicate {A = ℕ} (a .n) 0 in (
       search needs,
-      length-set (l .out) (a .at + l .i) 0 ∙ l .inv .1,
+      simp length-set (l .inv .1),
       ap₂ (λ (o : List ℕ) (b : ℕ). set o (a .at + l .i) b) (l .inv .2) (sym (getD-replicate (a .n) (l .i) 0 0 (search needs)))
           ∙ put-next (a .out .now) (a .at) s (l .i) (search needs) (omega (arith, size)),
     )

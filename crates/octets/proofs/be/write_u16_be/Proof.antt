@@ -5,8 +5,10 @@ use Rattle.octets.proofs.be.write_u16_be.Tie as tie
 
 returns : tie.Need-returns
 returns c =
-    let a = c .before .before .before .before .before .before .before .before .before .args in
-    cc (put-be 1 1 (a .out .now) (a .at) (a .x) (search needs))
+    let w = c .before .before in
+    let v = w .before .before .before .before in
+    let a = v .before .before .before .args in
+    put-be 1 1 (a .out .now) (a .at) (a .x) (search needs) (v .store-u8 .ensures) (w .store-u82 .ensures)
 
 pub write-u16-be-spec : {M : Type 1} → statement M
 write-u16-be-spec =

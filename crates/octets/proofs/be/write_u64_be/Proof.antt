@@ -5,8 +5,10 @@ use Rattle.octets.proofs.be.write_u64_be.Tie as tie
 
 returns : tie.Need-returns
 returns c =
-    let a = c .before .before .before .before .before .before .before .before .before .args in
-    cc (put-be 4 4 (a .out .now) (a .at) (a .x) (search needs))
+    let w = c .before .before in
+    let v = w .before .before .before .before in
+    let a = v .before .before .before .args in
+    put-be 4 4 (a .out .now) (a .at) (a .x) (search needs) (v .write-u32-be .ensures) (w .write-u32-be2 .ensures)
 
 pub write-u64-be-spec : {M : Type 1} → statement M
 write-u64-be-spec =

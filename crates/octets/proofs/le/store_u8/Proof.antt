@@ -1,10 +1,6 @@
-use mathlib.Core.Path.{_≡_, _∙_, sym, ap}
-use mathlib.Core.List.{List, _∷_, []}
-use Prim.Native.Nat.{ℕ}
-use native.Mathlib.Nat.{mod-eq-of-lt, div-one}
+use mathlib.Core.Path.{_∙_, sym, ap}
 use borrow.Author.Needs.{needs}
 use Rattle.octets.specs.Buffers.{put}
-use Rattle.octets.specs.Numbers.{toLe}
 use Rattle.octets.proofs.BufferLaws.{put-one}
 use Rattle.octets.proofs.NumberLaws.{toLe-one}
 use Rattle.octets.proofs.le.store_u8.Statement.{statement}

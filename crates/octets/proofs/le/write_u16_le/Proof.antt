@@ -5,8 +5,10 @@ use Rattle.octets.proofs.le.write_u16_le.Tie as tie
 
 returns : tie.Need-returns
 returns c =
-    let a = c .before .before .before .before .before .before .before .before .before .args in
-    cc (put-le 1 1 (a .out .now) (a .at) (a .x) (search needs))
+    let w = c .before .before in
+    let v = w .before .before .before .before in
+    let a = v .before .before .before .args in
+    put-le 1 1 (a .out .now) (a .at) (a .x) (search needs) (v .store-u8 .ensures) (w .store-u82 .ensures)
 
 pub write-u16-le-spec : {M : Type 1} → statement M
 write-u16-le-spec =

@@ -5,8 +5,10 @@ use Rattle.octets.proofs.le.write_u32_le.Tie as tie
 
 returns : tie.Need-returns
 returns c =
-    let a = c .before .before .before .before .before .before .before .before .before .args in
-    cc (put-le 2 2 (a .out .now) (a .at) (a .x) (search needs))
+    let w = c .before .before in
+    let v = w .before .before .before .before in
+    let a = v .before .before .before .args in
+    put-le 2 2 (a .out .now) (a .at) (a .x) (search needs) (v .write-u16-le .ensures) (w .write-u16-le2 .ensures)
 
 pub write-u32-le-spec : {M : Type 1} → statement M
 write-u32-le-spec =
