@@ -2,17 +2,17 @@
 -- Assumes nothing.
 use mathlib.Core.Path.{_≡_, refl, sym, ap, ap₂, _∙_, subst}
 use mathlib.Core.Bool.{Bool, true, false}
-use mathlib.Core.List.{List, [], _∷_, _++_, map, append-nil}
+use mathlib.Core.List.{List, [], _∷_, _++_, map}
 use Prim.Native.Nat.{ℕ, zero, suc, _+_, _-_, _*_, _≤_, _<_}
 use native.Mathlib.Omega.{arith}
 use lib.Dec.{T, eqb, ltb, eqb→eq}
-use lib.ListN.{length, getD, take, drop, drop-of-length-le}
+use lib.ListN.{length, getD, take}
 use lib.Seq.{getD-take, take-all}
 use borrow.Author.Tests.{eq-eqb, ne-eqb, lt-ltb, le-ltb}
 use Rattle.octets.specs.Buffers.{both, put, _⊞_}
+use Rattle.octets.proofs.BufferLaws.{put-whole}
 use Rattle.aes.specs.Cipher.{subBytes, shiftRows, mixColumns, word, roundKey, addRoundKey, rounds, cipher}
 use Rattle.aes.specs.KeyExpansion.{if, keyExpansion, aes}
-use Rattle.aes.specs.InvCipher.{invSubBytes, invShiftRows, invMixColumns, invRounds, invCipher, invAes}
 use Rattle.aes.specs.Keyed.{pick, nkOf, lawful, inPlace}
 use Rattle.aes.specs.Words.{bytes}
 use Rattle.aes.proofs.RoundLaws.{word-law}
@@ -31,7 +31,7 @@ module _ (l : List ℕ) (m : ℕ) where
 
 -- two expanded keys with the same round keys
 module _ (v w : List (List ℕ)) (nr : ℕ) (e : (r : ℕ) → r ≤ nr → roundKey v r ≡ roundKey w r) where
-  add-same : (r : ℕ) → r ≤ nr → (s : List ℕ) → addRoundKey v r s ≡ addRoundKey w r s
+  pub add-same : (r : ℕ) → r ≤ nr → (s : List ℕ) → addRoundKey v r s ≡ addRoundKey w r s
   unfolding addRoundKey
   add-same r h s = ap (λ (k : List ℕ). s ⊞ k) (e r h)
 
@@ -49,33 +49,15 @@ module _ (v w : List (List ℕ)) (nr : ℕ) (e : (r : ℕ) → r ≤ nr → roun
       ∙ ap (λ (t : List ℕ). addRoundKey w nr (shiftRows (subBytes t)))
       (rounds-same (nr - 1) (omega arith) (addRoundKey v 0 s) ∙ ap (rounds w (nr - 1)) (add-same 0 (omega arith) s))
 
-  inv-rounds-same : (n : ℕ) → n ≤ nr → (s : List ℕ) → invRounds v n s ≡ invRounds w n s
-  unfolding invRounds
-  inv-rounds-same zero h s = refl
-  inv-rounds-same (suc n) h s =
-      inv-rounds-same n (omega arith) (invMixColumns (addRoundKey v (suc n) (invSubBytes (invShiftRows s))))
-      ∙ ap (λ (t : List ℕ). invRounds w n (invMixColumns t)) (add-same (suc n) h (invSubBytes (invShiftRows s)))
-
-  inv-cipher-same : (s : List ℕ) → invCipher nr v s ≡ invCipher nr w s
-  unfolding invCipher
-  inv-cipher-same s =
-      add-same 0 (omega arith) (invSubBytes (invShiftRows (invRounds v (nr - 1) (addRoundKey v nr s))))
-      ∙ ap (λ (t : List ℕ). addRoundKey w 0 (invSubBytes (invShiftRows t)))
-      (inv-rounds-same (nr - 1) (omega arith) (addRoundKey v nr s) ∙ ap (invRounds w (nr - 1)) (add-same nr (omega arith) s))
-
 -- ---- the cipher under a key
 
 module _ (nk : ℕ) (key l : List ℕ) (expands : map bytes (take (4 * nk + 28) l) ≡ keyExpansion nk key) where
-  keys : (r : ℕ) → r ≤ nk + 6 → roundKey (map bytes l) r ≡ roundKey (keyExpansion nk key) r
-  keys r h = round-key-take l (4 * nk + 28) r (omega arith) ∙ ap (λ (w : List (List ℕ)). roundKey w r) expands
+  pub round-keys : (r : ℕ) → r ≤ nk + 6 → roundKey (map bytes l) r ≡ roundKey (keyExpansion nk key) r
+  round-keys r h = round-key-take l (4 * nk + 28) r (omega arith) ∙ ap (λ (w : List (List ℕ)). roundKey w r) expands
 
   pub cipher-aes : (s : List ℕ) → cipher (nk + 6) (map bytes l) s ≡ aes nk key s
   unfolding aes
-  cipher-aes s = cipher-same (map bytes l) (keyExpansion nk key) (nk + 6) keys s
-
-  pub inv-cipher-aes : (s : List ℕ) → invCipher (nk + 6) (map bytes l) s ≡ invAes nk key s
-  unfolding invAes
-  inv-cipher-aes s = inv-cipher-same (map bytes l) (keyExpansion nk key) (nk + 6) keys s
+  cipher-aes s = cipher-same (map bytes l) (keyExpansion nk key) (nk + 6) round-keys s
 
 -- ---- the lengths of keys
 
@@ -113,12 +95,6 @@ module _ (n : ℕ) (key s : List ℕ) where
 
 -- ---- a block in place
 
-put-all : (d s : List ℕ) → length d ≤ length s → put d 0 s ≡ s
-unfolding put
-put-all d s h =
-    let e : length d ≤ 0 + length s = omega arith in
-    ap (λ (x : List ℕ). s ++ x) (drop-of-length-le d e) ∙ append-nil s
-
 module _ (key s : List ℕ) (f : ℕ → List ℕ → List ℕ → List ℕ) where
   pub in-place-refused : lawful 16 key s ≡ false → s ≡ inPlace f key s
   unfolding inPlace
@@ -129,5 +105,5 @@ module _ (key s : List ℕ) (f : ℕ → List ℕ → List ℕ → List ℕ) whe
       → y ≡ f nk key x → length y ≡ 16 → o ≡ put s 0 y → o ≡ inPlace f key s
   unfolding inPlace
   in-place nk o x y e l en ex ey ly eo =
-      eo ∙ put-all s y (omega arith) ∙ ey ∙ (λ i. f (en i) key (ex i)) ∙ ap (f (nkOf (length key)) key) (take-all 16 s (omega arith))
+      eo ∙ put-whole s y (omega arith) ∙ ey ∙ (λ i. f (en i) key (ex i)) ∙ ap (f (nkOf (length key)) key) (take-all 16 s (omega arith))
       ∙ sym (ap (λ (b : Bool). if b (f (nkOf (length key)) key s) s) e)

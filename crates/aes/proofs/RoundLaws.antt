@@ -1,21 +1,19 @@
--- What the functions on words do to the bytes: a column, a round, the cipher and its inverse.
+-- What the functions on words do to the bytes: a column, a round, the cipher.
 -- Assumes nothing.
-use mathlib.Core.Path.{_≡_, sym, ap, _∙_, subst}
+use mathlib.Core.Path.{_≡_, sym, ap, _∙_}
 use mathlib.Core.List.{List, [], _∷_, _++_, map}
-use Prim.Native.Nat.{ℕ, suc, _+_, _-_, _*_, _<_}
+use Prim.Native.Nat.{ℕ, _+_, _-_, _*_, _<_}
 use native.Mathlib.Numerals.{add-one}
-use native.Mathlib.Omega.{arith}
 use lib.Bits.{bitXor}
 use lib.ListN.{getD, List·getD-map}
 use Rattle.octets.specs.Buffers.{_⊞_}
 use Rattle.aes_tables.specs.Field.{_•_}
 use Rattle.aes_tables.specs.SBox.{sBox}
-use Rattle.aes_tables.specs.Tables.{IsTable, mixEntry, invMixEntry}
+use Rattle.aes_tables.specs.Tables.{IsTable, mixEntry}
 use Rattle.aes_tables.proofs.Substitution.{sBox-lt}
 use Rattle.aes_tables.proofs.Products.{product-lt}
 use Rattle.aes.specs.Cipher.{mixColumn, mixColumns, shiftRows, subBytes, addRoundKey, word, roundKey, rounds, cipher}
-use Rattle.aes.specs.InvCipher.{invMixColumn, invMixColumns, invSubBytes, invShiftRows, invRounds, invCipher}
-use Rattle.aes.specs.Words.{bytes, turned}
+use Rattle.aes.specs.Words.{bytes, turned, entries, columnSum}
 use Rattle.aes.proofs.WordLaws.{bytes-column, bytes-xor}
 
 -- ---- a column
@@ -26,31 +24,17 @@ mix-bytes x h =
     let s = sBox-lt x h in
     bytes-column _ _ _ _ (product-lt 2 (sBox x) s) s s (product-lt 3 (sBox x) s)
 
-inv-mix-bytes : (x : ℕ) → x < 256 → bytes (invMixEntry x) ≡ 14 • x ∷ 9 • x ∷ 13 • x ∷ 11 • x ∷ []
-unfolding invMixEntry
-inv-mix-bytes x h = bytes-column _ _ _ _ (product-lt 14 x h) (product-lt 9 x h) (product-lt 13 x h) (product-lt 11 x h)
-
 module _ (t : List ℕ) (x y z v : ℕ) (lx : x < 256) (ly : y < 256) (lz : z < 256) (lv : v < 256) where
-  -- four entries, each turned to its row, and added
-  abbrev sum : List ℕ
-  sum = bytes (getD t x 0) ⊞ turned 1 (bytes (getD t y 0)) ⊞ turned 2 (bytes (getD t z 0)) ⊞ turned 3 (bytes (getD t v 0))
-
-  pub mixed-law : IsTable mixEntry t → sum ≡ mixColumn (sBox x) (sBox y) (sBox z) (sBox v)
-  unfolding turned mixColumn _⊞_
+  pub mixed-law : IsTable mixEntry t → columnSum t x y z v ≡ mixColumn (sBox x) (sBox y) (sBox z) (sBox v)
+  unfolding columnSum turned mixColumn _⊞_
   mixed-law p = λ i. at x lx i ⊞ turned 1 (at y ly i) ⊞ turned 2 (at z lz i) ⊞ turned 3 (at v lv i)
     where
       at : (n : ℕ) → n < 256 → bytes (getD t n 0) ≡ 2 • sBox n ∷ sBox n ∷ sBox n ∷ 3 • sBox n ∷ []
       at n l = ap bytes (p .entry n l) ∙ mix-bytes n l
 
-  pub inv-mixed-law : IsTable invMixEntry t → sum ≡ invMixColumn x y z v
-  unfolding turned invMixColumn _⊞_
-  inv-mixed-law p = λ i. at x lx i ⊞ turned 1 (at y ly i) ⊞ turned 2 (at z lz i) ⊞ turned 3 (at v lv i)
-    where
-      at : (n : ℕ) → n < 256 → bytes (getD t n 0) ≡ 14 • n ∷ 9 • n ∷ 13 • n ∷ 11 • n ∷ []
-      at n l = ap bytes (p .entry n l) ∙ inv-mix-bytes n l
-
   -- four entries of a table of bytes
-  pub substituted-law : (f : ℕ → ℕ) → IsTable f t → getD t x 0 ∷ getD t y 0 ∷ getD t z 0 ∷ getD t v 0 ∷ [] ≡ f x ∷ f y ∷ f z ∷ f v ∷ []
+  pub substituted-law : (f : ℕ → ℕ) → IsTable f t → entries t x y z v ≡ f x ∷ f y ∷ f z ∷ f v ∷ []
+  unfolding entries
   substituted-law f p = λ i. p .entry x lx i ∷ p .entry y ly i ∷ p .entry z lz i ∷ p .entry v lv i ∷ []
 
 -- ---- sums of words
@@ -95,25 +79,3 @@ unfolding cipher addRoundKey
 cipher-law w nr n x k₀ s₀ s k r e₀ es₀ en es ek er =
     er ∙ (λ i. shiftRows (subBytes (es i)) ⊞ ek i)
     ∙ (λ i. shiftRows (subBytes (rounds w (en i) ((es₀ ∙ ap (λ (l : List ℕ). x ⊞ l) e₀) i))) ⊞ roundKey w nr)
-
--- ---- the inverse cipher
-
--- one round back
-inv-step : (w : List (List ℕ)) (n : ℕ) (s k m r e : List ℕ) → invRounds w (suc n) s ≡ e → k ≡ roundKey w (suc n)
-    → m ≡ invSubBytes (invShiftRows s) ⊞ k → r ≡ invMixColumns m → invRounds w n r ≡ e
-unfolding invRounds addRoundKey
-inv-step w n s k m r e h ek em er =
-    ap (invRounds w n) (er ∙ ap invMixColumns (em ∙ ap (λ (l : List ℕ). invSubBytes (invShiftRows s) ⊞ l) ek)) ∙ h
-
-pub inv-round-law : (w : List (List ℕ)) (n : ℕ) (s k m r e : List ℕ) → 0 < n → invRounds w n s ≡ e → k ≡ roundKey w n
-    → m ≡ invSubBytes (invShiftRows s) ⊞ k → r ≡ invMixColumns m → invRounds w (n - 1) r ≡ e
-inv-round-law w n s k m r e l h ek em er =
-    let p : n ≡ suc (n - 1) = omega arith in
-    inv-step w (n - 1) s k m r e (subst (λ (i : ℕ). invRounds w i s ≡ e) p h) (subst (λ (i : ℕ). k ≡ roundKey w i) p ek) em er
-
-pub inv-cipher-law : (w : List (List ℕ)) (nr n : ℕ) (x k₀ s₀ s k r : List ℕ) → k₀ ≡ roundKey w nr → s₀ ≡ x ⊞ k₀ → n ≡ 0
-    → invRounds w n s ≡ invRounds w (nr - 1) s₀ → k ≡ roundKey w 0 → r ≡ invSubBytes (invShiftRows s) ⊞ k → r ≡ invCipher nr w x
-unfolding invCipher addRoundKey invRounds
-inv-cipher-law w nr n x k₀ s₀ s k r e₀ es₀ en es ek er =
-    er ∙ (λ i. invSubBytes (invShiftRows ((subst (λ (m : ℕ). invRounds w m s ≡ invRounds w (nr - 1) s₀) en es) i)) ⊞ ek i)
-    ∙ ap (λ (l : List ℕ). invSubBytes (invShiftRows (invRounds w (nr - 1) l)) ⊞ roundKey w 0) (es₀ ∙ ap (λ (l : List ℕ). x ⊞ l) e₀)

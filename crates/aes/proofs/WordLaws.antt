@@ -9,7 +9,7 @@ use lib.ListN.{length, getD, take, drop, length-drop}
 use lib.Seq.{getD-drop, drop-drop, take-add, length-take-le}
 use Rattle.octets.specs.Buffers.{Octets, put, _⊞_}
 use Rattle.octets.specs.Numbers.{le, toLe}
-use Rattle.octets.proofs.BufferLaws.{octets-take, octets-drop, put-put}
+use Rattle.octets.proofs.BufferLaws.{octets-nil, octets-cons, octets-take, octets-drop, put-put}
 use Rattle.octets.proofs.NumberLaws.{le-take, toLe-le}
 use Rattle.aes_tables.specs.Tables.{column}
 use Rattle.aes.specs.Words.{bytes, turned}
@@ -82,6 +82,9 @@ bytes-xor x y = λ i. xor-mod x y 8 i ∷ at 8 i ∷ at 16 i ∷ at 24 i ∷ []
     at k = ap (λ (n : ℕ). n % 256) (xor-shr x y k) ∙ xor-mod (x / 2 ^ k) (y / 2 ^ k) 8
 
 -- ---- words read and written
+
+pub octets-bytes : (w : ℕ) → Octets (bytes w)
+octets-bytes w = octets-cons (omega arith) (octets-cons (omega arith) (octets-cons (omega arith) (octets-cons (omega arith) octets-nil)))
 
 pub bytes-le : (s : List ℕ) → Octets s → bytes (le 4 s) ≡ getD s 0 0 ∷ getD s 1 0 ∷ getD s 2 0 ∷ getD s 3 0 ∷ []
 unfolding le

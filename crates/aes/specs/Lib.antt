@@ -1,5 +1,4 @@
 pub mod Cipher
 pub mod KeyExpansion
-pub mod InvCipher
 pub mod Words
 pub mod Keyed

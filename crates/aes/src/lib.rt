@@ -9,10 +9,9 @@ ghost use Rattle.octets.specs.Buffers.{_⊞_, put};
 ghost use Rattle.aes.specs.Cipher.{roundKey};
 ghost use Rattle.aes.specs.Words.{bytes, blockBytes};
 
-pub mod decrypt;
 pub mod encrypt;
 pub mod key;
-mod word;
+pub mod word;
 
 // A block or a state: its columns 0 to 3.
 pub struct Block {
@@ -59,7 +58,7 @@ pub fn add(s: Block, k: Block) -> Block
 }
 
 // The four words of round r.
-fn round_key(w: &[u32; 60], r: usize) -> Block
+pub fn round_key(w: &[u32; 60], r: usize) -> Block
     requires { ⌜ r < 15 ⌝ }
     ensures { λ k. ⌜ blockBytes k ≡ roundKey (map bytes (now (w .entry))) r ⌝ }
 {

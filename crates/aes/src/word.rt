@@ -3,8 +3,7 @@ ghost use mathlib.Core.Path.{_≡_};
 ghost use mathlib.Core.List.{_∷_, []};
 ghost use Prim.Native.Nat.{_/_, _%_};
 ghost use lib.ListN.{getD};
-ghost use Rattle.octets.specs.Buffers.{_⊞_};
-ghost use Rattle.aes.specs.Words.{bytes, turned};
+ghost use Rattle.aes.specs.Words.{bytes, turned, entries, columnSum};
 
 pub fn byte0(w: u32) -> u8
     ensures { λ r. ⌜ r ≡ w % 256 ⌝ }
@@ -69,7 +68,7 @@ fn word_entry(t: &[u32; 256], x: u8) -> u32
 
 // Four bytes, each through a table of bytes.
 pub fn substituted(t: &[u8; 256], a: u8, b: u8, c: u8, d: u8) -> u32
-    ensures { λ r. ⌜ bytes r ≡ getD (now (t .entry)) a 0 ∷ getD (now (t .entry)) b 0 ∷ getD (now (t .entry)) c 0 ∷ getD (now (t .entry)) d 0 ∷ [] ⌝ }
+    ensures { λ r. ⌜ bytes r ≡ entries (now (t .entry)) a b c d ⌝ }
 {
     pack(
         byte_entry(t, a),
@@ -81,7 +80,7 @@ pub fn substituted(t: &[u8; 256], a: u8, b: u8, c: u8, d: u8) -> u32
 
 // The sum of four columns of a table for row 0, each turned to its row.
 pub fn mixed(t: &[u32; 256], a: u8, b: u8, c: u8, d: u8) -> u32
-    ensures { λ r. ⌜ bytes r ≡ bytes (getD (now (t .entry)) a 0) ⊞ turned 1 (bytes (getD (now (t .entry)) b 0)) ⊞ turned 2 (bytes (getD (now (t .entry)) c 0)) ⊞ turned 3 (bytes (getD (now (t .entry)) d 0)) ⌝ }
+    ensures { λ r. ⌜ bytes r ≡ columnSum (now (t .entry)) a b c d ⌝ }
 {
     word_entry(t, a)
         ^ rotate1(word_entry(t, b))

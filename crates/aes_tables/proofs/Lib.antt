@@ -1,4 +1,3 @@
 pub mod Substitution
 pub mod Products
 pub mod Entries
-pub mod Coefficients

@@ -1,20 +1,19 @@
 -- The counter block: its bytes, and one up.
 -- Assumes nothing.
 use mathlib.Core.Path.{_≡_, refl, sym, ap, ap₂, _∙_}
-use mathlib.Core.List.{List, [], _∷_, _++_, append-assoc}
+use mathlib.Core.List.{List, [], _∷_, _++_}
 use Prim.Native.Nat.{ℕ, _+_, _*_, _/_, _%_, _^_, _≤_, _<_}
 use native.Mathlib.Omega.{arith}
 use lib.Arith.{digits-div, digits-mod}
-use lib.Dec.{lit<}
-use lib.ListN.{length, getD, take, drop}
+use lib.ListN.{length, take, drop}
 use lib.Seq.{take-add, take-all, drop-drop}
 use Rattle.octets.specs.Buffers.{Octets}
 use Rattle.octets.specs.Numbers.{be, toBe, le}
-use Rattle.octets.proofs.BufferLaws.{octets-nil, octets-cons, octets-append}
+use Rattle.octets.proofs.BufferLaws.{octets-append}
 use Rattle.octets.proofs.NumberLaws.{toBe-add, toBe-high, toBe-be}
 use Rattle.aes_tables.specs.Tables.{column}
 use Rattle.aes.specs.Words.{bytes}
-use Rattle.aes.proofs.WordLaws.{bytes-column, bytes-read}
+use Rattle.aes.proofs.WordLaws.{octets-bytes, bytes-column, bytes-read}
 use Rattle.ctr.specs.Gctr.{inc32, counterBlock}
 
 -- a counter's bytes, the highest first
@@ -26,9 +25,6 @@ bytes-swapped x h =
     let low : x % 256 ≡ x / 1 % 256 = omega arith in
     bytes-column _ _ _ _ (omega arith) (omega arith) (omega arith) (omega arith)
     ∙ (λ i. high i ∷ x / 0x1_0000 % 256 ∷ x / 256 % 256 ∷ low i ∷ [])
-
-octets-bytes : (w : ℕ) → Octets (bytes w)
-octets-bytes w = octets-cons (omega arith) (octets-cons (omega arith) (octets-cons (omega arith) (octets-cons (omega arith) octets-nil)))
 
 -- the bytes of a counter block: the nonce, and the counter behind it
 pub counter-bytes : (a b c x : ℕ) → x < 2 ^ 32

@@ -1,15 +1,14 @@
 -- GCTR block by block, in place, and AES in counter mode.
 -- Assumes nothing.
-use mathlib.Core.Path.{_≡_, refl, sym, ap, ap₂, _∙_, subst}
+use mathlib.Core.Path.{_≡_, refl, sym, ap, ap₂, _∙_}
 use mathlib.Core.Bool.{Bool, true, false}
 use mathlib.Core.List.{List, [], _++_, map, append-assoc}
-use Prim.Native.Nat.{ℕ, zero, suc, _+_, _-_, _*_, _/_, _%_, _^_, _≤_, _<_, min}
+use Prim.Native.Nat.{ℕ, zero, suc, _+_, _-_, _*_, _≤_, min}
 use native.Mathlib.Omega.{arith}
-use native.Mathlib.Decide.{decLe}
-use lib.ListN.{length, take, drop, length-append, length-take, length-drop, drop-of-length-le}
-use lib.Seq.{take-all, drop-drop}
+use lib.ListN.{length, take, drop, length-take, length-drop}
+use lib.Seq.{drop-drop}
 use Rattle.octets.specs.Buffers.{put, _⊞_}
-use Rattle.octets.proofs.BufferLaws.{length-xor, length-put, take-put, drop-put}
+use Rattle.octets.proofs.BufferLaws.{length-xor, length-put, take-put-min, drop-put-min}
 use Rattle.octets.specs.Numbers.{toBe}
 use Rattle.aes.specs.Cipher.{cipher}
 use Rattle.aes.specs.KeyExpansion.{if, keyExpansion}
@@ -17,44 +16,6 @@ use Rattle.aes.specs.Keyed.{nkOf, lawful}
 use Rattle.aes.specs.Words.{bytes}
 use Rattle.aes.proofs.KeyedLaws.{cipher-aes}
 use Rattle.ctr.specs.Gctr.{inc32, blockCount, gctrBlocks, gctr, aesBlock, counterBlock, aesCtr}
-
--- what stands in a lent part is put back
-pub part-put : (d ys : List ℕ) (at k : ℕ) → length ys ≡ k → take at d ++ (ys ++ drop k (drop at d)) ≡ put d at ys
-unfolding put
-part-put d ys at k e =
-    sym (append-assoc (take at d) ys (drop k (drop at d)))
-    ∙ ap (λ (r : List ℕ). take at d ++ ys ++ r) (drop-drop k at d ∙ ap (λ (n : ℕ). drop (at + n) d) (sym e))
-
--- ---- n bytes, or those that are left, put at a place
-
-module _ (d : List ℕ) (at n : ℕ) (b : List ℕ) (within : at ≤ length d) (size : length b ≡ min n (length d - at)) where
-  pub take-put-min : take (at + n) (put d at b) ≡ take at d ++ b
-  take-put-min = pick (decLe n (length d - at))
-    where
-      fits : at + length b ≤ length d
-      fits = omega arith
-
-      pick : Dec (n ≤ length d - at) → take (at + n) (put d at b) ≡ take at d ++ b
-      pick (yes h) = let e : at + n ≡ at + length b = omega arith in ap (λ (k : ℕ). take k (put d at b)) e ∙ take-put d at b fits
-      pick (no f) =
-          let e : length (put d at b) ≤ at + length b = omega (arith, length-put d at b fits) in
-          let l : length (put d at b) ≤ at + n = omega (arith, length-put d at b fits) in
-          take-all (at + n) (put d at b) l ∙ sym (take-all (at + length b) (put d at b) e) ∙ take-put d at b fits
-
-  pub drop-put-min : drop (at + n) (put d at b) ≡ drop (at + n) d
-  drop-put-min = pick (decLe n (length d - at))
-    where
-      fits : at + length b ≤ length d
-      fits = omega arith
-
-      pick : Dec (n ≤ length d - at) → drop (at + n) (put d at b) ≡ drop (at + n) d
-      pick (yes h) =
-          let e : at + n ≡ at + length b = omega arith in
-          ap (λ (k : ℕ). drop k (put d at b)) e ∙ drop-put d at b fits ∙ ap (λ (k : ℕ). drop k d) (sym e)
-      pick (no f) =
-          let l : length (put d at b) ≤ at + n = omega (arith, length-put d at b fits) in
-          let m : length d ≤ at + n = omega arith in
-          drop-of-length-le (put d at b) l ∙ sym (drop-of-length-le d m)
 
 -- ---- one block more
 

@@ -2,17 +2,18 @@
 -- Assumes nothing.
 use mathlib.Core.Bool.{Bool, true, false}
 use mathlib.Core.Path.{_≡_, refl, sym, ap, ap₂, _∙_, subst}
-use mathlib.Core.List.{List, [], _∷_, _++_, append-assoc}
+use mathlib.Core.List.{List, [], _∷_, _++_, append-assoc, append-nil}
 use Prim.Native.Nat.{ℕ, zero, suc, _+_, _-_, _≤_, _<_, min}
 use native.Mathlib.Nat.{le-of-eq, le-of-lt, le-of-suc-le-suc, not-suc-le-zero, suc-inj}
 use native.Mathlib.Numerals.{add-one}
+use native.Mathlib.Decide.{decLe}
 use native.Mathlib.Omega.{arith}
 use mir.Syntax.{w8}
 use mir.Val.{Fits}
 use lib.Bits.{bitXor, bitOr, xor-lt, xor-self, xor-zero-r, or-zero-l, or-add-and, and-le-l, and-le-r}
 use borrow.Author.Tests.{eq-eqb, ne-eqb, eqb-true, eqb-false}
 use lib.Dec.{T, eqb, eqb→eq, eqb-refl, lit<}
-use lib.ListN.{length, getD, take, drop, set, replicate, length-append, length-drop}
+use lib.ListN.{length, getD, take, drop, set, replicate, length-append, length-drop, drop-of-length-le}
 use lib.Seq.{getD-drop, take-at, drop-at, drop-drop, length-take-le, append-snoc, set-split, paste-zero, take-suc, take-length, take-all, take-nil}
 use Rattle.octets.specs.Buffers.{Octets, put, _⊞_, both, same}
 use Rattle.octets.proofs.XorLaws.{xor-cancel, xor-zero}
@@ -172,6 +173,50 @@ module _ (d : List ℕ) (at : ℕ) (s : List ℕ) (i : ℕ) (inside : at + i < l
 
 pub put-all : (d : List ℕ) (at : ℕ) (s : List ℕ) (n : ℕ) → n ≡ length s → put d at (take n s) ≡ put d at s
 put-all d at s n e = ap (λ (k : ℕ). put d at (take k s)) e ∙ ap (put d at) (take-length s)
+
+-- a string as long as the buffer takes its place
+pub put-whole : (d s : List ℕ) → length d ≤ length s → put d 0 s ≡ s
+unfolding put
+put-whole d s h =
+    let e : length d ≤ 0 + length s = omega arith in
+    ap (λ (x : List ℕ). s ++ x) (drop-of-length-le d e) ∙ append-nil s
+
+-- what stands in a lent part is put back
+pub part-put : (d ys : List ℕ) (at k : ℕ) → length ys ≡ k → take at d ++ (ys ++ drop k (drop at d)) ≡ put d at ys
+unfolding put
+part-put d ys at k e =
+    sym (append-assoc (take at d) ys (drop k (drop at d)))
+    ∙ ap (λ (r : List ℕ). take at d ++ ys ++ r) (drop-drop k at d ∙ ap (λ (n : ℕ). drop (at + n) d) (sym e))
+
+-- n bytes, or those that are left, put at a place
+module _ (d : List ℕ) (at n : ℕ) (b : List ℕ) (within : at ≤ length d) (size : length b ≡ min n (length d - at)) where
+  pub take-put-min : take (at + n) (put d at b) ≡ take at d ++ b
+  take-put-min = pick (decLe n (length d - at))
+    where
+      fits : at + length b ≤ length d
+      fits = omega arith
+
+      pick : Dec (n ≤ length d - at) → take (at + n) (put d at b) ≡ take at d ++ b
+      pick (yes h) = let e : at + n ≡ at + length b = omega arith in ap (λ (k : ℕ). take k (put d at b)) e ∙ take-put d at b fits
+      pick (no f) =
+          let e : length (put d at b) ≤ at + length b = omega (arith, length-put d at b fits) in
+          let l : length (put d at b) ≤ at + n = omega (arith, length-put d at b fits) in
+          take-all (at + n) (put d at b) l ∙ sym (take-all (at + length b) (put d at b) e) ∙ take-put d at b fits
+
+  pub drop-put-min : drop (at + n) (put d at b) ≡ drop (at + n) d
+  drop-put-min = pick (decLe n (length d - at))
+    where
+      fits : at + length b ≤ length d
+      fits = omega arith
+
+      pick : Dec (n ≤ length d - at) → drop (at + n) (put d at b) ≡ drop (at + n) d
+      pick (yes h) =
+          let e : at + n ≡ at + length b = omega arith in
+          ap (λ (k : ℕ). drop k (put d at b)) e ∙ drop-put d at b fits ∙ ap (λ (k : ℕ). drop k d) (sym e)
+      pick (no f) =
+          let l : length (put d at b) ≤ at + n = omega (arith, length-put d at b fits) in
+          let m : length d ≤ at + n = omega arith in
+          drop-of-length-le (put d at b) l ∙ sym (drop-of-length-le d m)
 
 -- a string with zeros behind it reads as the string itself
 getD-zeros : (n i : ℕ) → getD {A = ℕ} (replicate n 0) i 0 ≡ 0

@@ -64,7 +64,7 @@ fn decrypts(s: &[u8], at: usize, klen: usize, block: &mut [u8]) -> bool
 {
     let plain = at + klen;
     octets::copy(block, 0, &s[plain + 16..plain + 32]);
-    if !aes::decrypt::decrypt_block(&s[at..plain], block) {
+    if !aes_inverse::decrypt_block(&s[at..plain], block) {
         return false;
     }
     octets::equal_tags(block, &s[plain..plain + 16])

@@ -1,9 +1,9 @@
 use mathlib.Core.Path.{_∙_}
-use Rattle.aes.specs.InvCipher.{invMixColumn}
-use Rattle.aes.proofs.RoundLaws.{inv-mixed-law}
+use Rattle.aes_inverse.specs.InvCipher.{invMixColumn}
+use Rattle.aes_inverse.proofs.RoundLaws.{inv-mixed-law}
 use borrow.Author.Needs.{needs}
-use Rattle.aes.proofs.decrypt.mix_column.Statement.{statement}
-use Rattle.aes.proofs.decrypt.mix_column.Tie as tie
+use Rattle.aes_inverse.proofs.mix_column.Statement.{statement}
+use Rattle.aes_inverse.proofs.mix_column.Tie as tie
 
 returns : tie.Need-returns
 returns c =

@@ -1,13 +1,13 @@
 use mathlib.Core.Path.{ap, _∙_}
 use mathlib.Core.List.{List, _++_}
 use Prim.Native.Nat.{ℕ}
 use Rattle.aes.specs.Words.{blockBytes}
 use Rattle.octets.specs.Buffers.{_⊞_}
 use Rattle.aes.specs.Cipher.{at, state}
-use Rattle.aes.specs.InvCipher.{invSubBytes, invShiftRows}
+use Rattle.aes_inverse.specs.InvCipher.{invSubBytes, invShiftRows}
 use borrow.Author.Needs.{needs}
-use Rattle.aes.proofs.decrypt.sub_round.Statement.{statement}
-use Rattle.aes.proofs.decrypt.sub_round.Tie as tie
+use Rattle.aes_inverse.proofs.sub_round.Statement.{statement}
+use Rattle.aes_inverse.proofs.sub_round.Tie as tie
 
 returns : tie.Need-returns
 unfolding blockBytes at state invSubBytes invShiftRows

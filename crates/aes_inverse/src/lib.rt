@@ -1,26 +1,26 @@
-// The inverse cipher, FIPS 197 section 5.3.
-use super::Block;
-use super::add;
-use super::key::expand;
-use super::key::key_words;
-use super::read_block;
-use super::round_key;
-use super::word::byte0;
-use super::word::byte1;
-use super::word::byte2;
-use super::word::byte3;
-use super::word::mixed;
-use super::word::substituted;
-use super::write_block;
+// The inverse cipher of AES, FIPS 197 section 5.3. It is used for one block a datagram, so it is plain.
+use aes::Block;
+use aes::add;
+use aes::key::expand;
+use aes::key::key_words;
+use aes::read_block;
+use aes::round_key;
+use aes::word::byte0;
+use aes::word::byte1;
+use aes::word::byte2;
+use aes::word::byte3;
+use aes::word::mixed;
+use aes::word::substituted;
+use aes::write_block;
 ghost use mathlib.Core.Path.{_≡_};
 ghost use mathlib.Core.List.{map, _∷_, []};
 ghost use Prim.Native.Nat.{_/_, _%_, _<_};
 ghost use Rattle.octets.specs.Buffers.{_⊞_};
 ghost use Rattle.aes_tables.specs.SBox.{invSBox};
 ghost use Rattle.aes_tables.specs.Tables.{IsTable, invMixEntry};
-ghost use Rattle.aes.specs.InvCipher.{invSubBytes, invShiftRows, invMixColumns, invMixColumn, invCipher as invCipherOf, invAes};
+ghost use Rattle.aes_inverse.specs.InvCipher.{invSubBytes, invShiftRows, invMixColumns, invMixColumn, invCipher as invCipherOf, invAes};
 ghost use Rattle.aes.specs.Keyed.{lawful, inPlace};
 ghost use Rattle.aes.specs.Words.{bytes, blockBytes};
 
 // A column after InvShiftRows and InvSubBytes.
 fn sub_column(sbox: &[u8; 256], a: u32, b: u32, c: u32, d: u32) -> u32

@@ -8,11 +8,11 @@ use Rattle.octets.specs.Buffers.{Octets, _⊞_}
 use Rattle.octets.proofs.BufferLaws.{octets-tail, xor-twice}
 use Rattle.aes_tables.specs.SBox.{sBox, invSBox}
 use Rattle.aes_tables.proofs.Substitution.{invSBox-sBox}
 use Rattle.aes.specs.Cipher.{IsBlock, at, state, byColumn, subBytes, shiftRows, mixColumn, mixColumns, roundKey, addRoundKey, rounds, cipher}
 use Rattle.aes.specs.KeyExpansion.{keyExpansion, aes}
-use Rattle.aes.specs.InvCipher.{invShiftRows, invSubBytes, invMixColumn, invMixColumns, invRounds, invCipher, invAes}
-use Rattle.aes.proofs.MixLaws.{unmixed}
+use Rattle.aes_inverse.specs.InvCipher.{invShiftRows, invSubBytes, invMixColumn, invMixColumns, invRounds, invCipher, invAes}
+use Rattle.aes_inverse.proofs.MixLaws.{unmixed}
 use Rattle.aes.proofs.BlockLaws.{state-at, byte-at, block-sub, block-shift, block-add, block-rounds, KeyOctets, octets-keyExpansion}
 
 -- ---- each step undone
 

@@ -2,11 +2,11 @@ use mathlib.Core.Path.{_≡_, refl}
 use mathlib.Core.List.{map}
 use Prim.Native.Nat.{_<_, _-_}
 use borrow.Author.Needs.{needs}
-use Rattle.aes.specs.InvCipher.{invRounds}
+use Rattle.aes_inverse.specs.InvCipher.{invRounds}
 use Rattle.aes.specs.Words.{bytes, blockBytes}
-use Rattle.aes.proofs.RoundLaws.{inv-round-law, inv-cipher-law}
-use Rattle.aes.proofs.decrypt.inv_cipher.Statement.{statement}
-use Rattle.aes.proofs.decrypt.inv_cipher.Tie as tie
+use Rattle.aes_inverse.proofs.RoundLaws.{inv-round-law, inv-cipher-law}
+use Rattle.aes_inverse.proofs.inv_cipher.Statement.{statement}
+use Rattle.aes_inverse.proofs.inv_cipher.Tie as tie
 
 abbrev Inv-loop : tie.InvT-loop
 Inv-loop t bx w rounds s₀ i₀ s i =

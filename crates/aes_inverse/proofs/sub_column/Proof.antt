@@ -1,10 +1,10 @@
 use mathlib.Core.Path.{_∙_}
 use mathlib.Core.List.{[], _∷_}
 use Rattle.aes_tables.specs.SBox.{invSBox}
 use Rattle.aes.proofs.RoundLaws.{substituted-law}
 use borrow.Author.Needs.{needs}
-use Rattle.aes.proofs.decrypt.sub_column.Statement.{statement}
-use Rattle.aes.proofs.decrypt.sub_column.Tie as tie
+use Rattle.aes_inverse.proofs.sub_column.Statement.{statement}
+use Rattle.aes_inverse.proofs.sub_column.Tie as tie
 
 returns : tie.Need-returns
 returns c =

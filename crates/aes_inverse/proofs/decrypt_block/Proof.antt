@@ -3,12 +3,13 @@ use Prim.Native.Nat.{ℕ}
 use native.Mathlib.Omega.{arith}
 use borrow.Author.Needs.{needs}
 use lib.ListN.{length}
-use Rattle.aes.specs.InvCipher.{invAes}
+use Rattle.aes_inverse.specs.InvCipher.{invAes}
 use Rattle.aes.specs.Keyed.{nkOf}
 use Rattle.aes.specs.Words.{blockBytes}
-use Rattle.aes.proofs.KeyedLaws.{KeyLength, key-length, no-key, no-string, both-lawful, in-place-refused, in-place, inv-cipher-aes}
-use Rattle.aes.proofs.decrypt.decrypt_block.Statement.{statement}
-use Rattle.aes.proofs.decrypt.decrypt_block.Tie as tie
+use Rattle.aes.proofs.KeyedLaws.{KeyLength, key-length, no-key, no-string, both-lawful, in-place-refused, in-place}
+use Rattle.aes_inverse.proofs.RoundLaws.{inv-cipher-aes}
+use Rattle.aes_inverse.proofs.decrypt_block.Statement.{statement}
+use Rattle.aes_inverse.proofs.decrypt_block.Tie as tie
 
 -- where the key has a length of AES
 has-key : (c : tie.Else1) → nkOf (length (c .before .before .before .before .args .key .now)) ≡ 0 → ⊥

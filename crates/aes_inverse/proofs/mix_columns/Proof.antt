@@ -1,10 +1,10 @@
 use mathlib.Core.List.{_++_}
 use Rattle.aes.specs.Words.{blockBytes}
 use Rattle.aes.specs.Cipher.{at, byColumn}
-use Rattle.aes.specs.InvCipher.{invMixColumns}
+use Rattle.aes_inverse.specs.InvCipher.{invMixColumns}
 use borrow.Author.Needs.{needs}
-use Rattle.aes.proofs.decrypt.mix_columns.Statement.{statement}
-use Rattle.aes.proofs.decrypt.mix_columns.Tie as tie
+use Rattle.aes_inverse.proofs.mix_columns.Statement.{statement}
+use Rattle.aes_inverse.proofs.mix_columns.Tie as tie
 
 returns : tie.Need-returns
 unfolding blockBytes at byColumn invMixColumns

@@ -4,12 +4,13 @@ use mathlib.Core.Path.{_≡_, sym, ap, _∙_}
 use mathlib.Core.List.{List, [], _∷_}
 use Prim.Native.Nat.{ℕ, _<_}
 use lib.Bits.{bitXor, xor-comm, xor-lt, xor-zero-r}
+use lib.Dec.{eqb, eqb→eq}
+use Rattle.octets.proofs.Table.{at-each}
 use Rattle.octets.proofs.XorLaws.{xor-assoc, xor-medial}
-use Rattle.aes_tables.specs.Field.{_⊕_, _•_}
+use Rattle.aes_tables.specs.Field.{_⊕_, xTimes, times, _•_}
 use Rattle.aes_tables.proofs.Products.{product-lt, product-linear}
-use Rattle.aes_tables.proofs.Coefficients.{coefficient-a, coefficient-b, coefficient-c, coefficient-d}
 use Rattle.aes.specs.Cipher.{mixColumn}
-use Rattle.aes.specs.InvCipher.{invMixColumn}
+use Rattle.aes_inverse.specs.InvCipher.{invMixColumn}
 
 -- ---- sums of four
 
@@ -36,6 +37,24 @@ linear4 k p q r s hp hq hr hs =
     let pq : p ⊕ q < 256 = xor-lt 8 p q hp hq in
     product-linear k (p ⊕ q ⊕ r) s (xor-lt 8 (p ⊕ q) r pq hr) hs
     ∙ ap (λ (x : ℕ). x ⊕ k • s) (product-linear k (p ⊕ q) r pq hr ∙ ap (λ (x : ℕ). x ⊕ k • r) (product-linear k p q hp hq))
+
+-- ---- what the coefficients come to, tested at each byte
+
+coefficient-a : (x : ℕ) → x < 256 → 14 • (2 • x) ⊕ 11 • x ⊕ 13 • x ⊕ 9 • (3 • x) ≡ x
+unfolding xTimes times _•_
+coefficient-a x h = eqb→eq _ _ (at-each 256 (λ y. eqb (14 • (2 • y) ⊕ 11 • y ⊕ 13 • y ⊕ 9 • (3 • y)) y) tt x h)
+
+coefficient-b : (x : ℕ) → x < 256 → 14 • (3 • x) ⊕ 11 • (2 • x) ⊕ 13 • x ⊕ 9 • x ≡ 0
+unfolding xTimes times _•_
+coefficient-b x h = eqb→eq _ _ (at-each 256 (λ y. eqb (14 • (3 • y) ⊕ 11 • (2 • y) ⊕ 13 • y ⊕ 9 • y) 0) tt x h)
+
+coefficient-c : (x : ℕ) → x < 256 → 14 • x ⊕ 11 • (3 • x) ⊕ 13 • (2 • x) ⊕ 9 • x ≡ 0
+unfolding xTimes times _•_
+coefficient-c x h = eqb→eq _ _ (at-each 256 (λ y. eqb (14 • y ⊕ 11 • (3 • y) ⊕ 13 • (2 • y) ⊕ 9 • y) 0) tt x h)
+
+coefficient-d : (x : ℕ) → x < 256 → 14 • x ⊕ 11 • x ⊕ 13 • (3 • x) ⊕ 9 • (2 • x) ≡ 0
+unfolding xTimes times _•_
+coefficient-d x h = eqb→eq _ _ (at-each 256 (λ y. eqb (14 • y ⊕ 11 • y ⊕ 13 • (3 • y) ⊕ 9 • (2 • y)) 0) tt x h)
 
 -- ---- a column
 

@@ -1,0 +1,3 @@
+pub mod MixLaws
+pub mod RoundLaws
+pub mod Inverse
