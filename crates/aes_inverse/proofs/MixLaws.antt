@@ -9,7 +9,6 @@ use Rattle.octets.proofs.Table.{at-each}
 use Rattle.octets.proofs.XorLaws.{xor-assoc, xor-medial}
 use Rattle.aes_tables.specs.Field.{_⊕_, xTimes, times, _•_}
 use Rattle.aes_tables.proofs.Products.{product-lt, product-linear}
-use Rattle.aes.specs.Cipher.{mixColumn}
 use Rattle.aes_inverse.specs.InvCipher.{invMixColumn}
 
 -- ---- sums of four
@@ -64,12 +63,6 @@ mix0 a b c d = 2 • a ⊕ 3 • b ⊕ c ⊕ d
 
 inv0 : ℕ → ℕ → ℕ → ℕ → ℕ
 inv0 a b c d = 14 • a ⊕ 11 • b ⊕ 13 • c ⊕ 9 • d
-
-mix-rows : (a b c d : ℕ) → mixColumn a b c d ≡ mix0 a b c d ∷ mix0 b c d a ∷ mix0 c d a b ∷ mix0 d a b c ∷ []
-unfolding mixColumn mix0
-mix-rows a b c d =
-    λ i. mix0 a b c d ∷ turn a (2 • b) (3 • c) d i ∷ (turn a b (2 • c) (3 • d) ∙ turn b (2 • c) (3 • d) a) i
-    ∷ sym (turn (2 • d) (3 • a) b c) i ∷ []
 
 inv-rows : (a b c d : ℕ) → invMixColumn a b c d ≡ inv0 a b c d ∷ inv0 b c d a ∷ inv0 c d a b ∷ inv0 d a b c ∷ []
 unfolding invMixColumn inv0

@@ -1,3 +1,3 @@
-pub mod Substitution
 pub mod Products
+pub mod Substitution
 pub mod Entries

@@ -1,14 +1,12 @@
--- The product in GF(2^8): it is linear, products of bytes are bytes, and the inverse is the multiplicative one.
+-- The product in GF(2^8): products of bytes are bytes, and it is linear.
 -- Assumes nothing.
 use mathlib.Core.Path.{_≡_, refl, sym, ap, ap₂, _∙_, subst}
-use mathlib.Core.Bool.{Bool}
 use Prim.Native.Nat.{ℕ, zero, suc, _+_, _*_, _/_, _%_, _^_, _≤_, _<_}
 use native.Mathlib.Nat.{zero-mul, one-mul, add-zero}
 use native.Mathlib.Omega.{arith}
 use lib.Bits.{bitXor, differ, xor-shr, xor-mod, xor-block, xor-lt}
-use lib.Dec.{T, eqb, eqb→eq, lit<}
+use lib.Dec.{lit<}
 use Rattle.octets.proofs.XorLaws.{digit-lt, differ-mul, mul-xor, xor-medial}
-use Rattle.octets.proofs.Table.{at-each}
 use Rattle.aes_tables.specs.Field.{_⊕_, xTimes, times, _•_, square, powers, inverse}
 
 -- ---- products of bytes are bytes
@@ -31,6 +29,15 @@ times-lt (suc n) a x h =
 pub product-lt : (a x : ℕ) → x < 256 → a • x < 256
 unfolding _•_
 product-lt a x h = times-lt 8 a x h
+
+powers-lt : (n x : ℕ) → x < 256 → powers n x < 256
+unfolding powers square
+powers-lt zero x h = lit< tt
+powers-lt (suc n) x h = product-lt (x • x) (powers n (x • x)) (powers-lt n (x • x) (product-lt x x h))
+
+pub inverse-lt : (x : ℕ) → x < 256 → inverse x < 256
+unfolding inverse
+inverse-lt x h = powers-lt 7 x h
 
 -- ---- the product is linear
 
@@ -69,10 +76,3 @@ times-linear (suc n) a x y hx hy =
 pub product-linear : (a x y : ℕ) → x < 256 → y < 256 → a • (x ⊕ y) ≡ a • x ⊕ a • y
 unfolding _•_
 product-linear a x y hx hy = times-linear 8 a x y hx hy
-
--- ---- the inverse
-
--- 4.4: b • b⁻¹ = {01} for every byte b but {00}
-pub inverse-product : (b : ℕ) → b < 255 → suc b • inverse (suc b) ≡ 1
-unfolding xTimes times _•_ square powers inverse
-inverse-product b h = eqb→eq _ _ (at-each 255 (λ y. eqb (suc y • inverse (suc y)) 1) tt b h)

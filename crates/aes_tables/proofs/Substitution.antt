@@ -1,15 +1,18 @@
 -- What is tested at each of the 256 bytes, by tests that antt computes: the tables hold what FIPS 197 defines, the two
--- substitutions undo each other, and the inverse is the field's. Only the first two tests compute inverses.
+-- substitutions undo each other, and the inverse is the field's. Only the first test computes inverses; the others look
+-- them up in the table that it proved.
 -- Assumes nothing.
 use mathlib.Core.Path.{_≡_, sym, ap, _∙_, subst}
 use mathlib.Core.List.{List, [], _∷_}
-use Prim.Native.Nat.{ℕ, _<_}
+use Prim.Native.Nat.{ℕ, suc, _<_}
+use native.Mathlib.Omega.{arith}
 use lib.Dec.{T, eqb, ltb, eqb→eq, ltb→lt}
 use lib.ListN.{length, getD}
 use Rattle.octets.proofs.Table.{holds, at-each, at-entry}
 use Rattle.aes_tables.specs.Field.{xTimes, times, _•_, square, powers, inverse}
 use Rattle.aes_tables.specs.SBox.{bit, fromBits, affine, unaffine, sBox, invSBox}
 use Rattle.aes_tables.specs.Tables.{IsTable}
+use Rattle.aes_tables.proofs.Products.{inverse-lt}
 
 pub is-table : (f : ℕ → ℕ) (t : List ℕ) → T (eqb (length t) 256) → T (holds f 0 t) → IsTable f t
 is-table f t l p = record { entry = λ x h. at-entry f t p x (subst (λ (n : ℕ). x < n) (sym (eqb→eq (length t) 256 l)) h) }
@@ -52,14 +55,41 @@ invTable =
     ∷ 160 ∷ 224 ∷ 59 ∷ 77 ∷ 174 ∷ 42 ∷ 245 ∷ 176 ∷ 200 ∷ 235 ∷ 187 ∷ 60 ∷ 131 ∷ 83 ∷ 153 ∷ 97
     ∷ 23 ∷ 43 ∷ 4 ∷ 126 ∷ 186 ∷ 119 ∷ 214 ∷ 38 ∷ 225 ∷ 105 ∷ 20 ∷ 99 ∷ 85 ∷ 33 ∷ 12 ∷ 125 ∷ []
 
--- the rule of each table: the inverse, then the affine map; and back
+-- SBOX: the inverse, then the affine map
 pub s-table : IsTable sBox sTable
 unfolding xTimes times _•_ square powers inverse bit fromBits affine sBox
 s-table = is-table sBox sTable tt tt
 
+-- the affine map, backwards
+unaffine-affine : (y : ℕ) → y < 256 → unaffine (affine y) ≡ y
+unfolding bit fromBits affine unaffine
+unaffine-affine y h = eqb→eq _ _ (at-each 256 (λ x. eqb (unaffine (affine x)) x) tt y h)
+
+unaffine-lt : (y : ℕ) → y < 256 → unaffine y < 256
+unfolding bit fromBits unaffine
+unaffine-lt y h = ltb→lt _ _ (at-each 256 (λ x. ltb (unaffine x) 256) tt y h)
+
+-- so an inverse is an entry of the table, mapped back
+inverse-entry : (x : ℕ) → x < 256 → inverse x ≡ unaffine (getD sTable x 0)
+unfolding sBox
+inverse-entry x h = sym (ap unaffine (s-table .entry x h) ∙ unaffine-affine (inverse x) (inverse-lt x h))
+
+-- INVSBOX: the affine map backwards, then the inverse
 pub inv-table : IsTable invSBox invTable
-unfolding xTimes times _•_ square powers inverse bit fromBits unaffine invSBox
-inv-table = is-table invSBox invTable tt tt
+unfolding bit fromBits unaffine invSBox
+inv-table =
+    record {
+      entry = λ x h.
+          is-table (λ y. unaffine (getD sTable (unaffine y) 0)) invTable tt tt .entry x h
+          ∙ sym (inverse-entry (unaffine x) (unaffine-lt x h));
+    }
+
+-- 4.4: b • b⁻¹ = {01} for every byte b but {00}
+pub inverse-product : (b : ℕ) → b < 255 → suc b • inverse (suc b) ≡ 1
+unfolding xTimes times _•_ bit fromBits unaffine
+inverse-product b h =
+    ap (λ (x : ℕ). suc b • x) (inverse-entry (suc b) (omega arith))
+    ∙ eqb→eq _ _ (at-each 255 (λ y. eqb (suc y • unaffine (getD sTable (suc y) 0)) 1) tt b h)
 
 -- P12 of the scope: entry 53 (hex) is ed
 pub entry-53 : sBox 0x53 ≡ 0xed

@@ -4,7 +4,7 @@ use mathlib.Core.Bool.{Bool, true, false}
 use mathlib.Core.Path.{_≡_, refl, sym, ap, ap₂, _∙_, subst}
 use mathlib.Core.List.{List, [], _∷_, _++_, append-assoc, append-nil}
 use Prim.Native.Nat.{ℕ, zero, suc, _+_, _-_, _≤_, _<_, min}
-use native.Mathlib.Nat.{le-of-eq, le-of-lt, le-of-suc-le-suc, not-suc-le-zero, suc-inj}
+use native.Mathlib.Nat.{le-of-eq, le-of-lt, le-of-suc-le-suc, not-suc-le-zero}
 use native.Mathlib.Numerals.{add-one}
 use native.Mathlib.Decide.{decLe}
 use native.Mathlib.Omega.{arith}
@@ -61,13 +61,6 @@ length-xor [] k = refl
 length-xor (a ∷ s) [] = refl
 length-xor (a ∷ s) (b ∷ k) = ap suc (length-xor s k)
 
-pub getD-xor : (s k : List ℕ) (i : ℕ) → i < length s → getD (s ⊞ k) i 0 ≡ bitXor (getD s i 0) (getD k i 0)
-unfolding _⊞_
-getD-xor [] k i h = absurd (not-suc-le-zero h)
-getD-xor (a ∷ s) [] i h = sym (xor-zero-r (getD (a ∷ s) i 0))
-getD-xor (a ∷ s) (b ∷ k) zero h = refl
-getD-xor (a ∷ s) (b ∷ k) (suc i) h = getD-xor s k i (le-of-suc-le-suc h)
-
 -- (s ⊞ k) ⊞ k = s
 pub xor-twice : (s k : List ℕ) → s ⊞ k ⊞ k ≡ s
 unfolding _⊞_
@@ -81,13 +74,6 @@ octets-xor [] k p q = p
 octets-xor (a ∷ s) [] p q = p
 octets-xor (a ∷ s) (b ∷ k) p q =
     octets-cons (xor-lt 8 a b (p .octet 0) (q .octet 0)) (octets-xor s k (octets-tail p) (octets-tail q))
-
-pub append-xor : (s t k l : List ℕ) → length s ≡ length k → (s ++ t) ⊞ (k ++ l) ≡ (s ⊞ k) ++ (t ⊞ l)
-unfolding _⊞_
-append-xor [] t [] l e = refl
-append-xor [] t (b ∷ k) l e = absurd (omega arith)
-append-xor (a ∷ s) t [] l e = absurd (omega arith)
-append-xor (a ∷ s) t (b ∷ k) l e = ap (λ (r : List ℕ). bitXor a b ∷ r) (append-xor s t k l (suc-inj e))
 
 -- byte by byte: none of k, one more byte of it, as much as there is room for
 pub xor-none : (s : List ℕ) → s ⊞ [] ≡ s

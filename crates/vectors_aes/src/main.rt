@@ -44,30 +44,22 @@ fn one_if_not(same: bool) -> u64 {
     if same { 0 } else { 1 }
 }
 
-// Whether the plaintext of the record at a place encrypts to its ciphertext; block is scratch.
-fn encrypts(s: &[u8], at: usize, klen: usize, block: &mut [u8]) -> bool
-    requires { ⌜ at + klen + 32 ≤ length (now s) ⌝ }
-    requires { ⌜ length (now block) ≡ 16 ⌝ }
+// Whether a plaintext encrypts to its ciphertext; block is scratch.
+fn encrypts(key: &[u8], plain: &[u8], text: &[u8], block: &mut [u8]) -> bool
+    requires { ⌜ (length (now plain) ≡ 16) × (length (now text) ≡ 16) × (length (now block) ≡ 16) ⌝ }
 {
-    let plain = at + klen;
-    octets::copy(block, 0, &s[plain..plain + 16]);
-    if !aes::encrypt::encrypt_block(&s[at..plain], block) {
-        return false;
-    }
-    octets::equal_tags(block, &s[plain + 16..plain + 32])
+    octets::copy(block, 0, plain);
+    aes::encrypt::encrypt_block(key, block);
+    octets::equal_tags(block, text)
 }
 
-// Whether its ciphertext decrypts to its plaintext.
-fn decrypts(s: &[u8], at: usize, klen: usize, block: &mut [u8]) -> bool
-    requires { ⌜ at + klen + 32 ≤ length (now s) ⌝ }
-    requires { ⌜ length (now block) ≡ 16 ⌝ }
+// Whether a ciphertext decrypts to its plaintext.
+fn decrypts(key: &[u8], plain: &[u8], text: &[u8], block: &mut [u8]) -> bool
+    requires { ⌜ (length (now plain) ≡ 16) × (length (now text) ≡ 16) × (length (now block) ≡ 16) ⌝ }
 {
-    let plain = at + klen;
-    octets::copy(block, 0, &s[plain + 16..plain + 32]);
-    if !aes_inverse::decrypt_block(&s[at..plain], block) {
-        return false;
-    }
-    octets::equal_tags(block, &s[plain..plain + 16])
+    octets::copy(block, 0, text);
+    aes_inverse::decrypt_block(key, block);
+    octets::equal_tags(block, plain)
 }
 
 // Nothing more to read at a place where a vector should be: that counts as a difference.
@@ -92,11 +84,15 @@ fn record(s: &[u8], at: usize, klen: usize) -> Step
     if s.len() - at < klen + 32 {
         return missing(at);
     }
+    let from = at + klen;
+    let key = &s[at..from];
+    let plain = &s[from..from + 16];
+    let text = &s[from + 16..from + 32];
     let mut block = [0u8; 16];
-    let forth = one_if_not(encrypts(s, at, klen, &mut block));
-    let back = one_if_not(decrypts(s, at, klen, &mut block));
+    let forth = one_if_not(encrypts(key, plain, text, &mut block));
+    let back = one_if_not(decrypts(key, plain, text, &mut block));
     Step {
-        next: at + klen + 32,
+        next: from + 32,
         tally: Tally {
             blocks: 1,
             words: 0,
