@@ -1,12 +1,12 @@
 -- The product in GF(2^8): products of bytes are bytes, and it is linear.
 -- Assumes nothing.
-use mathlib.Core.Path.{_≡_, refl, sym, ap, ap₂, _∙_, subst}
+use mathlib.Core.Path.{_≡_, refl, sym, ap, ap₂, _∙_}
 use Prim.Native.Nat.{ℕ, zero, suc, _+_, _*_, _/_, _%_, _^_, _≤_, _<_}
-use native.Mathlib.Nat.{zero-mul, one-mul, add-zero}
+use native.Mathlib.Nat.{add-zero, lt-of-le-of-lt}
 use native.Mathlib.Omega.{arith}
 use lib.Bits.{bitXor, differ, xor-shr, xor-mod, xor-block, xor-lt}
 use lib.Dec.{lit<}
-use Rattle.octets.proofs.XorLaws.{digit-lt, differ-mul, mul-xor, xor-medial}
+use Rattle.octets.proofs.XorLaws.{digit-lt, digit-mul-le, differ-mul, mul-xor, xor-medial}
 use Rattle.aes_tables.specs.Field.{_⊕_, xTimes, times, _•_, square, powers, inverse}
 
 -- ---- products of bytes are bytes
@@ -15,16 +15,11 @@ pub xTimes-lt : (x : ℕ) → x < 256 → xTimes x < 256
 unfolding xTimes
 xTimes-lt x h = xor-lt 8 (x * 2 % 256) (x / 128 * 0x1b) (omega arith) (omega arith)
 
-digit-mul-lt : (d x : ℕ) → d < 2 → x < 256 → d * x < 256
-digit-mul-lt zero x h l = subst (λ (n : ℕ). n < 256) (sym (zero-mul x)) (lit< tt)
-digit-mul-lt (suc zero) x h l = subst (λ (n : ℕ). n < 256) (sym (one-mul x)) l
-digit-mul-lt (suc (suc d)) x h l = absurd (omega arith)
-
 times-lt : (n a x : ℕ) → x < 256 → times n a x < 256
 unfolding times
 times-lt zero a x h = lit< tt
 times-lt (suc n) a x h =
-    xor-lt 8 (a % 2 * x) (times n (a / 2) (xTimes x)) (digit-mul-lt (a % 2) x (digit-lt a) h) (times-lt n (a / 2) (xTimes x) (xTimes-lt x h))
+    xor-lt 8 (a % 2 * x) (times n (a / 2) (xTimes x)) (lt-of-le-of-lt (digit-mul-le (a % 2) x (digit-lt a)) h) (times-lt n (a / 2) (xTimes x) (xTimes-lt x h))
 
 pub product-lt : (a x : ℕ) → x < 256 → a • x < 256
 unfolding _•_

@@ -7,7 +7,7 @@ use Prim.Native.Nat.{ℕ, zero, suc, _+_, _-_, _*_, _≤_, min}
 use native.Mathlib.Omega.{arith}
 use lib.ListN.{length, take, drop, length-take, length-drop}
 use lib.Seq.{drop-drop}
-use Rattle.octets.specs.Buffers.{put, _⊞_}
+use Rattle.octets.specs.Buffers.{blockCount, put, _⊞_}
 use Rattle.octets.proofs.BufferLaws.{length-xor, length-put, take-put-min, drop-put-min}
 use Rattle.octets.specs.Numbers.{toBe}
 use Rattle.aes.specs.Cipher.{cipher}
@@ -15,7 +15,7 @@ use Rattle.aes.specs.KeyExpansion.{if, keyExpansion}
 use Rattle.aes.specs.Keyed.{nkOf, lawful}
 use Rattle.aes.specs.Words.{bytes}
 use Rattle.aes.proofs.KeyedLaws.{cipher-aes}
-use Rattle.ctr.specs.Gctr.{inc32, blockCount, gctrBlocks, gctr, aesBlock, counterBlock, aesCtr}
+use Rattle.ctr.specs.Gctr.{inc32, gctrBlocks, gctr, aesBlock, counterBlock, aesCtr}
 
 -- ---- one block more
 

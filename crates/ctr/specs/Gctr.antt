@@ -3,7 +3,7 @@
 use mathlib.Core.List.{List, [], _++_}
 use Prim.Native.Nat.{ℕ, zero, suc, _+_, _*_, _/_, _%_, _^_}
 use lib.ListN.{length, take, drop}
-use Rattle.octets.specs.Buffers.{_⊞_}
+use Rattle.octets.specs.Buffers.{blockCount, _⊞_}
 use Rattle.octets.specs.Numbers.{be, toBe}
 use Rattle.aes.specs.KeyExpansion.{if, aes}
 use Rattle.aes.specs.Keyed.{nkOf, lawful}
@@ -11,10 +11,6 @@ use Rattle.aes.specs.Keyed.{nkOf, lawful}
 -- 6.2: the low 32 bits go up by one, modulo 2^32
 unfoldable pub inc32 : ℕ → ℕ
 inc32 x = x / 2 ^ 32 * 2 ^ 32 + (x % 2 ^ 32 + 1) % 2 ^ 32
-
--- ⌈ len(s) / 128 ⌉
-abbrev pub blockCount : List ℕ → ℕ
-blockCount s = (length s + 15) / 16
 
 -- 6.5, Algorithm 3: n blocks of s, the last of which may be short, from the counter block cb on. ciph gives the bytes of
 -- CIPH_K

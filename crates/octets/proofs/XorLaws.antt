@@ -1,7 +1,7 @@
 -- Laws of exclusive or on numbers that lib.Bits lacks: one digit, associativity, cancelling.
 -- Assumes nothing.
 use mathlib.Core.Path.{_≡_, refl, sym, ap, ap₂, _∙_}
-use Prim.Native.Nat.{ℕ, zero, suc, _+_, _*_, _/_, _%_, _<_}
+use Prim.Native.Nat.{ℕ, zero, suc, _+_, _*_, _/_, _%_, _≤_, _<_}
 use native.Mathlib.Nat.{mod-lt, zero-mul, one-mul}
 use native.Mathlib.Omega.{arith}
 use lib.Arith.{bin-ind, digits-mod}
@@ -33,6 +33,11 @@ pub xor-parity : (a b : ℕ) → bitXor a b % 2 ≡ differ (a % 2) (b % 2)
 xor-parity a b =
     ap (λ (n : ℕ). n % 2) (xor-step a b)
     ∙ digits-mod (bitXor (a / 2) (b / 2)) (differ-lt (a % 2) (b % 2) (digit-lt a) (digit-lt b))
+
+pub digit-mul-le : (b v : ℕ) → b < 2 → b * v ≤ v
+digit-mul-le zero v h = omega (arith, zero-mul v)
+digit-mul-le (suc zero) v h = omega (arith, one-mul v)
+digit-mul-le (suc (suc b)) v h = absurd (omega arith)
 
 -- a digit times v, for a digit that is the exclusive or of two
 pub differ-mul : (a b v : ℕ) → a < 2 → b < 2 → differ a b * v ≡ bitXor (a * v) (b * v)

@@ -2,7 +2,7 @@
 use mathlib.Core.Bool.{Bool, true, false}
 use mathlib.Core.List.{List, [], _∷_, _++_}
 use mathlib.Core.Path.{_≡_}
-use Prim.Native.Nat.{ℕ, _+_, _<_}
+use Prim.Native.Nat.{ℕ, _+_, _/_, _<_}
 use lib.Bits.{bitXor}
 use lib.Dec.{eqb}
 use lib.ListN.{length, getD, take, drop}
@@ -21,6 +21,10 @@ unfoldable pub _⊞_ : List ℕ → List ℕ → List ℕ
 [] ⊞ k = []
 (a ∷ s) ⊞ [] = a ∷ s
 (a ∷ s) ⊞ (b ∷ k) = bitXor a b ∷ (s ⊞ k)
+
+-- how many blocks of 16 bytes hold s, the last of which may be short
+abbrev pub blockCount : List ℕ → ℕ
+blockCount s = (length s + 15) / 16
 
 -- both tests
 abbrev pub both : Bool → Bool → Bool

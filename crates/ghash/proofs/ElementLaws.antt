@@ -1,0 +1,53 @@
+-- An element of two words: its bits, its shift by one, and its bytes.
+-- Assumes nothing.
+use mathlib.Core.Path.{_≡_, sym, ap, ap₂, _∙_}
+use mathlib.Core.List.{List}
+use Prim.Native.Nat.{ℕ, _+_, _-_, _*_, _/_, _%_, _^_, _<_, _≤_}
+use native.Mathlib.Nat.{mul-assoc, add-zero}
+use native.Mathlib.Omega.{arith}
+use lib.Pow.{shr-shr, high, low, field, mod-mod-pow}
+use lib.Bits.{bitXor, xor-block, xor-zero-r, block-half, block-odd}
+use lib.ListN.{drop}
+use lib.Seq.{drop-drop}
+use Rattle.octets.specs.Numbers.{be}
+use Rattle.octets.proofs.NumberLaws.{be-add}
+use Rattle.ghash.specs.Field.{bitAt, R, next}
+use Rattle.ghash.specs.Words.{words}
+
+module _ (hi lo : ℕ) (fits : lo < 2 ^ 64) where
+  -- j bits of a block that stand in one of its words
+  pub field-high : (j m : ℕ) → hi / 2 ^ m % 2 ^ j ≡ words hi lo / 2 ^ (64 + m) % 2 ^ j
+  field-high j m =
+      ap (λ (x : ℕ). x / 2 ^ m % 2 ^ j) (sym (high hi 64 fits)) ∙ ap (λ (x : ℕ). x % 2 ^ j) (shr-shr (words hi lo) 64 m)
+
+  pub field-low : (j m : ℕ) → j + m ≤ 64 → lo / 2 ^ m % 2 ^ j ≡ words hi lo / 2 ^ m % 2 ^ j
+  field-low j m h =
+      let e : (64 - (j + m)) + (j + m) ≡ 64 = omega arith in
+      sym (field lo j m)
+      ∙ ap (λ (x : ℕ). x % 2 ^ (j + m) / 2 ^ m) (sym (low hi 64 fits) ∙ ap (λ (n : ℕ). words hi lo % 2 ^ n) (sym e))
+      ∙ ap (λ (x : ℕ). x / 2 ^ m) (mod-mod-pow (words hi lo) (64 - (j + m)) (j + m))
+      ∙ field (words hi lo) j m
+
+  pub bit-high : (i : ℕ) → i < 64 → hi / 2 ^ (63 - i) % 2 ≡ bitAt (words hi lo) i
+  bit-high i h =
+      let e : 64 + (63 - i) ≡ 127 - i = omega arith in
+      field-high 1 (63 - i) ∙ ap (λ (k : ℕ). words hi lo / 2 ^ k % 2) e
+
+  pub bit-low : (i : ℕ) → 64 ≤ i → i < 128 → lo / 2 ^ (127 - i) % 2 ≡ bitAt (words hi lo) i
+  bit-low i l h = field-low 1 (127 - i) (omega arith)
+
+  pub next-words : words (bitXor (hi / 2) (lo % 2 * 0xe100_0000_0000_0000)) (hi % 2 * 0x8000_0000_0000_0000 + lo / 2) ≡ next (words hi lo)
+  unfolding next
+  next-words =
+      let half : words hi lo / 2 ≡ words (hi / 2) (hi % 2 * 2 ^ 63 + lo / 2) = block-half hi 63 lo ∙ omega arith in
+      let r : lo % 2 * R ≡ words (lo % 2 * 0xe100_0000_0000_0000) 0 =
+      sym (add-zero (lo % 2 * 0xe100_0000_0000_0000 * 2 ^ 64) ∙ mul-assoc (lo % 2) 0xe100_0000_0000_0000 (2 ^ 64)) in
+      sym
+      (ap₂ (λ (x b : ℕ). bitXor x (b * R)) half (block-odd hi 63 lo)
+      ∙ ap (bitXor (words (hi / 2) (hi % 2 * 2 ^ 63 + lo / 2))) r
+      ∙ xor-block 64 (hi / 2) (lo % 2 * 0xe100_0000_0000_0000) (hi % 2 * 2 ^ 63 + lo / 2) 0 (omega arith) (omega arith)
+      ∙ ap (λ (x : ℕ). bitXor (hi / 2) (lo % 2 * 0xe100_0000_0000_0000) * 2 ^ 64 + x) (xor-zero-r (hi % 2 * 2 ^ 63 + lo / 2)))
+
+-- a block is its two words
+pub be-words : (s : List ℕ) (at : ℕ) → words (be 8 (drop at s)) (be 8 (drop (at + 8) s)) ≡ be 16 (drop at s)
+be-words s at = sym (be-add 8 8 (drop at s) ∙ ap (λ (t : List ℕ). be 8 (drop at s) * 2 ^ 64 + be 8 t) (drop-drop 8 at s))

@@ -1,0 +1,29 @@
+-- GHASH over the blocks of a string, one by one.
+-- Assumes nothing.
+use mathlib.Core.Path.{_≡_, ap, _∙_}
+use mathlib.Core.List.{List}
+use Prim.Native.Nat.{ℕ, suc, _+_, _-_, _*_, _<_}
+use native.Mathlib.Omega.{arith}
+use lib.Bits.{bitXor}
+use lib.ListN.{drop}
+use lib.Seq.{drop-drop}
+use Rattle.octets.specs.Numbers.{be}
+use Rattle.ghash.specs.Field.{mul}
+use Rattle.ghash.specs.Ghash.{ghashFrom, firstBlocks}
+
+pub ghash-step : (h y : ℕ) (s : List ℕ) (n i : ℕ) → i < n
+    → ghashFrom h y (firstBlocks (n - i) (drop (16 * i) s))
+    ≡ ghashFrom h (mul (bitXor y (be 16 (drop (16 * i) s))) h) (firstBlocks (n - (i + 1)) (drop (16 * (i + 1)) s))
+unfolding ghashFrom firstBlocks
+ghash-step h y s n i l =
+    let e : n - i ≡ suc (n - (i + 1)) = omega arith in
+    let d : 16 * i + 16 ≡ 16 * (i + 1) = omega arith in
+    ap (λ (k : ℕ). ghashFrom h y (firstBlocks k (drop (16 * i) s))) e
+    ∙ ap (λ (t : List ℕ). ghashFrom h (mul (bitXor y (be 16 (drop (16 * i) s))) h) (firstBlocks (n - (i + 1)) t))
+    (drop-drop 16 (16 * i) s ∙ ap (λ (k : ℕ). drop k s) d)
+
+pub ghash-end : (h y : ℕ) (s : List ℕ) (n i : ℕ) → i ≡ n → ghashFrom h y (firstBlocks (n - i) (drop (16 * i) s)) ≡ y
+unfolding ghashFrom firstBlocks
+ghash-end h y s n i e =
+    let z : n - i ≡ 0 = omega arith in
+    ap (λ (k : ℕ). ghashFrom h y (firstBlocks k (drop (16 * i) s))) z

@@ -1,0 +1,3 @@
+pub mod Field
+pub mod Ghash
+pub mod Words

@@ -1,0 +1,9 @@
+-- How two words of 64 bits stand for a block.
+use Prim.Native.Nat.{ℕ, _+_, _*_, _^_}
+use Rattle.ghash.specs.declared.Element.{Element}
+
+abbrev pub words : ℕ → ℕ → ℕ
+words hi lo = hi * 2 ^ 64 + lo
+
+abbrev pub blockOf : Element → ℕ
+blockOf b = words (b .hi) (b .lo)
