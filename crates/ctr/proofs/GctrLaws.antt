@@ -1,21 +1,22 @@
--- GCTR block by block, in place, and AES in counter mode.
+-- GCTR block by block, in place; that it keeps the length and undoes itself; AES in counter mode.
 -- Assumes nothing.
 use mathlib.Core.Path.{_≡_, refl, sym, ap, ap₂, _∙_}
 use mathlib.Core.Bool.{Bool, true, false}
-use mathlib.Core.List.{List, [], _++_, map, append-assoc}
-use Prim.Native.Nat.{ℕ, zero, suc, _+_, _-_, _*_, _≤_, min}
+use mathlib.Core.List.{List, [], _∷_, _++_, map, append-assoc, append-nil}
+use mathlib.Core.Logic.{_⊎_, inl, inr}
+use Prim.Native.Nat.{ℕ, zero, suc, _+_, _-_, _*_, _/_, _≤_, min}
+use native.Mathlib.Decide.{decLe}
 use native.Mathlib.Omega.{arith}
-use lib.ListN.{length, take, drop, length-take, length-drop}
-use lib.Seq.{drop-drop}
+use lib.ListN.{length, take, drop, length-append, length-take, length-drop, take-append-drop, drop-of-length-le}
+use lib.Seq.{take-at, drop-at, take-all, drop-drop}
 use Rattle.octets.specs.Buffers.{blockCount, put, _⊞_}
-use Rattle.octets.proofs.BufferLaws.{length-xor, length-put, take-put-min, drop-put-min}
+use Rattle.octets.proofs.BufferLaws.{length-xor, xor-twice, length-put, take-put-min, drop-put-min}
 use Rattle.octets.specs.Numbers.{toBe}
-use Rattle.aes.specs.Cipher.{cipher}
 use Rattle.aes.specs.KeyExpansion.{if, keyExpansion}
 use Rattle.aes.specs.Keyed.{nkOf, lawful}
 use Rattle.aes.specs.Words.{bytes}
 use Rattle.aes.proofs.KeyedLaws.{cipher-aes}
-use Rattle.ctr.specs.Gctr.{inc32, gctrBlocks, gctr, aesBlock, counterBlock, aesCtr}
+use Rattle.ctr.specs.Gctr.{inc32, gctrBlocks, gctr, ciphAt, aesBlock, counterBlock, aesCtr}
 
 -- ---- one block more
 
@@ -45,19 +46,68 @@ module _ (ciph : ℕ → List ℕ) (s o : List ℕ) (at cb : ℕ) (within : at �
       ∙ ap (λ (t : List ℕ). take at o ++ ((take 16 t ⊞ ciph cb) ++ gctrBlocks ciph m (inc32 cb) (drop 16 (drop at s)))) rest
       ∙ h
 
--- ---- the block cipher may be replaced by an equal one
+-- ---- GCTR keeps the length, and undoes itself
 
-gctrBlocks-same : (f g : ℕ → List ℕ) → ((x : ℕ) → f x ≡ g x) → (n cb : ℕ) (s : List ℕ) → gctrBlocks f n cb s ≡ gctrBlocks g n cb s
-unfolding gctrBlocks
-gctrBlocks-same f g e zero cb s = refl
-gctrBlocks-same f g e (suc n) cb s =
-    ap₂ (λ (k t : List ℕ). (take 16 s ⊞ k) ++ t) (e cb) (gctrBlocks-same f g e n (inc32 cb) (drop 16 s))
+empty : (s : List ℕ) → length s ≡ 0 → s ≡ []
+empty [] e = refl
+empty (a ∷ s) e = absurd (omega arith)
 
-pub gctr-same : (f g : ℕ → List ℕ) → ((x : ℕ) → f x ≡ g x) → (icb : ℕ) (s : List ℕ) → gctr f icb s ≡ gctr g icb s
-unfolding gctr
-gctr-same f g e icb s = gctrBlocks-same f g e (blockCount s) icb s
+module _ (ciph : ℕ → List ℕ) where
+  length-first : (cb : ℕ) (s : List ℕ) → length (take 16 s ⊞ ciph cb) ≡ min 16 (length s)
+  length-first cb s = length-xor (take 16 s) (ciph cb) ∙ length-take 16 s
+
+  length-gctrBlocks : (n cb : ℕ) (s : List ℕ) → length s ≤ 16 * n → length (gctrBlocks ciph n cb s) ≡ length s
+  unfolding gctrBlocks
+  length-gctrBlocks zero cb s h = omega arith
+  length-gctrBlocks (suc n) cb s h =
+      length-append (take 16 s ⊞ ciph cb) (gctrBlocks ciph n (inc32 cb) (drop 16 s))
+      ∙ omega (arith, length-first cb s, length-gctrBlocks n (inc32 cb) (drop 16 s) (omega (arith, length-drop 16 s)), length-drop 16 s)
+
+  -- the first block of the output and those behind it: a is whole, or b is empty
+  parts : (a b : List ℕ) → length a ≤ 16 → (16 ≤ length a) ⊎ (b ≡ []) → (take 16 (a ++ b) ≡ a) × (drop 16 (a ++ b) ≡ b)
+  parts a b h (inl l) = (take-at a b 16 (omega arith), drop-at a b 16 (omega arith))
+  parts a b h (inr e) =
+      let n : a ++ b ≡ a = ap (λ (t : List ℕ). a ++ t) e ∙ append-nil a in
+      (ap (take 16) n ∙ take-all 16 a h, ap (drop 16) n ∙ drop-of-length-le a h ∙ sym e)
+
+  whole-or-last : (n cb : ℕ) (s : List ℕ) → length s ≤ 16 * suc n
+      → (16 ≤ length (take 16 s ⊞ ciph cb)) ⊎ (gctrBlocks ciph n (inc32 cb) (drop 16 s) ≡ [])
+  whole-or-last n cb s h = pick (decLe 16 (length s))
+    where
+      pick : Dec (16 ≤ length s) → (16 ≤ length (take 16 s ⊞ ciph cb)) ⊎ (gctrBlocks ciph n (inc32 cb) (drop 16 s) ≡ [])
+      pick (yes l) = inl (omega (arith, length-first cb s))
+      pick (no f) =
+          inr
+          (empty (gctrBlocks ciph n (inc32 cb) (drop 16 s))
+          (omega (arith, length-gctrBlocks n (inc32 cb) (drop 16 s) (omega (arith, length-drop 16 s)), length-drop 16 s)))
+
+  gctrBlocks-twice : (n cb : ℕ) (s : List ℕ) → length s ≤ 16 * n → gctrBlocks ciph n cb (gctrBlocks ciph n cb s) ≡ s
+  unfolding gctrBlocks
+  gctrBlocks-twice zero cb s h = sym (empty s (omega arith))
+  gctrBlocks-twice (suc n) cb s h =
+      let a = take 16 s ⊞ ciph cb in
+      let p = parts a (gctrBlocks ciph n (inc32 cb) (drop 16 s)) (omega (arith, length-first cb s)) (whole-or-last n cb s h) in
+      ap₂ (λ (x y : List ℕ). (x ⊞ ciph cb) ++ gctrBlocks ciph n (inc32 cb) y) (p .0) (p .1)
+      ∙ ap₂ (λ (x y : List ℕ). x ++ y) (xor-twice (take 16 s) (ciph cb))
+      (gctrBlocks-twice n (inc32 cb) (drop 16 s) (omega (arith, length-drop 16 s)))
+      ∙ take-append-drop 16 s
+
+  pub length-gctr : (icb : ℕ) (s : List ℕ) → length (gctr ciph icb s) ≡ length s
+  unfolding gctr
+  length-gctr icb s = length-gctrBlocks (blockCount s) icb s (omega arith)
+
+  pub gctr-twice : (icb : ℕ) (s : List ℕ) → gctr ciph icb (gctr ciph icb s) ≡ s
+  unfolding gctr
+  gctr-twice icb s =
+      ap (λ (n : ℕ). gctrBlocks ciph ((n + 15) / 16) icb (gctrBlocks ciph (blockCount s) icb s)) (length-gctrBlocks (blockCount s) icb s (omega arith))
+      ∙ gctrBlocks-twice (blockCount s) icb s (omega arith)
 
 -- ---- AES in counter mode
+
+-- CIPH_K at the words that the key expansion left is AES under the key
+pub ciph-aes : (nk : ℕ) (key w : List ℕ) → map bytes (take (4 * nk + 28) w) ≡ keyExpansion nk key → ciphAt (nk + 6) w ≡ aesBlock nk key
+unfolding aesBlock
+ciph-aes nk key w e = λ i x. cipher-aes nk key w e (toBe 16 x) i
 
 module _ (key nonce : List ℕ) (c : ℕ) (s : List ℕ) where
   pub ctr-refused : lawful 12 key nonce ≡ false → s ≡ aesCtr key nonce c s
@@ -66,9 +116,8 @@ module _ (key nonce : List ℕ) (c : ℕ) (s : List ℕ) where
 
   pub ctr-done : lawful 12 key nonce ≡ true → (o : List ℕ) (nk : ℕ) (w m : List ℕ) → nk ≡ nkOf (length key)
       → map bytes (take (4 * nk + 28) w) ≡ keyExpansion nk key → m ≡ nonce
-      → o ≡ gctr (λ x. cipher (nk + 6) (map bytes w) (toBe 16 x)) (counterBlock m c) s → o ≡ aesCtr key nonce c s
-  unfolding aesCtr aesBlock
+      → o ≡ gctr (ciphAt (nk + 6) w) (counterBlock m c) s → o ≡ aesCtr key nonce c s
+  unfolding aesCtr
   ctr-done e o nk w m en ew em eo =
-      eo ∙ gctr-same _ (aesBlock nk key) (λ x. cipher-aes nk key w ew (toBe 16 x)) (counterBlock m c) s
-      ∙ (λ i. gctr (aesBlock (en i) key) (counterBlock (em i) c) s)
+      eo ∙ (λ i. gctr (ciph-aes nk key w ew i) (counterBlock (em i) c) s) ∙ (λ i. gctr (aesBlock (en i) key) (counterBlock nonce c) s)
       ∙ sym (ap (λ (b : Bool). if b (gctr (aesBlock (nkOf (length key)) key) (counterBlock nonce c) s) s) e)

@@ -1,10 +1,12 @@
 -- SP 800-38D, sections 6.2 and 6.5: the counter and GCTR. A block of 128 bits is the number below 2^128 whose binary digits
 -- it is, the first bit highest; its bytes are toBe 16 of it.
-use mathlib.Core.List.{List, [], _++_}
+use mathlib.Core.List.{List, [], _++_, map}
 use Prim.Native.Nat.{ℕ, zero, suc, _+_, _*_, _/_, _%_, _^_}
 use lib.ListN.{length, take, drop}
 use Rattle.octets.specs.Buffers.{blockCount, _⊞_}
 use Rattle.octets.specs.Numbers.{be, toBe}
+use Rattle.aes.specs.Cipher.{cipher}
+use Rattle.aes.specs.Words.{bytes}
 use Rattle.aes.specs.KeyExpansion.{if, aes}
 use Rattle.aes.specs.Keyed.{nkOf, lawful}
 
@@ -21,7 +23,10 @@ gctrBlocks ciph (suc n) cb s = (take 16 s ⊞ ciph cb) ++ gctrBlocks ciph n (inc
 unfoldable pub gctr : (ℕ → List ℕ) → ℕ → List ℕ → List ℕ
 gctr ciph icb s = gctrBlocks ciph (blockCount s) icb s
 
--- CIPH_K for AES
+-- CIPH_K for AES at the words of an expanded key, and under the key
+abbrev pub ciphAt : ℕ → List ℕ → ℕ → List ℕ
+ciphAt rounds w x = cipher rounds (map bytes w) (toBe 16 x)
+
 unfoldable pub aesBlock : ℕ → List ℕ → ℕ → List ℕ
 aesBlock nk key x = aes nk key (toBe 16 x)
 

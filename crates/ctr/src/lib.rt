@@ -2,18 +2,17 @@
 // big-endian counter that wraps.
 use aes::Block;
 ghost use mathlib.Core.Path.{_≡_};
-ghost use mathlib.Core.List.{_++_, map};
+ghost use mathlib.Core.List.{_++_};
 ghost use Prim.Native.Nat.{_+_, _<_, _≤_};
 ghost use lib.ListN.{length, take, drop};
 ghost use Rattle.octets.specs.Buffers.{put, _⊞_};
 ghost use Rattle.octets.specs.Numbers.{toBe};
 ghost use Rattle.aes_tables.specs.SBox.{sBox};
 ghost use Rattle.aes_tables.specs.Tables.{IsTable, mixEntry};
-ghost use Rattle.aes.specs.Cipher.{cipher};
 ghost use Rattle.aes.specs.Keyed.{lawful};
 ghost use Rattle.aes.specs.Words.{bytes, blockBytes};
 ghost use Rattle.ctr.specs.Words.{nonceBytes};
-ghost use Rattle.ctr.specs.Gctr.{gctr as gctrOf, counterBlock, aesCtr};
+ghost use Rattle.ctr.specs.Gctr.{gctr as gctrOf, ciphAt, counterBlock, aesCtr};
 
 // The nonce as the first three words of a counter block.
 pub struct Nonce {
@@ -88,7 +87,7 @@ pub fn gctr(
     requires { ⌜ IsTable sBox (now sbox) ⌝ }
     requires { ⌜ 0 < rounds ⌝ }
     requires { ⌜ rounds < 15 ⌝ }
-    ensures { λ _. ⌜ now (text .exit) ≡ gctrOf (λ x. cipher rounds (map bytes (now (w .entry))) (toBe 16 x)) (counterBlock (nonceBytes n) counter) (now (text .entry)) ⌝ }
+    ensures { λ _. ⌜ now (text .exit) ≡ gctrOf (ciphAt rounds (now (w .entry))) (counterBlock (nonceBytes n) counter) (now (text .entry)) ⌝ }
 {
     let blocks = (text.len() + 15) / 16;
     let mut c = counter;

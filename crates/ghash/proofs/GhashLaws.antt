@@ -1,7 +1,7 @@
 -- GHASH over the blocks of a string, one by one.
 -- Assumes nothing.
-use mathlib.Core.Path.{_≡_, ap, _∙_}
-use mathlib.Core.List.{List}
+use mathlib.Core.Path.{_≡_, refl, ap, _∙_}
+use mathlib.Core.List.{List, [], _∷_, _++_}
 use Prim.Native.Nat.{ℕ, suc, _+_, _-_, _*_, _<_}
 use native.Mathlib.Omega.{arith}
 use lib.Bits.{bitXor}
@@ -10,6 +10,12 @@ use lib.Seq.{drop-drop}
 use Rattle.octets.specs.Numbers.{be}
 use Rattle.ghash.specs.Field.{mul}
 use Rattle.ghash.specs.Ghash.{ghashFrom, firstBlocks}
+
+-- one block more behind the others
+pub ghash-snoc : (h y : ℕ) (xs : List ℕ) (x : ℕ) → ghashFrom h y (xs ++ x ∷ []) ≡ mul (bitXor (ghashFrom h y xs) x) h
+unfolding ghashFrom
+ghash-snoc h y [] x = refl
+ghash-snoc h y (a ∷ xs) x = ghash-snoc h (mul (bitXor y a) h) xs x
 
 pub ghash-step : (h y : ℕ) (s : List ℕ) (n i : ℕ) → i < n
     → ghashFrom h y (firstBlocks (n - i) (drop (16 * i) s))

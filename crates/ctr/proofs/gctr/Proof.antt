@@ -10,10 +10,9 @@ use lib.Dec.{lit<}
 use lib.ListN.{length, take, drop}
 use lib.Seq.{take-all}
 use Rattle.octets.specs.Buffers.{put, _⊞_}
-use Rattle.octets.specs.Numbers.{toBe}
 use Rattle.aes.specs.Cipher.{cipher}
 use Rattle.aes.specs.Words.{bytes, blockBytes}
-use Rattle.ctr.specs.Gctr.{gctrBlocks, gctr, counterBlock}
+use Rattle.ctr.specs.Gctr.{gctrBlocks, gctr, ciphAt, counterBlock}
 use Rattle.ctr.specs.Words.{nonceBytes}
 use Rattle.ctr.proofs.CounterLaws.{counter-bytes, counter-next}
 use Rattle.ctr.proofs.GctrLaws.{next-length, next-rest, next-done}
@@ -28,11 +27,8 @@ record Kept (ciph : ℕ → List ℕ) (nonce : List ℕ) (counter blocks : ℕ) 
   done : take (16 * i) text ++ gctrBlocks ciph (blocks - i) (counterBlock nonce c) (drop (16 * i) text₀)
       ≡ gctr ciph (counterBlock nonce counter) text₀
 
-abbrev ciphOf : ℕ → List ℕ → ℕ → List ℕ
-ciphOf rounds w x = cipher rounds (map bytes w) (toBe 16 x)
-
 abbrev Inv-loop : tie.InvT-loop
-Inv-loop t sbox w rounds n counter text₀ blocks c₀ i₀ text c i = Kept (ciphOf rounds w) (nonceBytes n) counter blocks text₀ text c i
+Inv-loop t sbox w rounds n counter text₀ blocks c₀ i₀ text c i = Kept (ciphAt rounds w) (nonceBytes n) counter blocks text₀ text c i
 
 abbrev μ-loop : tie.MeasureT-loop
 μ-loop t sbox w rounds n counter text₀ blocks c₀ i₀ text c i = blocks - i
@@ -48,7 +44,7 @@ loop-holds c =
       size = refl;
       fits = search needs;
       rest = refl;
-      done = ap (λ (m : ℕ). gctrBlocks (ciphOf (a .rounds) (a .w .now)) m (counterBlock (nonceBytes (a .n)) (a .counter)) s) all;
+      done = ap (λ (m : ℕ). gctrBlocks (ciphAt (a .rounds) (a .w .now)) m (counterBlock (nonceBytes (a .n)) (a .counter)) s) all;
     }
 
 loop-again : tie.Need-loop-again Inv-loop μ-loop
@@ -63,7 +59,7 @@ loop-again c =
     let o = l .loop .text in
     let s = a .text .now in
     let n = a .n in
-    let ciph = ciphOf (a .rounds) (a .w .now) in
+    let ciph = ciphAt (a .rounds) (a .w .now) in
     let cb = counterBlock (nonceBytes n) (l .loop .c) in
     let at : 16 * (i + 1) ≡ 16 * i + 16 = omega arith in
     let left : (length s + 15) / 16 - i ≡ suc ((length s + 15) / 16 - (i + 1)) = omega arith in
@@ -98,7 +94,7 @@ returns c =
     let none : (length s + 15) / 16 - l .loop .i ≡ 0 = omega arith in
     let all : length o ≤ 16 * l .loop .i = omega (arith, v .size) in
     sym (take-all (16 * l .loop .i) o all) ∙ sym (append-nil (take (16 * l .loop .i) o))
-    ∙ ap (λ (m : ℕ). take (16 * l .loop .i) o ++ gctrBlocks (ciphOf (a .rounds) (a .w .now)) m (counterBlock (nonceBytes (a .n)) (l .loop .c)) (drop (16 * l .loop .i) s))
+    ∙ ap (λ (m : ℕ). take (16 * l .loop .i) o ++ gctrBlocks (ciphAt (a .rounds) (a .w .now)) m (counterBlock (nonceBytes (a .n)) (l .loop .c)) (drop (16 * l .loop .i) s))
     (sym none)
     ∙ v .done
 

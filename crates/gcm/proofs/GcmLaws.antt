@@ -1,0 +1,138 @@
+-- What GCM seals is authentic and opens to what was sealed, whatever the block cipher; and the parts of the code.
+-- Assumes nothing.
+use mathlib.Core.Path.{_≡_, sym, ap, ap₂, _∙_, subst}
+use mathlib.Core.Bool.{Bool}
+use mathlib.Core.List.{List, [], _∷_, _++_}
+use Prim.Native.Nat.{ℕ, zero, suc, _+_, _-_, _*_, _/_, _^_, _≤_, _<_}
+use native.Mathlib.Nat.{zero-add}
+use native.Mathlib.Omega.{arith}
+use lib.Arith.{digits-div}
+use lib.Bits.{bitXor}
+use lib.Dec.{T, lit<}
+use lib.ListN.{length, take, drop, length-append}
+use lib.Seq.{take-at, drop-at}
+use Rattle.octets.specs.Buffers.{put, same}
+use Rattle.octets.specs.Numbers.{toBe}
+use Rattle.octets.proofs.BufferLaws.{rest, take-put, drop-put, put-put, put-whole, same-refl, same-eq}
+use Rattle.octets.proofs.NumberLaws.{length-toBe, toBe-add, toBe-high}
+use Rattle.ghash.specs.Field.{mul}
+use Rattle.ghash.specs.Ghash.{blocks, ghashFrom, ghash}
+use Rattle.ghash.specs.Words.{words}
+use Rattle.ghash.proofs.GhashLaws.{ghash-snoc}
+use Rattle.ctr.specs.Gctr.{inc32, gctr, counterBlock}
+use Rattle.ctr.proofs.CounterLaws.{counter-next}
+use Rattle.ctr.proofs.GctrLaws.{length-gctr, gctr-twice}
+use Rattle.gcm.specs.Gcm.{hashKey, j0, hashed, tag, crypt, seal, textOf, tagOf, Authentic, opened}
+use Rattle.gcm.specs.Keyed.{authentic}
+
+-- ---- the hash
+
+pub hash-law : (h y : ℕ) (c : List ℕ) → y ≡ ghashFrom h 0 (blocks c) → mul (bitXor y (words 0 (8 * length c))) h ≡ hashed h c
+unfolding hashed ghash
+hash-law h y c e =
+    ap₂ (λ (a b : ℕ). mul (bitXor a b) h) e (zero-add (8 * length c)) ∙ sym (ghash-snoc h 0 (blocks c) (8 * length c))
+
+-- the bytes of an element of two words
+pub element-law : (d : List ℕ) (hi lo : ℕ) → length d ≡ 16 → lo < 2 ^ 64 → put (put d 0 (toBe 8 hi)) 8 (toBe 8 lo) ≡ toBe 16 (words hi lo)
+element-law d hi lo e h =
+    let n : 0 + length (toBe 8 hi) ≡ 8 = zero-add _ ∙ length-toBe 8 hi in
+    ap (λ (k : ℕ). put (put d 0 (toBe 8 hi)) k (toBe 8 lo)) (sym n)
+    ∙ put-put d 0 (toBe 8 hi) (omega (arith, n)) (toBe 8 lo)
+    ∙ put-whole d (toBe 8 hi ++ toBe 8 lo) (omega (arith, length-append (toBe 8 hi) (toBe 8 lo), length-toBe 8 hi, length-toBe 8 lo))
+    ∙ sym (toBe-add 8 8 (words hi lo) ∙ ap₂ (λ (a b : List ℕ). a ++ b) (ap (toBe 8) (digits-div hi h)) (toBe-high 8 hi lo))
+
+-- ---- sealing and opening
+
+-- the second counter block is the first one's successor
+second : (nonce : List ℕ) → counterBlock nonce 2 ≡ inc32 (j0 nonce)
+unfolding j0
+second nonce = sym (counter-next nonce 1 (lit< tt))
+
+module _ (ciph : ℕ → List ℕ) (nonce : List ℕ) where
+  pub length-crypt : (s : List ℕ) → length (crypt ciph nonce s) ≡ length s
+  unfolding crypt
+  length-crypt s = length-gctr ciph (inc32 (j0 nonce)) s
+
+  pub length-tag : (c : List ℕ) → length (tag ciph nonce c) ≡ 16
+  unfolding tag
+  length-tag c = let s = hashed (hashKey ciph) c in length-gctr ciph (j0 nonce) (toBe 16 s) ∙ length-toBe 16 s
+
+  module _ (p : List ℕ) where
+    length-seal : length (seal ciph nonce p) - 16 ≡ length (crypt ciph nonce p)
+    unfolding seal
+    length-seal = let c = crypt ciph nonce p in omega (arith, length-append c (tag ciph nonce c), length-tag c)
+
+    text-seal : textOf (seal ciph nonce p) ≡ crypt ciph nonce p
+    unfolding textOf seal
+    text-seal = let c = crypt ciph nonce p in take-at c (tag ciph nonce c) (length (seal ciph nonce p) - 16) (sym length-seal)
+
+    tag-seal : tagOf (seal ciph nonce p) ≡ tag ciph nonce (crypt ciph nonce p)
+    unfolding tagOf seal
+    tag-seal = let c = crypt ciph nonce p in drop-at c (tag ciph nonce c) (length (seal ciph nonce p) - 16) (sym length-seal)
+
+    -- what is sealed is authentic
+    pub seal-authentic : Authentic ciph nonce (seal ciph nonce p)
+    unfolding seal
+    seal-authentic =
+        let c = crypt ciph nonce p in
+        record {
+          long = omega (arith, length-append c (tag ciph nonce c), length-tag c);
+          good = tag-seal ∙ ap (tag ciph nonce) (sym text-seal);
+        }
+
+    -- and opens to the same text
+    pub open-seal : opened ciph nonce (seal ciph nonce p) ≡ p
+    unfolding opened crypt
+    open-seal = ap (gctr ciph (inc32 (j0 nonce))) text-seal ∙ gctr-twice ciph (inc32 (j0 nonce)) p
+
+-- ---- in place
+
+module _ (text out : List ℕ) (fits : length text ≤ length out) where
+  take-copied : take (length text) (put out 0 text) ≡ text
+  take-copied = ap (λ (n : ℕ). take n (put out 0 text)) (sym (zero-add (length text))) ∙ take-put out 0 text (omega arith)
+
+  drop-copied : drop (length text) (put out 0 text) ≡ drop (length text) out
+  drop-copied =
+      ap (λ (n : ℕ). drop n (put out 0 text)) (sym (zero-add (length text))) ∙ drop-put out 0 text (omega arith)
+      ∙ ap (λ (n : ℕ). drop n out) (zero-add (length text))
+
+  -- a text that is copied to the front and then encrypted or decrypted there
+  pub crypt-law : (ciph : ℕ → List ℕ) (nonce o k : List ℕ) → o ≡ put out 0 text
+      → k ≡ gctr ciph (counterBlock nonce 2) (take (length text) o) → k ++ drop (length text) o ≡ put out 0 (crypt ciph nonce text)
+  unfolding crypt put
+  crypt-law ciph nonce o k eo ek =
+      let n : length text ≡ 0 + length (crypt ciph nonce text) = sym (zero-add _ ∙ length-crypt ciph nonce text) in
+      ap₂ (λ (x y : List ℕ). x ++ y)
+      (ek ∙ ap₂ (gctr ciph) (second nonce) (ap (take (length text)) eo ∙ take-copied))
+      (ap (drop (length text)) eo ∙ drop-copied ∙ ap (λ (m : ℕ). drop m out) n)
+
+-- the tag behind the ciphertext
+pub seal-law : (ciph : ℕ → List ℕ) (nonce text out o t r : List ℕ) → length text + 16 ≤ length out
+    → o ≡ put out 0 (crypt ciph nonce text) → t ≡ tag ciph nonce (take (length text) o) → r ≡ put o (length text) t
+    → r ≡ put out 0 (seal ciph nonce text)
+unfolding seal
+seal-law ciph nonce text out o t r fits eo et er =
+    let c = crypt ciph nonce text in
+    let l : length c ≡ length text = length-crypt ciph nonce text in
+    let n : length text ≡ 0 + length c = sym (zero-add (length c) ∙ l) in
+    let front : take (length text) o ≡ c =
+    ap₂ take (sym l) eo ∙ take-copied c out (omega (arith, l)) in
+    er
+    ∙ (λ i. put (eo i) (n i) ((et ∙ ap (tag ciph nonce) front) i))
+    ∙ put-put out 0 c (omega (arith, l)) (tag ciph nonce c)
+
+-- the tag that was found, compared with the last 16 bytes
+pub authentic-law : (ciph : ℕ → List ℕ) (nonce s t : List ℕ) (b : Bool) → t ≡ tag ciph nonce (take (length s - 16) s)
+    → b ≡ same t (take (length s - (length s - 16)) (drop (length s - 16) s)) → b ≡ authentic ciph nonce s
+unfolding authentic textOf tagOf
+authentic-law ciph nonce s t b et eb = eb ∙ ap₂ same et (rest s (length s - 16))
+
+-- ---- opening gives a text exactly when the tag is that of the text
+
+pub authentic-exactly : (ciph : ℕ → List ℕ) (nonce s : List ℕ) → 16 ≤ length s
+    → (T (authentic ciph nonce s) → Authentic ciph nonce s) × (Authentic ciph nonce s → T (authentic ciph nonce s))
+unfolding authentic
+authentic-exactly ciph nonce s h = (
+  λ t. record { long = h; good = sym (same-eq (tag ciph nonce (textOf s)) (tagOf s) t) },
+  λ a. subst (λ (x : List ℕ). T (same (tag ciph nonce (textOf s)) x)) (sym (a .good)) (same-refl (tag ciph nonce (textOf s))),
+)

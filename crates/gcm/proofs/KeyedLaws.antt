@@ -1,0 +1,170 @@
+-- What is lawful, as tests and as facts; sealing and opening under a key.
+-- Assumes nothing.
+use mathlib.Core.Path.{_≡_, refl, sym, ap, ap₂, _∙_, subst}
+use mathlib.Core.Bool.{Bool, true, false}
+use mathlib.Core.List.{List, map}
+use Prim.Native.Nat.{ℕ, zero, suc, _+_, _-_, _*_, _≤_, _<_}
+use native.Mathlib.Omega.{arith}
+use lib.Dec.{T, eqb, leb, ltb, eqb→eq, leb→le, ltb→lt}
+use lib.ListN.{length, take}
+use borrow.Author.Tests.{eq-eqb, ne-eqb, le-leb, lt-leb, lt-ltb}
+use Rattle.octets.specs.Buffers.{both, put}
+use Rattle.aes.specs.KeyExpansion.{if, keyExpansion}
+use Rattle.aes.specs.Keyed.{pick, nkOf}
+use Rattle.aes.specs.Words.{bytes}
+use Rattle.aes.proofs.KeyedLaws.{KeyLength, key-length}
+use Rattle.ctr.specs.Gctr.{ciphAt, aesBlock}
+use Rattle.ctr.proofs.GctrLaws.{ciph-aes}
+use Rattle.gcm.specs.Gcm.{seal, opened}
+use Rattle.gcm.specs.declared.Opened.the-variants.{Unlawful}
+use Rattle.gcm.specs.Keyed.{maxText, ciphOf, fits, words, sealLawful, sealed, openLawful, authentic, answer, openAnswer, openOut}
+
+both-false : (b : Bool) → both b false ≡ false
+both-false true = refl
+both-false false = refl
+
+-- ---- lengths and room, as tests
+
+module _ (k n len due room : ℕ) where
+  no-nonce : (n ≡ 12 → ⊥) → fits k n len due room ≡ false
+  unfolding fits
+  no-nonce h =
+      ap (λ (b : Bool). both (ltb 0 (nkOf k)) (both b (both (leb len maxText) (leb due room)))) (ne-eqb n 12 h) ∙ both-false (ltb 0 (nkOf k))
+
+  too-long : maxText < len → fits k n len due room ≡ false
+  unfolding fits
+  too-long h =
+      ap (λ (b : Bool). both (ltb 0 (nkOf k)) (both (eqb n 12) (both b (leb due room)))) (lt-leb len maxText h)
+      ∙ ap (both (ltb 0 (nkOf k))) (both-false (eqb n 12)) ∙ both-false (ltb 0 (nkOf k))
+
+  no-room : room < due → fits k n len due room ≡ false
+  unfolding fits
+  no-room h =
+      ap (λ (b : Bool). both (ltb 0 (nkOf k)) (both (eqb n 12) (both (leb len maxText) b))) (lt-leb due room h)
+      ∙ ap (λ (b : Bool). both (ltb 0 (nkOf k)) (both (eqb n 12) b)) (both-false (leb len maxText))
+      ∙ ap (both (ltb 0 (nkOf k))) (both-false (eqb n 12)) ∙ both-false (ltb 0 (nkOf k))
+
+  none : fits k n len due room ≡ false → 0 ≡ words k n len due room
+  unfolding words
+  none e = sym (ap (λ (b : Bool). pick b (nkOf k) 0) e)
+
+  pub words-nonce : (n ≡ 12 → ⊥) → 0 ≡ words k n len due room
+  words-nonce h = none (no-nonce h)
+
+  pub words-long : maxText < len → 0 ≡ words k n len due room
+  words-long h = none (too-long h)
+
+  pub words-room : room < due → 0 ≡ words k n len due room
+  words-room h = none (no-room h)
+
+  pub words-key : n ≡ 12 → len ≤ maxText → due ≤ room → nkOf k ≡ words k n len due room
+  unfolding words fits
+  words-key en el er =
+      sym
+      (ap (λ (b : Bool). pick (both (ltb 0 (nkOf k)) b) (nkOf k) 0)
+      (λ i. both (eq-eqb n 12 en i) (both (le-leb len maxText el i) (le-leb due room er i)))
+      ∙ itself (nkOf k))
+    where
+      itself : (w : ℕ) → pick (both (ltb 0 w) true) w 0 ≡ w
+      itself zero = refl
+      itself (suc w) = let h : 0 < suc w = omega arith in ap (λ (b : Bool). pick (both b true) (suc w) 0) (lt-ltb 0 (suc w) h)
+
+-- ---- and as facts
+
+pub record Fits (k n len due room nk : ℕ) : Type 0 where
+  pub lawful : fits k n len due room ≡ true
+  pub words-are : nk ≡ nkOf k
+  pub key : KeyLength k nk
+  pub nonce : n ≡ 12
+  pub text : len ≤ maxText
+  pub space : due ≤ room
+
+module _ (k n len due room nk : ℕ) (e : nk ≡ words k n len due room) where
+  pub fits-not : nk ≡ 0 → fits k n len due room ≡ false
+  unfolding words fits
+  fits-not z = go (ltb 0 (nkOf k)) (eqb n 12) (leb len maxText) (leb due room) (ltb→lt 0 (nkOf k)) (sym e ∙ z)
+    where
+      go : (a b c d : Bool) → (T a → 0 < nkOf k) → pick (both a (both b (both c d))) (nkOf k) 0 ≡ 0 → both a (both b (both c d)) ≡ false
+      go false b c d p q = refl
+      go true false c d p q = refl
+      go true true false d p q = refl
+      go true true true false p q = refl
+      go true true true true p q = absurd (let h : 0 < nkOf k = p tt in omega arith)
+
+  pub fits-are : (nk ≡ 0 → ⊥) → Fits k n len due room nk
+  unfolding words fits
+  fits-are h =
+      go (ltb 0 (nkOf k)) (eqb n 12) (leb len maxText) (leb due room) (eqb→eq n 12) (leb→le len maxText) (leb→le due room) refl e
+    where
+      go : (a b c d : Bool) → (T b → n ≡ 12) → (T c → len ≤ maxText) → (T d → due ≤ room)
+          → fits k n len due room ≡ both a (both b (both c d)) → nk ≡ pick (both a (both b (both c d))) (nkOf k) 0 → Fits k n len due room nk
+      go false b c d p q r f w = absurd (h w)
+      go true false c d p q r f w = absurd (h w)
+      go true true false d p q r f w = absurd (h w)
+      go true true true false p q r f w = absurd (h w)
+      go true true true true p q r f w =
+          record {
+            lawful = f;
+            words-are = w;
+            key = subst (KeyLength k) (sym w) (key-length k (λ z. h (w ∙ z)));
+            nonce = p tt;
+            text = q tt;
+            space = r tt;
+          }
+
+-- ---- sealing
+
+ciph-key : (nk : ℕ) (key w : List ℕ) → nk ≡ nkOf (length key) → map bytes (take (4 * nk + 28) w) ≡ keyExpansion nk key
+    → ciphAt (nk + 6) w ≡ ciphOf key
+ciph-key nk key w en ew = ciph-aes nk key w ew ∙ ap (λ (m : ℕ). aesBlock m key) en
+
+module _ (key nonce text out : List ℕ) where
+  pub seal-refused : fits (length key) (length nonce) (length text) (length text + 16) (length out) ≡ false
+      → (false ≡ sealLawful key nonce text out) × (out ≡ sealed key nonce text out)
+  unfolding sealed sealLawful
+  seal-refused e = (sym e, sym (ap (λ (b : Bool). if b (put out 0 (seal (ciphOf key) nonce text)) out) e))
+
+  pub seal-done : (nk : ℕ) (w m o : List ℕ) → fits (length key) (length nonce) (length text) (length text + 16) (length out) ≡ true
+      → nk ≡ nkOf (length key) → map bytes (take (4 * nk + 28) w) ≡ keyExpansion nk key → m ≡ nonce
+      → o ≡ put out 0 (seal (ciphAt (nk + 6) w) m text) → (true ≡ sealLawful key nonce text out) × (o ≡ sealed key nonce text out)
+  unfolding sealed sealLawful
+  seal-done nk w m o e en ew em eo = (
+    sym e,
+    eo ∙ (λ i. put out 0 (seal (ciph-key nk key w en ew i) (em i) text))
+        ∙ sym (ap (λ (b : Bool). if b (put out 0 (seal (ciphOf key) nonce text)) out) e),
+  )
+
+-- ---- opening
+
+module _ (key nonce s out : List ℕ) where
+  -- the answer and the buffer, where the tests have come out so
+  decided : (l a : Bool) → openLawful key nonce s out ≡ l → authentic (ciphOf key) nonce s ≡ a
+      → (answer l a ≡ openAnswer key nonce s out) × (if (both l a) (put out 0 (opened (ciphOf key) nonce s)) out ≡ openOut key nonce s out)
+  unfolding openAnswer openOut
+  decided l a el ea =
+      (λ i. answer (sym el i) (sym ea i), λ i. if (both (sym el i) (sym ea i)) (put out 0 (opened (ciphOf key) nonce s)) out)
+
+  open-unlawful : openLawful key nonce s out ≡ false → (Unlawful ≡ openAnswer key nonce s out) × (out ≡ openOut key nonce s out)
+  open-unlawful e = decided false (authentic (ciphOf key) nonce s) e refl
+
+  pub open-short : length s < 16 → (Unlawful ≡ openAnswer key nonce s out) × (out ≡ openOut key nonce s out)
+  unfolding openLawful
+  open-short h =
+      open-unlawful
+      (ap (λ (b : Bool). both b (fits (length key) (length nonce) (length s - 16) (length s - 16) (length out))) (lt-leb 16 (length s) h))
+
+  pub open-refused : 16 ≤ length s → fits (length key) (length nonce) (length s - 16) (length s - 16) (length out) ≡ false
+      → (Unlawful ≡ openAnswer key nonce s out) × (out ≡ openOut key nonce s out)
+  unfolding openLawful
+  open-refused h e = open-unlawful (ap₂ both (le-leb 16 (length s) h) e)
+
+  pub open-done : (nk : ℕ) (w m o : List ℕ) (b : Bool) → 16 ≤ length s
+      → fits (length key) (length nonce) (length s - 16) (length s - 16) (length out) ≡ true
+      → nk ≡ nkOf (length key) → map bytes (take (4 * nk + 28) w) ≡ keyExpansion nk key → m ≡ nonce
+      → b ≡ authentic (ciphAt (nk + 6) w) m s → o ≡ if b (put out 0 (opened (ciphAt (nk + 6) w) m s)) out
+      → (answer true b ≡ openAnswer key nonce s out) × (o ≡ openOut key nonce s out)
+  unfolding openLawful
+  open-done nk w m o b h e en ew em eb eo =
+      let p = ciph-key nk key w en ew in
+      let d = decided true b (ap₂ both (le-leb 16 (length s) h) e) (sym (eb ∙ (λ i. authentic (p i) (em i) s))) in
+      (d .0, eo ∙ (λ i. if b (put out 0 (opened (p i) (em i) s)) out) ∙ d .1)

@@ -1,0 +1,2 @@
+pub mod GcmLaws
+pub mod KeyedLaws

@@ -1,0 +1,56 @@
+-- AES-GCM under a key of bytes, on lent buffers: what is lawful, what is answered and what is written.
+use mathlib.Core.Bool.{Bool, true, false}
+use mathlib.Core.List.{List}
+use Prim.Native.Nat.{ℕ, _+_, _-_}
+use lib.Dec.{eqb, leb, ltb}
+use lib.ListN.{length}
+use Rattle.octets.specs.Buffers.{both, put, same}
+use Rattle.aes.specs.KeyExpansion.{if}
+use Rattle.aes.specs.Keyed.{pick, nkOf}
+use Rattle.ctr.specs.Gctr.{aesBlock}
+use Rattle.gcm.specs.Gcm.{tag, seal, textOf, tagOf, opened}
+use Rattle.gcm.specs.declared.Opened.{Opened}
+use Rattle.gcm.specs.declared.Opened.the-variants.{Text, Forged, Unlawful}
+
+-- the longest text, 2^36 - 32 bytes (5.2.1.1)
+abbrev pub maxText : ℕ
+maxText = 0xf_ffff_ffe0
+
+-- CIPH_K
+abbrev pub ciphOf : List ℕ → ℕ → List ℕ
+ciphOf key = aesBlock (nkOf (length key)) key
+
+-- a key of k bytes and a nonce of n, a text of len bytes that is not too long, and room for what is due
+unfoldable pub fits : ℕ → ℕ → ℕ → ℕ → ℕ → Bool
+fits k n len due room = both (ltb 0 (nkOf k)) (both (eqb n 12) (both (leb len maxText) (leb due room)))
+
+-- Nk where all that fits, and 0
+unfoldable pub words : ℕ → ℕ → ℕ → ℕ → ℕ → ℕ
+words k n len due room = pick (fits k n len due room) (nkOf k) 0
+
+-- sealing asks for room for the text and its tag, and fills that
+unfoldable pub sealLawful : List ℕ → List ℕ → List ℕ → List ℕ → Bool
+sealLawful key nonce text out = fits (length key) (length nonce) (length text) (length text + 16) (length out)
+
+unfoldable pub sealed : List ℕ → List ℕ → List ℕ → List ℕ → List ℕ
+sealed key nonce text out = if (sealLawful key nonce text out) (put out 0 (seal (ciphOf key) nonce text)) out
+
+-- opening asks for a tag at least, and for room for the text
+unfoldable pub openLawful : List ℕ → List ℕ → List ℕ → List ℕ → Bool
+openLawful key nonce s out = both (leb 16 (length s)) (fits (length key) (length nonce) (length s - 16) (length s - 16) (length out))
+
+-- whether the tag is that of the text
+unfoldable pub authentic : (ℕ → List ℕ) → List ℕ → List ℕ → Bool
+authentic ciph nonce s = same (tag ciph nonce (textOf s)) (tagOf s)
+
+abbrev pub answer : Bool → Bool → Opened
+answer true true = Text
+answer true false = Forged
+answer false b = Unlawful
+
+unfoldable pub openAnswer : List ℕ → List ℕ → List ℕ → List ℕ → Opened
+openAnswer key nonce s out = answer (openLawful key nonce s out) (authentic (ciphOf key) nonce s)
+
+unfoldable pub openOut : List ℕ → List ℕ → List ℕ → List ℕ → List ℕ
+openOut key nonce s out =
+    if (both (openLawful key nonce s out) (authentic (ciphOf key) nonce s)) (put out 0 (opened (ciphOf key) nonce s)) out

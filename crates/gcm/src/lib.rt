@@ -1,0 +1,223 @@
+// AES-GCM (SP 800-38D) with a 12-byte nonce, a 16-byte tag and no additional data, on lent buffers.
+use ctr::Nonce;
+use ghash::Element;
+ghost use mathlib.Core.Path.{_≡_};
+ghost use Prim.Native.Nat.{_+_, _-_, _<_, _≤_};
+ghost use lib.ListN.{length};
+ghost use Rattle.octets.specs.Buffers.{put};
+ghost use Rattle.octets.specs.Numbers.{toBe};
+ghost use Rattle.aes_tables.specs.SBox.{sBox};
+ghost use Rattle.aes_tables.specs.Tables.{IsTable, mixEntry};
+ghost use Rattle.aes.specs.KeyExpansion.{if};
+ghost use Rattle.ghash.specs.Words.{blockOf};
+ghost use Rattle.ctr.specs.Gctr.{ciphAt};
+ghost use Rattle.ctr.specs.Words.{nonceBytes};
+ghost use Rattle.gcm.specs.Gcm as spec;
+ghost use Rattle.gcm.specs.Keyed.{maxText, words, authentic, sealLawful, sealed as sealedOf, openAnswer, openOut};
+
+// What opening answers: the text is in the buffer; the tag is wrong; a length is wrong.
+pub enum Opened {
+    Text,
+    Forged,
+    Unlawful,
+}
+
+// GHASH of the ciphertext and its length.
+fn hashed(h: Element, c: &[u8]) -> Element
+    requires { ⌜ length (now c) ≤ maxText ⌝ }
+    ensures { λ r. ⌜ blockOf r ≡ spec.hashed (blockOf h) (now (c .entry)) ⌝ }
+{
+    let y = ghash::ghash(h, Element { hi: 0, lo: 0 }, c);
+    let bits = 8 * c.len() as u64;
+    ghash::mul(ghash::add(y, Element { hi: 0, lo: bits }), h)
+}
+
+// The bytes of a block.
+fn element_bytes(x: Element) -> [u8; 16]
+    ensures { λ r. ⌜ r ≡ toBe 16 (blockOf x) ⌝ }
+{
+    let mut b = [0u8; 16];
+    octets::write_u64_be(&mut b, 0, x.hi);
+    octets::write_u64_be(&mut b, 8, x.lo);
+    b
+}
+
+// H.
+fn hash_key(t: &[u32; 256], sbox: &[u8; 256], w: &[u32; 60], rounds: usize) -> Element
+    requires { ⌜ IsTable mixEntry (now t) ⌝ }
+    requires { ⌜ IsTable sBox (now sbox) ⌝ }
+    requires { ⌜ 0 < rounds ⌝ }
+    requires { ⌜ rounds < 15 ⌝ }
+    ensures { λ r. ⌜ blockOf r ≡ spec.hashKey (ciphAt rounds (now (w .entry))) ⌝ }
+{
+    let zero = aes::Block {
+        a: 0,
+        b: 0,
+        c: 0,
+        d: 0,
+    };
+    let mut b = [0u8; 16];
+    aes::write_block(&mut b, 0, aes::encrypt::cipher(t, sbox, w, rounds, zero));
+    ghash::block_at(&b, 0)
+}
+
+// The tag of a ciphertext.
+fn tag_of(
+    t: &[u32; 256],
+    sbox: &[u8; 256],
+    w: &[u32; 60],
+    rounds: usize,
+    n: Nonce,
+    c: &[u8],
+) -> [u8; 16]
+    requires { ⌜ IsTable mixEntry (now t) ⌝ }
+    requires { ⌜ IsTable sBox (now sbox) ⌝ }
+    requires { ⌜ 0 < rounds ⌝ }
+    requires { ⌜ rounds < 15 ⌝ }
+    requires { ⌜ length (now c) ≤ maxText ⌝ }
+    ensures { λ r. ⌜ r ≡ spec.tag (ciphAt rounds (now (w .entry))) (nonceBytes n) (now (c .entry)) ⌝ }
+{
+    let h = hash_key(t, sbox, w, rounds);
+    let mut tag = element_bytes(hashed(h, c));
+    ctr::gctr(t, sbox, w, rounds, n, 1, &mut tag);
+    tag
+}
+
+// A text to the front of the lent buffer, encrypted or decrypted there.
+fn crypt_into(
+    t: &[u32; 256],
+    sbox: &[u8; 256],
+    w: &[u32; 60],
+    rounds: usize,
+    n: Nonce,
+    text: &[u8],
+    out: &mut [u8],
+)
+    requires { ⌜ IsTable mixEntry (now t) ⌝ }
+    requires { ⌜ IsTable sBox (now sbox) ⌝ }
+    requires { ⌜ 0 < rounds ⌝ }
+    requires { ⌜ rounds < 15 ⌝ }
+    requires { ⌜ length (now text) ≤ length (now out) ⌝ }
+    ensures { λ _. ⌜ now (out .exit) ≡ put (now (out .entry)) 0 (spec.crypt (ciphAt rounds (now (w .entry))) (nonceBytes n) (now (text .entry))) ⌝ }
+{
+    let len = text.len();
+    octets::copy(out, 0, text);
+    ctr::gctr(t, sbox, w, rounds, n, 2, &mut out[..len]);
+}
+
+// Ciphertext and tag of a text, at an expanded key, to the front of the lent buffer.
+pub fn seal_at(
+    t: &[u32; 256],
+    sbox: &[u8; 256],
+    w: &[u32; 60],
+    rounds: usize,
+    n: Nonce,
+    text: &[u8],
+    out: &mut [u8],
+)
+    requires { ⌜ IsTable mixEntry (now t) ⌝ }
+    requires { ⌜ IsTable sBox (now sbox) ⌝ }
+    requires { ⌜ 0 < rounds ⌝ }
+    requires { ⌜ rounds < 15 ⌝ }
+    requires { ⌜ length (now text) ≤ maxText ⌝ }
+    requires { ⌜ length (now text) + 16 ≤ length (now out) ⌝ }
+    ensures { λ _. ⌜ now (out .exit) ≡ put (now (out .entry)) 0 (spec.seal (ciphAt rounds (now (w .entry))) (nonceBytes n) (now (text .entry))) ⌝ }
+{
+    let len = text.len();
+    crypt_into(t, sbox, w, rounds, n, text, out);
+    let tag = tag_of(t, sbox, w, rounds, n, &out[..len]);
+    octets::copy(out, len, &tag);
+}
+
+// Whether the last 16 bytes are the tag of those before them; then the text goes to the front of the lent buffer.
+pub fn open_at(
+    t: &[u32; 256],
+    sbox: &[u8; 256],
+    w: &[u32; 60],
+    rounds: usize,
+    n: Nonce,
+    s: &[u8],
+    out: &mut [u8],
+) -> bool
+    requires { ⌜ IsTable mixEntry (now t) ⌝ }
+    requires { ⌜ IsTable sBox (now sbox) ⌝ }
+    requires { ⌜ 0 < rounds ⌝ }
+    requires { ⌜ rounds < 15 ⌝ }
+    requires { ⌜ 16 ≤ length (now s) ⌝ }
+    requires { ⌜ length (now s) - 16 ≤ maxText ⌝ }
+    requires { ⌜ length (now s) - 16 ≤ length (now out) ⌝ }
+    ensures { λ r. ⌜ r ≡ authentic (ciphAt rounds (now (w .entry))) (nonceBytes n) (now (s .entry)) ⌝ }
+    ensures { λ r. ⌜ now (out .exit) ≡ if r (put (now (out .entry)) 0 (spec.opened (ciphAt rounds (now (w .entry))) (nonceBytes n) (now (s .entry)))) (now (out .entry)) ⌝ }
+{
+    let len = s.len() - 16;
+    let tag = tag_of(t, sbox, w, rounds, n, &s[..len]);
+    if octets::equal_tags(&tag, &s[len..]) {
+        crypt_into(t, sbox, w, rounds, n, &s[..len], out);
+        return true;
+    }
+    false
+}
+
+// Nk for a key of k bytes, where the nonce has 12, the text is not over 2^36 - 32 bytes and there is room for what is due;
+// else 0.
+fn lawful_words(k: usize, n: usize, len: usize, due: usize, room: usize) -> usize
+    ensures { λ r. ⌜ r ≡ words k n len due room ⌝ }
+{
+    if n != 12 {
+        return 0;
+    }
+    if len > 0xf_ffff_ffe0 {
+        return 0;
+    }
+    if due > room {
+        return 0;
+    }
+    aes::key::key_words(k)
+}
+
+// Seals a text under a key of 16, 24 or 32 bytes and a nonce of 12: ciphertext and tag, 16 bytes more than the text, to the
+// front of the lent buffer. A wrong length, a text over 2^36 - 32 bytes or too little room is refused: false, and nothing
+// is written.
+pub fn seal(key: &[u8], nonce: &[u8], text: &[u8], out: &mut [u8]) -> bool
+    ensures { λ r. ⌜ r ≡ sealLawful (now (key .entry)) (now (nonce .entry)) (now (text .entry)) (now (out .entry)) ⌝ }
+    ensures { λ r. ⌜ now (out .exit) ≡ sealedOf (now (key .entry)) (now (nonce .entry)) (now (text .entry)) (now (out .entry)) ⌝ }
+{
+    let nk = lawful_words(
+        key.len(),
+        nonce.len(),
+        text.len(),
+        text.len() + 16,
+        out.len(),
+    );
+    if nk == 0 {
+        return false;
+    }
+    let sbox = aes_tables::sbox();
+    let t = aes_tables::mix_table();
+    let w = aes::key::expand(&sbox, key, nk);
+    seal_at(&t, &sbox, &w, nk + 6, ctr::read_nonce(nonce), text, out);
+    true
+}
+
+// Opens ciphertext and tag: the text, 16 bytes less, to the front of the lent buffer. Nothing is written where the tag is
+// wrong, or where a length or the room is.
+pub fn open(key: &[u8], nonce: &[u8], s: &[u8], out: &mut [u8]) -> Opened
+    ensures { λ r. ⌜ r ≡ openAnswer (now (key .entry)) (now (nonce .entry)) (now (s .entry)) (now (out .entry)) ⌝ }
+    ensures { λ r. ⌜ now (out .exit) ≡ openOut (now (key .entry)) (now (nonce .entry)) (now (s .entry)) (now (out .entry)) ⌝ }
+{
+    if s.len() < 16 {
+        return Opened::Unlawful;
+    }
+    let due = s.len() - 16;
+    let nk = lawful_words(key.len(), nonce.len(), due, due, out.len());
+    if nk == 0 {
+        return Opened::Unlawful;
+    }
+    let sbox = aes_tables::sbox();
+    let t = aes_tables::mix_table();
+    let w = aes::key::expand(&sbox, key, nk);
+    if open_at(&t, &sbox, &w, nk + 6, ctr::read_nonce(nonce), s, out) {
+        return Opened::Text;
+    }
+    Opened::Forged
+}
