@@ -1,8 +1,29 @@
--- The number that an exported function answers.
+-- The numbers that the exported functions answer.
 use mathlib.Core.Bool.{Bool, true, false}
+use mathlib.Core.List.{List}
 use Prim.Native.Nat.{ℕ}
+use lib.Dec.{eqb, leb}
+use lib.ListN.{length}
+use Rattle.octets.specs.Buffers.{both, put}
+use Rattle.octets.specs.Numbers.{be, toBe}
+use Rattle.aes.specs.KeyExpansion.{if}
+use Rattle.ghash.specs.Ghash.{blocks, ghash}
+use Rattle.gcm.specs.declared.Opened.{Opened}
+use Rattle.gcm.specs.declared.Opened.the-variants.{Text, Forged, Unlawful}
 
 -- 0 where the arguments are lawful, and 1
 abbrev pub answer : Bool → ℕ
 answer true = 0
 answer false = 1
+
+abbrev pub number : Opened → ℕ
+number Text = 0
+number Unlawful = 1
+number Forged = 2
+
+-- GHASH asks for a hash key of 16 bytes and room for 16
+unfoldable pub hashLawful : List ℕ → List ℕ → Bool
+hashLawful h out = both (eqb (length h) 16) (leb 16 (length out))
+
+unfoldable pub hashOut : List ℕ → List ℕ → List ℕ → List ℕ
+hashOut h text out = if (hashLawful h out) (put out 0 (toBe 16 (ghash (be 16 h) (blocks text)))) out

@@ -3,18 +3,17 @@
 use mathlib.Core.Path.{_≡_, sym, ap, ap₂, _∙_, subst}
 use mathlib.Core.Bool.{Bool}
 use mathlib.Core.List.{List, [], _∷_, _++_}
-use Prim.Native.Nat.{ℕ, zero, suc, _+_, _-_, _*_, _/_, _^_, _≤_, _<_}
+use Prim.Native.Nat.{ℕ, _+_, _-_, _*_, _≤_}
 use native.Mathlib.Nat.{zero-add}
 use native.Mathlib.Omega.{arith}
-use lib.Arith.{digits-div}
 use lib.Bits.{bitXor}
 use lib.Dec.{T, lit<}
 use lib.ListN.{length, take, drop, length-append}
 use lib.Seq.{take-at, drop-at}
 use Rattle.octets.specs.Buffers.{put, same}
 use Rattle.octets.specs.Numbers.{toBe}
-use Rattle.octets.proofs.BufferLaws.{rest, take-put, drop-put, put-put, put-whole, same-refl, same-eq}
-use Rattle.octets.proofs.NumberLaws.{length-toBe, toBe-add, toBe-high}
+use Rattle.octets.proofs.BufferLaws.{rest, take-put, drop-put, put-put, same-refl, same-eq}
+use Rattle.octets.proofs.NumberLaws.{length-toBe}
 use Rattle.ghash.specs.Field.{mul}
 use Rattle.ghash.specs.Ghash.{blocks, ghashFrom, ghash}
 use Rattle.ghash.specs.Words.{words}
@@ -31,15 +30,6 @@ pub hash-law : (h y : ℕ) (c : List ℕ) → y ≡ ghashFrom h 0 (blocks c) →
 unfolding hashed ghash
 hash-law h y c e =
     ap₂ (λ (a b : ℕ). mul (bitXor a b) h) e (zero-add (8 * length c)) ∙ sym (ghash-snoc h 0 (blocks c) (8 * length c))
-
--- the bytes of an element of two words
-pub element-law : (d : List ℕ) (hi lo : ℕ) → length d ≡ 16 → lo < 2 ^ 64 → put (put d 0 (toBe 8 hi)) 8 (toBe 8 lo) ≡ toBe 16 (words hi lo)
-element-law d hi lo e h =
-    let n : 0 + length (toBe 8 hi) ≡ 8 = zero-add _ ∙ length-toBe 8 hi in
-    ap (λ (k : ℕ). put (put d 0 (toBe 8 hi)) k (toBe 8 lo)) (sym n)
-    ∙ put-put d 0 (toBe 8 hi) (omega (arith, n)) (toBe 8 lo)
-    ∙ put-whole d (toBe 8 hi ++ toBe 8 lo) (omega (arith, length-append (toBe 8 hi) (toBe 8 lo), length-toBe 8 hi, length-toBe 8 lo))
-    ∙ sym (toBe-add 8 8 (words hi lo) ∙ ap₂ (λ (a b : List ℕ). a ++ b) (ap (toBe 8) (digits-div hi h)) (toBe-high 8 hi lo))
 
 -- ---- sealing and opening
 

@@ -37,8 +37,7 @@ fn element_bytes(x: Element) -> [u8; 16]
     ensures { λ r. ⌜ r ≡ toBe 16 (blockOf x) ⌝ }
 {
     let mut b = [0u8; 16];
-    octets::write_u64_be(&mut b, 0, x.hi);
-    octets::write_u64_be(&mut b, 8, x.lo);
+    ghash::write_element(&mut b, x);
     b
 }
 

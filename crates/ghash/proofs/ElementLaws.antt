@@ -1,16 +1,19 @@
 -- An element of two words: its bits, its shift by one, and its bytes.
 -- Assumes nothing.
 use mathlib.Core.Path.{_≡_, sym, ap, ap₂, _∙_}
-use mathlib.Core.List.{List}
+use mathlib.Core.List.{List, _++_}
 use Prim.Native.Nat.{ℕ, _+_, _-_, _*_, _/_, _%_, _^_, _<_, _≤_}
-use native.Mathlib.Nat.{mul-assoc, add-zero}
+use native.Mathlib.Nat.{mul-assoc, add-zero, zero-add}
 use native.Mathlib.Omega.{arith}
 use lib.Pow.{shr-shr, high, low, field, mod-mod-pow}
 use lib.Bits.{bitXor, xor-block, xor-zero-r, block-half, block-odd}
-use lib.ListN.{drop}
+use lib.Arith.{digits-div}
+use lib.ListN.{length, drop}
 use lib.Seq.{drop-drop}
-use Rattle.octets.specs.Numbers.{be}
-use Rattle.octets.proofs.NumberLaws.{be-add}
+use Rattle.octets.specs.Buffers.{put}
+use Rattle.octets.specs.Numbers.{be, toBe}
+use Rattle.octets.proofs.BufferLaws.{put-put}
+use Rattle.octets.proofs.NumberLaws.{be-add, length-toBe, toBe-add, toBe-high}
 use Rattle.ghash.specs.Field.{bitAt, R, next}
 use Rattle.ghash.specs.Words.{words}
 
@@ -51,3 +54,12 @@ module _ (hi lo : ℕ) (fits : lo < 2 ^ 64) where
 -- a block is its two words
 pub be-words : (s : List ℕ) (at : ℕ) → words (be 8 (drop at s)) (be 8 (drop (at + 8) s)) ≡ be 16 (drop at s)
 be-words s at = sym (be-add 8 8 (drop at s) ∙ ap (λ (t : List ℕ). be 8 (drop at s) * 2 ^ 64 + be 8 t) (drop-drop 8 at s))
+
+-- two words written one behind the other are the bytes of the block
+pub put-words : (d : List ℕ) (hi lo : ℕ) → 16 ≤ length d → lo < 2 ^ 64
+    → put (put d 0 (toBe 8 hi)) 8 (toBe 8 lo) ≡ put d 0 (toBe 16 (words hi lo))
+put-words d hi lo e h =
+    let n : 0 + length (toBe 8 hi) ≡ 8 = zero-add _ ∙ length-toBe 8 hi in
+    ap (λ (k : ℕ). put (put d 0 (toBe 8 hi)) k (toBe 8 lo)) (sym n)
+    ∙ put-put d 0 (toBe 8 hi) (omega (arith, n)) (toBe 8 lo)
+    ∙ ap (put d 0) (sym (toBe-add 8 8 (words hi lo) ∙ ap₂ (λ (a b : List ℕ). a ++ b) (ap (toBe 8) (digits-div hi h)) (toBe-high 8 hi lo)))

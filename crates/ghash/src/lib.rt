@@ -4,7 +4,8 @@ ghost use mathlib.Core.Path.{_≡_};
 ghost use Prim.Native.Nat.{_*_, _<_, _≤_};
 ghost use lib.Bits.{bitXor};
 ghost use lib.ListN.{length, drop};
-ghost use Rattle.octets.specs.Numbers.{be};
+ghost use Rattle.octets.specs.Buffers.{put};
+ghost use Rattle.octets.specs.Numbers.{be, toBe};
 ghost use Rattle.ghash.specs.Field as field;
 ghost use Rattle.ghash.specs.Ghash.{blocks, ghashFrom};
 ghost use Rattle.ghash.specs.Words.{blockOf};
@@ -79,6 +80,15 @@ pub fn block_at(s: &[u8], at: usize) -> Element
         hi: octets::read_u64_be(s, at),
         lo: octets::read_u64_be(s, at + 8),
     }
+}
+
+// The bytes of a block, to the front of the lent buffer.
+pub fn write_element(out: &mut [u8], x: Element)
+    requires { ⌜ 16 ≤ length (now out) ⌝ }
+    ensures { λ _. ⌜ now (out .exit) ≡ put (now (out .entry)) 0 (toBe 16 (blockOf x)) ⌝ }
+{
+    octets::write_u64_be(out, 0, x.hi);
+    octets::write_u64_be(out, 8, x.lo);
 }
 
 // GHASH from y on over the bytes of s, the last block filled up with zeros.

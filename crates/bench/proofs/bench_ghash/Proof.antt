@@ -1,0 +1,24 @@
+use borrow.Author.Needs.{needs}
+use Rattle.bench.proofs.HashLaws.{no-key, no-room, hash-done}
+use Rattle.bench.proofs.bench_ghash.Statement.{statement}
+use Rattle.bench.proofs.bench_ghash.Tie as tie
+
+returns-3 : tie.Need-returns-3
+returns-3 c =
+    let w = c .before .before in
+    let g = w .before .before in
+    let b = g .before in
+    let r = b .before in
+    hash-done _ _ _ (r .before .if1 .left) (r .if2 .left) _ _ _ (b .block-at .ensures) (g .ghash .ensures) (w .write-element .ensures)
+
+pub bench-ghash-spec : {M : Type 1} → statement M
+bench-ghash-spec =
+    tie.close
+    (tie.spec
+    (λ c. no-key _ _ _ (c .if1 .taken))
+    (λ c. no-room _ _ _ (c .before .if1 .left) (c .if2 .taken))
+    (λ c κs. search needs)
+    (λ c κs. search needs)
+    (λ c κs. search needs)
+    (λ c. search needs)
+    returns-3)
