@@ -308,16 +308,17 @@ def selftest():
     return failed
 
 
-def main():
+def run(selftest, success):
+    """The command line of a reference program."""
     if sys.argv[1:] != ["--selftest"]:
-        sys.exit("usage: python3 reference/aes.py --selftest")
+        sys.exit(f"usage: python3 {sys.argv[0]} --selftest")
     failed = selftest()
     for name in failed:
         print(f"{name}: differs")
     if failed:
         sys.exit(1)
-    print("FIPS 197 appendices A, B and C, SP 800-38A F.5: all agree")
+    print(success)
 
 
 if __name__ == "__main__":
-    main()
+    run(selftest, "FIPS 197 appendices A, B and C, SP 800-38A F.5: all agree")
