@@ -8,9 +8,10 @@ export CARGO_TARGET_DIR := $(CURDIR)/target/host
 test:
 	.ci/run
 
-# The data of the program vectors_aes and what it must print.
+# The data of the programs vectors_aes and vectors_gcm and what they must print.
 vectors:
 	python3 tools/aes-vectors.py
+	python3 tools/gcm-vectors.py
 
 # The table of speeds. libssl-dev has the libcrypto.so that the linker asks for.
 bench:

@@ -18,32 +18,25 @@ stdout          What the program prints when nothing differs.
 Every vector is first checked with reference/aes.py, in both directions.
 """
 
-import hashlib
 import itertools
 import sys
-from pathlib import Path
-
-ROOT = Path(__file__).resolve().parent.parent
 
 sys.dont_write_bytecode = True  # no __pycache__ in the tree
-sys.path.insert(0, str(ROOT / "reference"))
+import vectors  # noqa: E402
 import aes  # noqa: E402
 
-CAVP = ROOT / "vectors" / "aes-block-cavp.txt"
-PROGRAM = ROOT / "crates" / "vectors_aes"
+CAVP = "aes-block-cavp.txt"
 
 RANDOM_BLOCKS = 64  # for each key length
-DATA_LIMIT = 131_072  # bytes; the program is to read aes.bin whole
 
 
 def cavp_groups():
     """The CAVP file's lines by (bits, group), in the file's order."""
-    text = CAVP.read_text("ascii")
-    lines = [line.split() for line in text.splitlines() if line and not line.startswith("#")]
+    lines = vectors.lines(CAVP)
     for (bits, group), members in itertools.groupby(lines, key=lambda line: line[:2]):
         blocks = [tuple(map(bytes.fromhex, fields)) for _, _, *fields in members]
         if any(len(key) * 8 != int(bits) for key, _, _ in blocks):
-            raise ValueError(f"{CAVP.name}: {bits} {group}: a key of another length")
+            raise ValueError(f"{CAVP}: {bits} {group}: a key of another length")
         yield f"{bits} {group}", blocks
 
 
@@ -53,16 +46,11 @@ def appendix_groups():
 
 
 def random_groups():
-    """Keys and plaintexts from SHAKE256 of the group's name, the same in every run."""
     for key_length in (16, 24, 32):
         name = f"{key_length * 8} reference"
-        size = key_length + 16
-        stream = hashlib.shake_256(name.encode()).digest(RANDOM_BLOCKS * size)
-        blocks = []
-        for start in range(0, len(stream), size):
-            key = stream[start : start + key_length]
-            plaintext = stream[start + key_length : start + size]
-            blocks.append((key, plaintext, aes.encrypt(key, plaintext)))
+        strings = vectors.stream(name, *(key_length, 16) * RANDOM_BLOCKS)
+        # The iterator twice: a key and the plaintext behind it.
+        blocks = [(key, text, aes.encrypt(key, text)) for key, text in zip(strings, strings)]
         yield name, blocks
 
 
@@ -77,44 +65,27 @@ def check_groups(groups):
                 yield f"{name}, block {number}: the reference decrypts to another plaintext"
 
 
-def name_field(name):
-    return len(name).to_bytes(1, "big") + name.encode("ascii")
+def key_group(name, key, w):
+    return vectors.name_field(name) + vectors.number(len(key), 1) + b"".join(w)
 
 
-def keys_file(expansions):
-    data = b""
-    for name, key, w in expansions:
-        data += name_field(name) + len(key).to_bytes(1, "big") + b"".join(w)
-    return data + bytes(1)
-
-
-def blocks_file(groups):
-    data = b""
-    for name, blocks in groups:
-        key_length = len(blocks[0][0])
-        data += name_field(name) + key_length.to_bytes(1, "big") + len(blocks).to_bytes(2, "big")
-        data += b"".join(b"".join(block) for block in blocks)
-    data += bytes(1)
-    if len(data) >= DATA_LIMIT:
-        raise ValueError(f"aes.bin has {len(data)} bytes, not under {DATA_LIMIT}")
-    return data
+def block_group(name, blocks):
+    key_length = len(blocks[0][0])
+    head = vectors.name_field(name) + vectors.number(key_length, 1) + vectors.number(len(blocks), 2)
+    return head + b"".join(b"".join(block) for block in blocks)
 
 
 def expected_output(expansions, groups):
-    lines = [f"{name}: {len(w)} words, 0 differ" for name, _, w in expansions]
+    for name, _, w in expansions:
+        yield f"{name}: {len(w)} words, 0 differ"
     for name, blocks in groups:
-        lines.append(f"{name}: {len(blocks)} encrypted, {len(blocks)} decrypted, 0 differ")
+        yield f"{name}: {len(blocks)} encrypted, {len(blocks)} decrypted, 0 differ"
     blocks = sum(len(blocks) for _, blocks in groups)
     words = sum(len(w) for _, _, w in expansions)
-    lines.append(f"total: {blocks} encrypted, {blocks} decrypted, {words} words, 0 differ")
-    return "".join(line + "\n" for line in lines).encode("ascii")
+    yield f"total: {blocks} encrypted, {blocks} decrypted, {words} words, 0 differ"
 
 
-def main():
-    if sys.argv[1:] not in ([], ["--check"]):
-        sys.exit("usage: python3 tools/aes-vectors.py [--check]")
-    check = bool(sys.argv[1:])
-
+def make():
     expansions = []
     for name, key, _ in aes.KEY_EXPANSIONS:
         key = bytes.fromhex(key)
@@ -124,26 +95,14 @@ def main():
     # The self-test holds each expanded key to the last four words that FIPS 197 prints.
     problems = [f"{name}: the reference differs" for name in aes.selftest()]
     problems += check_groups(groups)
-    files = {
-        PROGRAM / "data" / "keys.bin": keys_file(expansions),
-        PROGRAM / "data" / "aes.bin": blocks_file(groups),
-        PROGRAM / "stdout": expected_output(expansions, groups),
+    data = {
+        "keys.bin": vectors.data_file("keys.bin", (key_group(*each) for each in expansions)),
+        "aes.bin": vectors.data_file("aes.bin", (block_group(*each) for each in groups)),
     }
-    if check:
-        for path, content in files.items():
-            if not path.is_file() or path.read_bytes() != content:
-                problems.append(f"{path.relative_to(ROOT)}: not what this script writes")
-    if problems:
-        sys.exit("\n".join(problems))
-
-    if not check:
-        for path, content in files.items():
-            path.parent.mkdir(parents=True, exist_ok=True)
-            path.write_bytes(content)
     blocks = sum(len(blocks) for _, blocks in groups)
-    state = "as committed" if check else "written"
-    print(f"{blocks} AES blocks in {len(groups)} groups agree with the reference; files {state}")
+    agreement = f"{blocks} AES blocks in {len(groups)} groups agree with the reference"
+    return data, expected_output(expansions, groups), problems, agreement
 
 
 if __name__ == "__main__":
-    main()
+    vectors.run("vectors_aes", make)
