@@ -67,7 +67,7 @@ impl<'a> Child<'a> {
 impl Runner for Child<'_> {
     fn output(&mut self, row: usize, contestant: usize) -> io::Result<Vec<u8>> {
         self.ask(&format!("output {row} {contestant}"))?;
-        let mut output = vec![0; self.rows[row].size];
+        let mut output = vec![0; self.rows[row].buffer];
         self.answers.read_exact(&mut output)?;
         Ok(output)
     }

@@ -71,8 +71,10 @@ impl<'a> Contest<'a> {
         }
     }
 
-    /// Holds each row's outputs to each other, byte for byte.
-    pub fn compare(&mut self) -> Result<(), Box<dyn Error>> {
+    /// Holds each row's outputs to each other, byte for byte. Answers how many rows
+    /// have several.
+    pub fn compare(&mut self) -> Result<usize, Box<dyn Error>> {
+        let mut compared = 0;
         for (index, row) in self.rows.iter().enumerate() {
             let mut first: Option<(&Column, Vec<u8>)> = None;
             for column in &COLUMNS {
@@ -84,7 +86,7 @@ impl<'a> Contest<'a> {
                     first = Some((column, output));
                     continue;
                 };
-                if let Some(place) = (0..row.size).find(|&i| output[i] != expected[i]) {
+                if let Some(place) = (0..row.buffer).find(|&i| output[i] != expected[i]) {
                     return Err(format!(
                         "{}, {} bytes: {} and {} differ from byte {place} on",
                         row.name, row.size, other.title, column.title
@@ -92,8 +94,9 @@ impl<'a> Contest<'a> {
                     .into());
                 }
             }
+            compared += usize::from(row.contestants.len() > 1);
         }
-        Ok(())
+        Ok(compared)
     }
 
     /// Times the rows round by round. Within a row the columns take turns, so that

@@ -47,7 +47,7 @@ fn run(rows: &[Row]) -> Result<(), Box<dyn Error>> {
         .into());
     }
     let mut contest = Contest::new(rows)?;
-    contest.compare()?;
+    let compared = contest.compare()?;
 
     let with = openssl::capabilities();
     let without = contest.child.capabilities()?;
@@ -55,13 +55,11 @@ fn run(rows: &[Row]) -> Result<(), Box<dyn Error>> {
     println!("OpenSSL  {}", openssl::version());
     println!("         with processor instructions:    {with}");
     println!("         without processor instructions: {without}");
-    println!(
-        "Outputs  compared byte for byte in {} cases: all equal",
-        rows.len()
-    );
+    println!("Outputs  compared byte for byte in {compared} cases: all equal");
     println!("Speed    MB/s (10^6 bytes), median of {ROUNDS} interleaved rounds (quartiles)");
     println!("         buffers are warm; each call expands its key");
     println!("Ratio    of speeds in the same round, median (quartiles)");
+    println!("Time     of one call at the median speed");
     println!();
     table::print(&contest.measure()?);
     Ok(())

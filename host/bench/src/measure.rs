@@ -3,7 +3,7 @@
 use std::io;
 use std::time::{Duration, Instant};
 
-use crate::rows::{Row, Work};
+use crate::rows::{self, Row, Work};
 
 /// A process that runs contestants, each named by its row and its place there.
 pub trait Runner {
@@ -17,42 +17,40 @@ pub trait Runner {
 /// This process.
 pub struct Here<'a> {
     rows: &'a [Row],
-    /// Shared by all contestants, as long as the longest row.
+    /// Shared by all contestants, as long as the longest that a row asks for.
     buffer: Vec<u8>,
 }
 
 impl<'a> Here<'a> {
     pub fn new(rows: &'a [Row]) -> Self {
-        let longest = rows.iter().map(|row| row.size).max().unwrap_or(0);
+        let longest = rows.iter().map(|row| row.buffer).max().unwrap_or(0);
         Self {
             rows,
             buffer: vec![0; longest],
         }
     }
 
-    /// The contestant's work and the row's part of the buffer.
-    fn find(&mut self, row: usize, contestant: usize) -> io::Result<(&Work, &mut [u8])> {
+    /// The contestant's work, the row's input and its part of the buffer.
+    fn find(&mut self, row: usize, contestant: usize) -> io::Result<(&Work, &[u8], &mut [u8])> {
         let missing = || io::Error::new(io::ErrorKind::InvalidInput, "no such contestant");
         let row = self.rows.get(row).ok_or_else(missing)?;
         let contestant = row.contestants.get(contestant).ok_or_else(missing)?;
-        Ok((&contestant.work, &mut self.buffer[..row.size]))
+        let buffer = &mut self.buffer[..row.buffer];
+        Ok((&contestant.work, &row.input, buffer))
     }
 }
 
 impl Runner for Here<'_> {
     fn output(&mut self, row: usize, contestant: usize) -> io::Result<Vec<u8>> {
-        let (work, data) = self.find(row, contestant)?;
-        for (index, byte) in data.iter_mut().enumerate() {
-            // An odd period: neighbouring blocks differ.
-            *byte = (index % 251) as u8;
-        }
-        work(data);
-        Ok(data.to_vec())
+        let (work, input, buffer) = self.find(row, contestant)?;
+        rows::fill(buffer);
+        work(input, buffer);
+        Ok(buffer.to_vec())
     }
 
     fn nanoseconds(&mut self, row: usize, contestant: usize) -> io::Result<f64> {
-        let (work, data) = self.find(row, contestant)?;
-        Ok(nanoseconds_per_call(work, data))
+        let (work, input, buffer) = self.find(row, contestant)?;
+        Ok(nanoseconds_per_call(|| work(input, buffer)))
     }
 }
 
@@ -61,12 +59,12 @@ const BATCH: Duration = Duration::from_millis(2);
 
 /// Batches double until one is long enough for the clock; the shorter ones warm
 /// the caches after another contestant or process had them.
-fn nanoseconds_per_call(work: &Work, data: &mut [u8]) -> f64 {
+fn nanoseconds_per_call(mut call: impl FnMut()) -> f64 {
     let mut calls = 1_u32;
     loop {
         let start = Instant::now();
         for _ in 0..calls {
-            work(data);
+            call();
         }
         let elapsed = start.elapsed();
         if elapsed >= BATCH {

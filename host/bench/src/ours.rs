@@ -11,6 +11,34 @@ extern "C" {
         data: *mut u8,
         data_len: usize,
     ) -> u32;
+    fn bench_ghash(
+        h: *const u8,
+        h_len: usize,
+        text: *const u8,
+        text_len: usize,
+        out: *mut u8,
+        out_len: usize,
+    ) -> u32;
+    fn bench_gcm_seal(
+        key: *const u8,
+        key_len: usize,
+        nonce: *const u8,
+        nonce_len: usize,
+        text: *const u8,
+        text_len: usize,
+        out: *mut u8,
+        out_len: usize,
+    ) -> u32;
+    fn bench_gcm_open(
+        key: *const u8,
+        key_len: usize,
+        nonce: *const u8,
+        nonce_len: usize,
+        sealed: *const u8,
+        sealed_len: usize,
+        out: *mut u8,
+        out_len: usize,
+    ) -> u32;
 }
 
 /// Encrypts `data` in place in counter mode from `counter` on, a 32-bit counter
@@ -39,4 +67,75 @@ pub fn aes_ctr(key: &[u8], nonce: &[u8; 12], counter: u32, data: &mut [u8]) {
         "bench_aes_ctr refused a key of {} bytes",
         key.len()
     );
+}
+
+/// GHASH of `text`, its last block filled up with zeros, under the hash subkey `h`,
+/// to the front of `out`.
+///
+/// # Panics
+///
+/// If `out` is shorter than a block.
+pub fn ghash(h: &[u8; 16], text: &[u8], out: &mut [u8]) {
+    // SAFETY: as in `aes_ctr`, with `out` the one that is borrowed mutably.
+    let refused = unsafe {
+        bench_ghash(
+            h.as_ptr(),
+            h.len(),
+            text.as_ptr(),
+            text.len(),
+            out.as_mut_ptr(),
+            out.len(),
+        )
+    };
+    assert_eq!(refused, 0, "bench_ghash refused its lengths");
+}
+
+/// Seals `text` to the front of `out`: ciphertext and tag.
+///
+/// # Panics
+///
+/// If the key has not 16, 24 or 32 bytes, or `out` is shorter than `text` and tag.
+pub fn gcm_seal(key: &[u8], nonce: &[u8; 12], text: &[u8], out: &mut [u8]) {
+    // SAFETY: as in `aes_ctr`, with `out` the one that is borrowed mutably.
+    let refused = unsafe {
+        bench_gcm_seal(
+            key.as_ptr(),
+            key.len(),
+            nonce.as_ptr(),
+            nonce.len(),
+            text.as_ptr(),
+            text.len(),
+            out.as_mut_ptr(),
+            out.len(),
+        )
+    };
+    assert_eq!(refused, 0, "bench_gcm_seal refused its lengths");
+}
+
+/// Opens `sealed` to the front of `out`. Answers false, and writes nothing, where
+/// the tag is wrong.
+///
+/// # Panics
+///
+/// If the key has not 16, 24 or 32 bytes, `sealed` has no tag, or `out` is shorter
+/// than the text.
+pub fn gcm_open(key: &[u8], nonce: &[u8; 12], sealed: &[u8], out: &mut [u8]) -> bool {
+    // SAFETY: as in `aes_ctr`, with `out` the one that is borrowed mutably.
+    let answer = unsafe {
+        bench_gcm_open(
+            key.as_ptr(),
+            key.len(),
+            nonce.as_ptr(),
+            nonce.len(),
+            sealed.as_ptr(),
+            sealed.len(),
+            out.as_mut_ptr(),
+            out.len(),
+        )
+    };
+    match answer {
+        0 => true,
+        2 => false,
+        _ => panic!("bench_gcm_open refused its lengths"),
+    }
 }

@@ -3,6 +3,8 @@
 //! A new primitive is one more function that makes rows, a new library one more
 //! [`Library`] with its contestants and its column.
 
+use std::cell::RefCell;
+
 use crate::{openssl, ours};
 
 /// Whose code a contestant runs.
@@ -12,18 +14,30 @@ pub enum Library {
     OpenSsl,
 }
 
-/// The work of one call, done on a buffer of the row's size.
-pub type Work = Box<dyn Fn(&mut [u8])>;
+/// The work of one call, from the row's input to its buffer, or in the buffer alone.
+pub type Work = Box<dyn Fn(&[u8], &mut [u8])>;
 
 pub struct Contestant {
     pub library: Library,
     pub work: Work,
 }
 
+impl Contestant {
+    fn new(library: Library, work: impl Fn(&[u8], &mut [u8]) + 'static) -> Self {
+        let work = Box::new(work);
+        Self { library, work }
+    }
+}
+
 /// The same work by several libraries: from equal buffers all leave equal ones.
 pub struct Row {
     pub name: String,
+    /// The bytes that are worked on, by which the speed is counted.
     pub size: usize,
+    /// Empty where the work is done in place.
+    pub input: Vec<u8>,
+    /// The length of the buffer.
+    pub buffer: usize,
     /// Rows that are not timed are only compared.
     pub timed: bool,
     /// At most one for each library; a library without one has an empty cell.
@@ -46,14 +60,34 @@ impl Row {
     }
 }
 
+/// Fills a buffer before its work. The period is odd, so that neighbouring blocks
+/// differ.
+pub fn fill(buffer: &mut [u8]) {
+    for (index, byte) in buffer.iter_mut().enumerate() {
+        *byte = (index % 251) as u8;
+    }
+}
+
 /// A short datagram, one that fits an Ethernet frame, and the whole blocks of the
 /// longest one.
-const SIZES: [usize; 3] = [64, 1_400, 65_504];
+const SIZES: [usize; 3] = [64, 1_400, WHOLE_BLOCKS];
+
+/// A short datagram's body, one that fits an Ethernet frame, one that fits a jumbo
+/// frame, and the longest.
+const BODIES: [usize; 4] = [64, 1_400, 9_000, 65_507];
+
+const FORGED_BODIES: [usize; 2] = [64, 65_507];
+
+const WHOLE_BLOCKS: usize = 65_504;
 
 const KEY_LENGTHS: [usize; 3] = [16, 24, 32];
 
+/// Those of the Shadowsocks 2022 methods.
+const GCM_KEY_LENGTHS: [usize; 2] = [16, 32];
+
 const KEY: [u8; 32] = *b"thirty-two bytes to serve as key";
 const NONCE: [u8; 12] = *b"twelve bytes";
+const HASH_SUBKEY: [u8; 16] = *b"a block to hash!";
 
 /// The counter of GCM's first block of text.
 const FIRST_COUNTER: u32 = 2;
@@ -71,6 +105,12 @@ pub fn all() -> Vec<Row> {
             );
         }
     }
+    rows.push(ghash(WHOLE_BLOCKS));
+    for key_length in GCM_KEY_LENGTHS {
+        rows.extend(BODIES.map(|size| gcm_seal(key_length, size)));
+        rows.extend(BODIES.map(|size| gcm_open(key_length, size)));
+        rows.extend(FORGED_BODIES.map(|size| gcm_forged(key_length, size)));
+    }
     rows
 }
 
@@ -80,16 +120,123 @@ fn aes_ctr(key_length: usize, size: usize, counter: u32) -> Row {
     Row {
         name: format!("AES-{} CTR", 8 * key_length),
         size,
+        input: Vec::new(),
+        buffer: size,
         timed: true,
         contestants: vec![
-            Contestant {
-                library: Library::Ours,
-                work: Box::new(move |data| ours::aes_ctr(key, &NONCE, counter, data)),
-            },
-            Contestant {
-                library: Library::OpenSsl,
-                work: Box::new(move |data| context.apply(key, &NONCE, counter, data)),
-            },
+            Contestant::new(Library::Ours, move |_, data| {
+                ours::aes_ctr(key, &NONCE, counter, data);
+            }),
+            Contestant::new(Library::OpenSsl, move |_, data| {
+                context.apply(key, &NONCE, counter, data);
+            }),
         ],
     }
+}
+
+/// OpenSSL has no function for GHASH alone.
+fn ghash(size: usize) -> Row {
+    Row {
+        name: "GHASH".to_string(),
+        size,
+        input: text(size),
+        buffer: 16,
+        timed: true,
+        contestants: vec![Contestant::new(Library::Ours, |text, out| {
+            ours::ghash(&HASH_SUBKEY, text, out);
+        })],
+    }
+}
+
+fn gcm_seal(key_length: usize, size: usize) -> Row {
+    let key = &KEY[..key_length];
+    let context = openssl::AesGcm::new(key_length);
+    Row {
+        name: gcm_name(key_length, "seal"),
+        size,
+        input: text(size),
+        buffer: size + openssl::TAG_LENGTH,
+        timed: true,
+        contestants: vec![
+            Contestant::new(Library::Ours, move |text, out| {
+                ours::gcm_seal(key, &NONCE, text, out);
+            }),
+            Contestant::new(Library::OpenSsl, move |text, out| {
+                context.seal(key, &NONCE, text, out);
+            }),
+        ],
+    }
+}
+
+fn gcm_open(key_length: usize, size: usize) -> Row {
+    let key = &KEY[..key_length];
+    let context = openssl::AesGcm::new(key_length);
+    Row {
+        name: gcm_name(key_length, "open"),
+        size,
+        input: sealed(&context, key, size),
+        buffer: size,
+        timed: true,
+        contestants: vec![
+            Contestant::new(Library::Ours, move |sealed, out| {
+                assert!(
+                    ours::gcm_open(key, &NONCE, sealed, out),
+                    "sealed text refused"
+                );
+            }),
+            Contestant::new(Library::OpenSsl, move |sealed, out| {
+                assert!(
+                    context.open(key, &NONCE, sealed, out),
+                    "sealed text refused"
+                );
+            }),
+        ],
+    }
+}
+
+/// A sealed text whose tag is wrong in its last bit: all refuse it, and the buffer
+/// stays as it was.
+fn gcm_forged(key_length: usize, size: usize) -> Row {
+    let key = &KEY[..key_length];
+    let context = openssl::AesGcm::new(key_length);
+    let mut forged = sealed(&context, key, size);
+    *forged.last_mut().expect("a tag is not empty") ^= 1;
+    // For OpenSSL, which writes the text before it looks at the tag.
+    let scratch = RefCell::new(vec![0; size]);
+    Row {
+        name: gcm_name(key_length, "forged"),
+        size,
+        input: forged,
+        buffer: size,
+        timed: true,
+        contestants: vec![
+            Contestant::new(Library::Ours, move |forged, out| {
+                assert!(
+                    !ours::gcm_open(key, &NONCE, forged, out),
+                    "forged text taken"
+                );
+            }),
+            Contestant::new(Library::OpenSsl, move |forged, _| {
+                let out = &mut scratch.borrow_mut();
+                assert!(!context.open(key, &NONCE, forged, out), "forged text taken");
+            }),
+        ],
+    }
+}
+
+fn gcm_name(key_length: usize, work: &str) -> String {
+    format!("AES-{}-GCM {work}", 8 * key_length)
+}
+
+/// Differs from a filled buffer in every byte: it shows whether a text was written.
+fn text(size: usize) -> Vec<u8> {
+    let mut text = vec![0; size];
+    fill(&mut text);
+    text.iter().map(|byte| !byte).collect()
+}
+
+fn sealed(context: &openssl::AesGcm, key: &[u8], size: usize) -> Vec<u8> {
+    let mut sealed = vec![0; size + openssl::TAG_LENGTH];
+    context.seal(key, &NONCE, &text(size), &mut sealed);
+    sealed
 }

@@ -1,0 +1,107 @@
+//! AES-GCM.
+
+use std::os::raw::{c_int, c_void};
+use std::ptr;
+
+use super::{Context, Direction, EvpCipher, EvpCipherCtx};
+
+extern "C" {
+    fn EVP_aes_128_gcm() -> *const EvpCipher;
+    fn EVP_aes_256_gcm() -> *const EvpCipher;
+    fn EVP_CipherFinal_ex(ctx: *mut EvpCipherCtx, out: *mut u8, out_len: *mut c_int) -> c_int;
+    fn EVP_CIPHER_CTX_ctrl(
+        ctx: *mut EvpCipherCtx,
+        command: c_int,
+        number: c_int,
+        place: *mut c_void,
+    ) -> c_int;
+}
+
+// Commands of EVP_CIPHER_CTX_ctrl.
+const EVP_CTRL_AEAD_GET_TAG: c_int = 0x10;
+const EVP_CTRL_AEAD_SET_TAG: c_int = 0x11;
+
+pub const TAG_LENGTH: usize = 16;
+
+/// AES-GCM with one key length, nonces of 12 bytes and no additional data.
+pub struct AesGcm(Context<12>);
+
+impl AesGcm {
+    /// # Panics
+    ///
+    /// If the key length is not 16 or 32.
+    pub fn new(key_length: usize) -> Self {
+        // SAFETY: the functions answer static descriptions, of ciphers with that key
+        // length and IVs of 12 bytes unless others are asked for.
+        unsafe {
+            let cipher = match key_length {
+                16 => EVP_aes_128_gcm(),
+                32 => EVP_aes_256_gcm(),
+                _ => panic!("no method has a key of {key_length} bytes"),
+            };
+            Self(Context::new(cipher, key_length))
+        }
+    }
+
+    /// Seals `text` to `out`: ciphertext and tag. The key is expanded at each call.
+    ///
+    /// # Panics
+    ///
+    /// If the key has another length than the context, or `out` not that of text and
+    /// tag.
+    pub fn seal(&self, key: &[u8], nonce: &[u8; 12], text: &[u8], out: &mut [u8]) {
+        let (ciphertext, tag) = out.split_last_chunk_mut().expect("out has a tag");
+        self.message(Direction::Encrypt, key, nonce, text, ciphertext);
+        assert!(self.finish(), "EVP_CipherFinal_ex failed");
+        self.tag(EVP_CTRL_AEAD_GET_TAG, tag);
+    }
+
+    /// Opens `sealed` to `out`, and answers whether the tag is right; `out` is
+    /// written in any case. The key is expanded at each call.
+    ///
+    /// # Panics
+    ///
+    /// If the key has another length than the context, or `sealed` not that of `out`
+    /// and tag.
+    pub fn open(&self, key: &[u8], nonce: &[u8; 12], sealed: &[u8], out: &mut [u8]) -> bool {
+        let (ciphertext, tag) = sealed.split_last_chunk().expect("sealed has a tag");
+        self.message(Direction::Decrypt, key, nonce, ciphertext, out);
+        // The command takes a mutable place, and only reads it.
+        let mut received = *tag;
+        self.tag(EVP_CTRL_AEAD_SET_TAG, &mut received);
+        self.finish()
+    }
+
+    /// A message up to its end, which needs the tag first where it is opened.
+    fn message(
+        &self,
+        direction: Direction,
+        key: &[u8],
+        nonce: &[u8; 12],
+        input: &[u8],
+        output: &mut [u8],
+    ) {
+        assert_eq!(input.len(), output.len(), "GCM keeps the length");
+        self.0.start(direction, key, nonce);
+        // SAFETY: both have that length, and `output` is borrowed mutably.
+        unsafe {
+            self.0
+                .update(input.as_ptr(), output.as_mut_ptr(), input.len())
+        }
+    }
+
+    /// Has the tag written or read, by the command.
+    fn tag(&self, command: c_int, tag: &mut [u8; TAG_LENGTH]) {
+        let place = tag.as_mut_ptr().cast();
+        // SAFETY: both commands go to the number of bytes that is given.
+        let done = unsafe { EVP_CIPHER_CTX_ctrl(self.0.ctx, command, TAG_LENGTH as c_int, place) };
+        assert_eq!(done, 1, "EVP_CIPHER_CTX_ctrl failed");
+    }
+
+    /// Ends a message, and answers whether its tag is right.
+    fn finish(&self) -> bool {
+        let mut written = 0;
+        // SAFETY: GCM has written all of the text, so nothing is written here.
+        unsafe { EVP_CipherFinal_ex(self.0.ctx, ptr::null_mut(), &mut written) == 1 }
+    }
+}
