@@ -1,21 +1,11 @@
-use mathlib.Core.Path.{sym}
-use Prim.Native.Nat.{_≤_}
 use native.Mathlib.Omega.{arith}
 use borrow.Author.Needs.{needs}
-use lib.ListN.{length}
-use lib.Seq.{length-take-le}
+use lib.ListN.{length-take}
 use Rattle.ctr.specs.Gctr.{ciphAt}
 use Rattle.ctr.specs.Words.{nonceBytes}
 use Rattle.gcm.proofs.GcmLaws.{crypt-law}
 use Rattle.gcm.proofs.crypt_into.Statement.{statement}
 use Rattle.gcm.proofs.crypt_into.Tie as tie
-
-slice-aggregate-gctr : tie.Need-slice-aggregate-gctr
-slice-aggregate-gctr c =
-    let p = c .before .before .before in
-    let n = length (p .before .before .before .before .args .text .now) in
-    let h : n ≤ length (p .copy .last .0) = omega (arith, p .copy .kept .0) in
-    sym (length-take-le n (p .copy .last .0) h)
 
 returns : tie.Need-returns
 returns c =
@@ -29,4 +19,4 @@ returns c =
 pub crypt-into-spec : {M : Type 1} → statement M
 crypt-into-spec =
     tie.close
-    (tie.spec (λ c κs. search needs) (λ c. search needs) slice-aggregate-gctr (λ c κs. search needs) (λ c. search needs) returns)
+    (tie.spec (λ c κs. search needs) (λ c. search needs) (λ c. simp length-take (omega (arith, c .before .before .before .copy .kept .0))) (λ c κs. search needs) (λ c. search needs) returns)
