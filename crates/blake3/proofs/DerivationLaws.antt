@@ -1,0 +1,51 @@
+-- The key words of the subkey's context, computed; what a derivation answers.
+-- Assumes nothing.
+use mathlib.Core.Bool.{true, false}
+use mathlib.Core.Path.{_≡_, refl, sym, ap, _∙_}
+use mathlib.Core.List.{List, [], _∷_}
+use Prim.Native.Nat.{ℕ, _<_, _≤_}
+use borrow.Author.Tests.{le-leb, lt-leb}
+use lib.Dec.{leb}
+use lib.ListN.{length, replicate}
+use Rattle.octets.specs.Numbers.{le}
+use Rattle.octets.specs.Buffers.{both}
+use Rattle.blake3.specs.declared.Derived.{Derived}
+use Rattle.blake3.specs.Words.{add32, sum3, rotr, xor, firstEight, blockWords}
+use Rattle.blake3.specs.Compression.{iv, initial, half, G, wordsAt, setAt, mixAt, columns, diagonals, oneRound, permuted, rounds, final, compressed}
+use Rattle.blake3.specs.Tree.{blocks, chunk, tree, rootOf, outputWords, contextKey, deriveAt, deriveKey}
+use Rattle.blake3.specs.Derivation.{short, answer, derived, subkeyContext}
+
+abbrev pub subkeyKey : List ℕ
+subkeyKey = 0x31ae821a ∷ 0xa375eea4 ∷ 0xea62276a ∷ 0x218e45be ∷ 0x86bb309d ∷ 0xed8ae6db ∷ 0x9af9739c ∷ 0x5f626ac7 ∷ []
+
+pub subkey-context : contextKey subkeyContext ≡ subkeyKey
+unfolding add32 sum3 rotr xor firstEight le blockWords initial half G wordsAt setAt mixAt columns diagonals oneRound permuted rounds final compressed blocks chunk tree rootOf outputWords contextKey
+subkey-context = refl
+
+-- so a subkey is what those key words give of the material
+pub derive-subkey : (material : List ℕ) → deriveAt subkeyKey material ≡ deriveKey subkeyContext material
+unfolding deriveKey
+derive-subkey material = ap (λ (k : List ℕ). deriveAt k material) (sym subkey-context)
+
+-- ---- the answers
+
+both-false : (x : _) → both x false ≡ false
+both-false true = refl
+both-false false = refl
+
+module _ (context material : List ℕ) where
+  pub derived-short : length context ≤ 64 → length material ≤ 64 → derived context material ≡ record { ok = true; bytes = deriveKey context material }
+  unfolding derived short
+  derived-short p q =
+      (λ i. answer (both (le-leb (length context) 64 p i) (le-leb (length material) 64 q i)) (deriveKey context material))
+
+  pub refused-context : 64 < length context → derived context material ≡ record { ok = false; bytes = replicate 64 0 }
+  unfolding derived short
+  refused-context p =
+      ap (λ x. answer (both x (leb (length material) 64)) (deriveKey context material)) (lt-leb (length context) 64 p)
+
+  pub refused-material : 64 < length material → derived context material ≡ record { ok = false; bytes = replicate 64 0 }
+  unfolding derived short
+  refused-material p =
+      ap (λ x. answer (both (leb (length context) 64) x) (deriveKey context material)) (lt-leb (length material) 64 p)
+      ∙ ap (λ x. answer x (deriveKey context material)) (both-false (leb (length context) 64))

@@ -1,0 +1,4 @@
+pub mod CompressionLaws
+pub mod TreeLaws
+pub mod DerivationLaws
+pub mod WordLaws

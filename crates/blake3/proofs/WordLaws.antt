@@ -1,0 +1,42 @@
+-- The bytes of words, put into a buffer word by word.
+-- Assumes nothing.
+use mathlib.Core.Path.{_≡_, refl, sym, ap, ap₂, _∙_}
+use mathlib.Core.List.{List, [], _∷_, _++_, append-assoc, append-nil}
+use Prim.Native.Nat.{ℕ, zero, suc, _+_, _*_, _<_, _≤_}
+use native.Mathlib.Nat.{zero-add, le-of-lt}
+use native.Mathlib.Numerals.{add-one}
+use native.Mathlib.Omega.{arith}
+use lib.ListN.{length, getD, take, length-append}
+use lib.Seq.{take-suc, take-length, length-take-le}
+use Rattle.octets.specs.Buffers.{put}
+use Rattle.octets.specs.Numbers.{toLe}
+use Rattle.octets.proofs.BufferLaws.{put-put, put-whole}
+use Rattle.octets.proofs.NumberLaws.{length-toLe}
+use Rattle.blake3.specs.Words.{wordBytes}
+
+pub length-wordBytes : (ws : List ℕ) → length (wordBytes ws) ≡ 4 * length ws
+unfolding wordBytes
+length-wordBytes [] = refl
+length-wordBytes (w ∷ ws) =
+    length-append (toLe 4 w) (wordBytes ws) ∙ omega (arith, length-toLe 4 w, length-wordBytes ws)
+
+wordBytes-snoc : (ws : List ℕ) (w : ℕ) → wordBytes (ws ++ w ∷ []) ≡ wordBytes ws ++ toLe 4 w
+unfolding wordBytes
+wordBytes-snoc [] w = append-nil (toLe 4 w)
+wordBytes-snoc (v ∷ ws) w =
+    ap (λ (s : List ℕ). toLe 4 v ++ s) (wordBytes-snoc ws w) ∙ sym (append-assoc (toLe 4 v) (wordBytes ws) (toLe 4 w))
+
+-- one word more
+module _ (d ws : List ℕ) (i : ℕ) (more : i < length ws) (room : 4 * length ws ≤ length d) where
+  size : 0 + length (wordBytes (take i ws)) ≡ 4 * i
+  size =
+      zero-add (length (wordBytes (take i ws))) ∙ length-wordBytes (take i ws)
+      ∙ ap (λ (n : ℕ). 4 * n) (length-take-le i ws (le-of-lt more))
+
+  pub put-word : put (put d 0 (wordBytes (take i ws))) (4 * i) (toLe 4 (getD ws i 0)) ≡ put d 0 (wordBytes (take (i + 1) ws))
+  put-word =
+      ap (λ (n : ℕ). put (put d 0 (wordBytes (take i ws))) n (toLe 4 (getD ws i 0))) (sym size)
+      ∙ put-put d 0 (wordBytes (take i ws)) (omega (arith, size)) (toLe 4 (getD ws i 0))
+      ∙ ap (put d 0)
+      (sym (wordBytes-snoc (take i ws) (getD ws i 0))
+      ∙ ap wordBytes (sym (take-suc ws i 0 more) ∙ ap (λ (n : ℕ). take n ws) (sym (add-one i))))

@@ -1,0 +1,4 @@
+pub mod Words
+pub mod Compression
+pub mod Tree
+pub mod Derivation
