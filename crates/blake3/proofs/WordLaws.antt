@@ -7,10 +7,10 @@ use native.Mathlib.Nat.{zero-add, le-of-lt}
 use native.Mathlib.Numerals.{add-one}
 use native.Mathlib.Omega.{arith}
 use lib.ListN.{length, getD, take, length-append}
-use lib.Seq.{take-suc, take-length, length-take-le}
+use lib.Seq.{take-suc, take-all, length-take-le}
 use Rattle.octets.specs.Buffers.{put}
 use Rattle.octets.specs.Numbers.{toLe}
-use Rattle.octets.proofs.BufferLaws.{put-put, put-whole}
+use Rattle.octets.proofs.BufferLaws.{put-put}
 use Rattle.octets.proofs.NumberLaws.{length-toLe}
 use Rattle.blake3.specs.Words.{wordBytes}
 
@@ -33,10 +33,17 @@ module _ (d ws : List ℕ) (i : ℕ) (more : i < length ws) (room : 4 * length w
       zero-add (length (wordBytes (take i ws))) ∙ length-wordBytes (take i ws)
       ∙ ap (λ (n : ℕ). 4 * n) (length-take-le i ws (le-of-lt more))
 
-  pub put-word : put (put d 0 (wordBytes (take i ws))) (4 * i) (toLe 4 (getD ws i 0)) ≡ put d 0 (wordBytes (take (i + 1) ws))
-  put-word =
+  put-one-more : put (put d 0 (wordBytes (take i ws))) (4 * i) (toLe 4 (getD ws i 0)) ≡ put d 0 (wordBytes (take (i + 1) ws))
+  put-one-more =
       ap (λ (n : ℕ). put (put d 0 (wordBytes (take i ws))) n (toLe 4 (getD ws i 0))) (sym size)
       ∙ put-put d 0 (wordBytes (take i ws)) (omega (arith, size)) (toLe 4 (getD ws i 0))
       ∙ ap (put d 0)
       (sym (wordBytes-snoc (take i ws) (getD ws i 0))
       ∙ ap wordBytes (sym (take-suc ws i 0 more) ∙ ap (λ (n : ℕ). take n ws) (sym (add-one i))))
+
+  pub put-word : {v w : List ℕ} → v ≡ put d 0 (wordBytes (take i ws)) → w ≡ put v (4 * i) (toLe 4 (getD ws i 0))
+      → w ≡ put d 0 (wordBytes (take (i + 1) ws))
+  put-word p q = q ∙ ap (λ (o : List ℕ). put o (4 * i) (toLe 4 (getD ws i 0))) p ∙ put-one-more
+
+pub put-words : (d ws : List ℕ) (n : ℕ) {v : List ℕ} → length ws ≤ n → v ≡ put d 0 (wordBytes (take n ws)) → v ≡ put d 0 (wordBytes ws)
+put-words d ws n h p = p ∙ ap (λ (s : List ℕ). put d 0 (wordBytes s)) (take-all n ws h)
