@@ -1,6 +1,6 @@
 -- The key words of the subkey's context, computed; what a derivation answers.
 -- Assumes nothing.
-use mathlib.Core.Bool.{true, false}
+use mathlib.Core.Bool.{Bool, true, false}
 use mathlib.Core.Path.{_≡_, refl, sym, ap, _∙_}
 use mathlib.Core.List.{List, [], _∷_}
 use Prim.Native.Nat.{ℕ, _<_, _≤_}
@@ -29,23 +29,31 @@ derive-subkey material = ap (λ (k : List ℕ). deriveAt k material) (sym subkey
 
 -- ---- the answers
 
-both-false : (x : _) → both x false ≡ false
+both-false : (x : Bool) → both x false ≡ false
 both-false true = refl
 both-false false = refl
 
 module _ (context material : List ℕ) where
-  pub derived-short : length context ≤ 64 → length material ≤ 64 → derived context material ≡ record { ok = true; bytes = deriveKey context material }
-  unfolding derived short
-  derived-short p q =
-      (λ i. answer (both (le-leb (length context) 64 p i) (le-leb (length material) 64 q i)) (deriveKey context material))
-
-  pub refused-context : 64 < length context → derived context material ≡ record { ok = false; bytes = replicate 64 0 }
+  pub refused-context : 64 < length context → record { ok = false; bytes = replicate 64 0 } ≡ derived context material
   unfolding derived short
   refused-context p =
-      ap (λ x. answer (both x (leb (length material) 64)) (deriveKey context material)) (lt-leb (length context) 64 p)
+      sym (ap (λ (x : Bool). answer (both x (leb (length material) 64)) (deriveKey context material)) (lt-leb (length context) 64 p))
 
-  pub refused-material : 64 < length material → derived context material ≡ record { ok = false; bytes = replicate 64 0 }
+  pub refused-material : 64 < length material → record { ok = false; bytes = replicate 64 0 } ≡ derived context material
   unfolding derived short
   refused-material p =
-      ap (λ x. answer (both (leb (length context) 64) x) (deriveKey context material)) (lt-leb (length material) 64 p)
-      ∙ ap (λ x. answer x (deriveKey context material)) (both-false (leb (length context) 64))
+      sym (ap (λ (x : Bool). answer (both (leb (length context) 64) x) (deriveKey context material)) (lt-leb (length material) 64 p)
+      ∙ ap (λ (x : Bool). answer x (deriveKey context material)) (both-false (leb (length context) 64)))
+
+  pub derived-short : length context ≤ 64 → length material ≤ 64
+      → record { ok = true; bytes = deriveKey context material } ≡ derived context material
+  unfolding derived short
+  derived-short p q =
+      sym (λ i. answer (both (le-leb (length context) 64 p i) (le-leb (length material) 64 q i)) (deriveKey context material))
+
+  -- as the code has it, from the context's key words k
+  pub derived-at : {k s : List ℕ} → length context ≤ 64 → length material ≤ 64 → k ≡ contextKey context → s ≡ deriveAt k material
+      → record { ok = true; bytes = s } ≡ derived context material
+  unfolding deriveKey
+  derived-at p q e f =
+      ap (answer true) (f ∙ ap (λ (k : List ℕ). deriveAt k material) e) ∙ derived-short p q

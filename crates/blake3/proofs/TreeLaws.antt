@@ -36,9 +36,10 @@ module _ (k : List ℕ) (d : ℕ) (s : List ℕ) (h : length s ≤ 64) where
       let e : (length s - 1) / 64 ≡ 0 = omega arith in
       tree-chunk k d 0 s 54 (omega arith) ∙ ap (λ (n : ℕ). blocks n k 0 d 1 s) e
 
-  -- the output's first words, as the code has them, from the block's words m
-  pub output-block : {m : List ℕ} → m ≡ blockWords s → compressed k m 0 (length s) (d + 1 + 2 + 8) ≡ outputWords (rootOf k d s) 0
+  -- the output's first words r, as the code has them, from the block's words m
+  pub output-block : {m r : List ℕ} → m ≡ blockWords s → r ≡ compressed k m 0 (length s) (d + 1 + 2 + 8)
+      → r ≡ outputWords (rootOf k d s) 0
   unfolding outputWords
-  output-block e =
-      ap (λ (m : List ℕ). compressed k m 0 (length s) (d + 1 + 2 + 8)) e
+  output-block e f =
+      f ∙ ap (λ (m : List ℕ). compressed k m 0 (length s) (d + 1 + 2 + 8)) e
       ∙ sym (ap (λ (n : Node). compressed (n .h) (n .m) 0 (n .b) (n .d + 8)) one-block)

@@ -12,9 +12,13 @@ ghost use Rattle.blake3.specs.Derivation.{derived, subkeyContext};
 pub mod compression;
 
 const CHUNK_START: u32 = 1;
+
 const CHUNK_END: u32 = 2;
+
 const ROOT: u32 = 8;
+
 const DERIVE_KEY_CONTEXT: u32 = 32;
+
 const DERIVE_KEY_MATERIAL: u32 = 64;
 
 const IV: [u32; 8] = [
@@ -125,10 +129,16 @@ pub fn derive_key(context: &[u8], material: &[u8]) -> Derived
     ensures { λ r. ⌜ r ≡ derived (now (context .entry)) (now (material .entry)) ⌝ }
 {
     if context.len() > 64 {
-        return Derived { ok: false, bytes: [0u8; 64] };
+        return Derived {
+            ok: false,
+            bytes: [0u8; 64],
+        };
     }
     if material.len() > 64 {
-        return Derived { ok: false, bytes: [0u8; 64] };
+        return Derived {
+            ok: false,
+            bytes: [0u8; 64],
+        };
     }
     let bytes = derive_at(context_key(context), material);
     Derived { ok: true, bytes }

@@ -25,8 +25,7 @@ loop-again : tie.Need-loop-again Inv-loop μ-loop
 loop-again c =
     let w = c .before .before in
     let l = w .before .before .before .before in
-    let a = l .before .before .before .args in
-    (
+    let a = l .before .before .before .args in (
       search needs,
       search needs,
       put-word (a .out .now) (a .o .now) (l .loop .i) (search needs) (search needs) (l .loop .inv .2) (w .write-u32-le .ensures),
