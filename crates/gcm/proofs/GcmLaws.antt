@@ -62,13 +62,7 @@ module _ (ciph : ℕ → List ℕ) (nonce : List ℕ) where
 
     -- what is sealed is authentic
     pub seal-authentic : Authentic ciph nonce (seal ciph nonce p)
-    unfolding seal
-    seal-authentic =
-        let c = crypt ciph nonce p in
-        record {
-          long = omega (arith, length-append c (tag ciph nonce c), length-tag c);
-          good = tag-seal ∙ ap (tag ciph nonce) (sym text-seal);
-        }
+    seal-authentic = record { good = tag-seal ∙ ap (tag ciph nonce) (sym text-seal) }
 
     -- and opens to the same text
     pub open-seal : opened ciph nonce (seal ciph nonce p) ≡ p
@@ -119,10 +113,10 @@ authentic-law ciph nonce s t b et eb = eb ∙ ap₂ same et (rest s (length s - 
 
 -- ---- opening gives a text exactly when the tag is that of the text
 
-pub authentic-exactly : (ciph : ℕ → List ℕ) (nonce s : List ℕ) → 16 ≤ length s
+pub authentic-exactly : (ciph : ℕ → List ℕ) (nonce s : List ℕ)
     → (T (authentic ciph nonce s) → Authentic ciph nonce s) × (Authentic ciph nonce s → T (authentic ciph nonce s))
 unfolding authentic
-authentic-exactly ciph nonce s h = (
-  λ t. record { long = h; good = sym (same-eq (tag ciph nonce (textOf s)) (tagOf s) t) },
+authentic-exactly ciph nonce s = (
+  λ t. record { good = sym (same-eq (tag ciph nonce (textOf s)) (tagOf s) t) },
   λ a. subst (λ (x : List ℕ). T (same (tag ciph nonce (textOf s)) x)) (sym (a .good)) (same-refl (tag ciph nonce (textOf s))),
 )

@@ -1,2 +1,3 @@
 pub mod GcmLaws
 pub mod KeyedLaws
+pub mod Theorems

@@ -2,7 +2,7 @@
 -- additional data. ciph gives the bytes of CIPH_K; a block is the number below 2^128 whose binary digits it is.
 use mathlib.Core.Path.{_≡_}
 use mathlib.Core.List.{List, [], _∷_, _++_}
-use Prim.Native.Nat.{ℕ, _-_, _*_, _≤_}
+use Prim.Native.Nat.{ℕ, _-_, _*_}
 use lib.ListN.{length, take, drop}
 use Rattle.octets.specs.Numbers.{be, toBe}
 use Rattle.ghash.specs.Ghash.{blocks, ghash}
@@ -39,9 +39,8 @@ textOf s = take (length s - 16) s
 unfoldable pub tagOf : List ℕ → List ℕ
 tagOf s = drop (length s - 16) s
 
--- 7.2, Algorithm 5: C || T is authentic where T is the tag of C, and then it opens to P
+-- 7.2, Algorithm 5: C || T is authentic where T is the tag of C, so where it has 16 bytes at least, and then it opens to P
 pub record Authentic (ciph : ℕ → List ℕ) (nonce s : List ℕ) : Type 0 where
-  pub long : 16 ≤ length s
   pub good : tagOf s ≡ tag ciph nonce (textOf s)
 
 unfoldable pub opened : (ℕ → List ℕ) → List ℕ → List ℕ → List ℕ
