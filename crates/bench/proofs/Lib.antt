@@ -1,1 +1,2 @@
 pub mod HashLaws
+pub mod SubkeyLaws

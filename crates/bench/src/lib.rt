@@ -2,7 +2,7 @@
 use gcm::Opened;
 use ghash::Element;
 ghost use mathlib.Core.Path.{_≡_};
-ghost use Rattle.bench.specs.Answer.{answer, number, hashLawful, hashOut};
+ghost use Rattle.bench.specs.Answer.{answer, number, hashLawful, hashOut, subkeyLawful, subkeyOut};
 ghost use Rattle.gcm.specs.Keyed.{sealLawful, sealed, openAnswer, openOut};
 ghost use Rattle.aes.specs.Keyed.{lawful};
 ghost use Rattle.ctr.specs.Gctr.{aesCtr};
@@ -62,5 +62,25 @@ pub extern "C" fn bench_ghash(h: &[u8], text: &[u8], out: &mut [u8]) -> u32
     }
     let y = ghash::ghash(ghash::block_at(h, 0), Element { hi: 0, lo: 0 }, text);
     ghash::write_element(out, y);
+    0
+}
+
+// The subkey of a key and a salt, of 32 bytes at most each, to the front of the lent buffer: 0, or 1 and nothing written
+// where one is longer or there is no room.
+#[no_mangle]
+pub extern "C" fn bench_subkey(key: &[u8], salt: &[u8], out: &mut [u8]) -> u32
+    ensures { λ r. ⌜ r ≡ answer (subkeyLawful (now (key .entry)) (now (salt .entry)) (now (out .entry))) ⌝ }
+    ensures { λ r. ⌜ now (out .exit) ≡ subkeyOut (now (key .entry)) (now (salt .entry)) (now (out .entry)) ⌝ }
+{
+    if key.len() > 32 {
+        return 1;
+    }
+    if salt.len() > 32 {
+        return 1;
+    }
+    if key.len() > out.len() {
+        return 1;
+    }
+    protocol::derive_subkey(key, salt, out);
     0
 }

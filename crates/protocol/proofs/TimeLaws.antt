@@ -1,0 +1,55 @@
+-- The time rule: a difference that does not wrap, and the scope's rows P1 to P3.
+-- Assumes nothing.
+use mathlib.Core.Path.{_≡_, refl, sym, ap, ap₂, _∙_}
+use mathlib.Core.Bool.{Bool, true, false}
+use Prim.Native.Nat.{ℕ, _+_, _-_, _^_, _≤_, _<_}
+use native.Mathlib.Decide.{decLe}
+use native.Mathlib.Omega.{arith}
+use lib.Dec.{leb}
+use borrow.Author.Tests.{le-leb, lt-leb}
+use Rattle.octets.specs.Buffers.{both}
+use Rattle.protocol.specs.Time.{tolerance, timeValid}
+
+-- a ≤ b: their difference is at most k exactly where b is at most a + k
+difference : (a b k : ℕ) → a ≤ b → leb (b - a) k ≡ leb b (a + k)
+difference a b k h = pick (decLe (b - a) k)
+  where
+    pick : Dec (b - a ≤ k) → leb (b - a) k ≡ leb b (a + k)
+    pick (yes l) = let m : b ≤ a + k = omega arith in le-leb (b - a) k l ∙ sym (le-leb b (a + k) m)
+    pick (no f) =
+        let l : k < b - a = omega arith in
+        let m : a + k < b = omega arith in
+        lt-leb (b - a) k l ∙ sym (lt-leb b (a + k) m)
+
+both-true : (b : Bool) → both b true ≡ b
+both-true true = refl
+both-true false = refl
+
+module _ (time clock : ℕ) where
+  pub time-before : time ≤ clock → leb (clock - time) 30 ≡ timeValid time clock
+  unfolding timeValid
+  time-before h =
+      let l : time ≤ clock + 30 = omega arith in
+      difference time clock 30 h ∙ sym (ap (λ (b : Bool). both b (leb clock (time + 30))) (le-leb time (clock + 30) l))
+
+  pub time-behind : clock < time → leb (time - clock) 30 ≡ timeValid time clock
+  unfolding timeValid
+  time-behind h =
+      let l : clock ≤ time + 30 = omega arith in
+      let m : clock ≤ time = omega arith in
+      difference clock time 30 m
+      ∙ sym (ap (both (leb time (clock + 30))) (le-leb clock (time + 30) l) ∙ both-true (leb time (clock + 30)))
+
+-- ---- the scope's rows
+
+pub p1 : (timeValid 970 1000 ≡ true) × (timeValid 1030 1000 ≡ true)
+unfolding timeValid
+p1 = (refl, refl)
+
+pub p2 : (timeValid 969 1000 ≡ false) × (timeValid 1031 1000 ≡ false)
+unfolding timeValid
+p2 = (refl, refl)
+
+pub p3 : timeValid (2 ^ 64 - 1) 0 ≡ false
+unfolding timeValid
+p3 = refl

@@ -1,0 +1,4 @@
+pub mod Method
+pub mod Refusal
+pub mod Time
+pub mod Subkey

@@ -1,0 +1,163 @@
+// What the layers of SIP022 share: methods, refusals, the time rule.
+ghost use mathlib.Core.Path.{_≡_};
+ghost use Rattle.protocol.specs.Method.{aes128, aes256, methodOf};
+ghost use Rattle.protocol.specs.Refusal.{refusalNumber, wantedBytes};
+ghost use Rattle.protocol.specs.Subkey.{subkey, sessionSubkey};
+ghost use Rattle.protocol.specs.Time.{timeValid};
+ghost use Prim.Native.Nat.{_≤_};
+ghost use lib.ListN.{length};
+ghost use Rattle.octets.specs.Buffers.{put};
+
+// A method: its number, the lengths of its key and salt in bytes, and the rounds of its AES.
+pub struct Method {
+    pub number: u64,
+    pub key: usize,
+    pub salt: usize,
+    pub rounds: usize,
+}
+
+// The method of a number, if there is one.
+pub enum Numbered {
+    Known(Method),
+    Unknown,
+}
+
+impl Method {
+    pub const AES_128_GCM: u64 = 1;
+
+    pub const AES_256_GCM: u64 = 2;
+
+    // 2022-blake3-aes-128-gcm.
+    pub fn aes_128_gcm() -> Self
+        ensures { λ r. ⌜ r ≡ aes128 ⌝ }
+    {
+        Self {
+            number: Self::AES_128_GCM,
+            key: 16,
+            salt: 16,
+            rounds: 10,
+        }
+    }
+
+    // 2022-blake3-aes-256-gcm.
+    pub fn aes_256_gcm() -> Self
+        ensures { λ r. ⌜ r ≡ aes256 ⌝ }
+    {
+        Self {
+            number: Self::AES_256_GCM,
+            key: 32,
+            salt: 32,
+            rounds: 14,
+        }
+    }
+
+    pub fn numbered(number: u64) -> Numbered
+        ensures { λ r. ⌜ r ≡ methodOf number ⌝ }
+    {
+        if number == Self::AES_128_GCM {
+            return Numbered::Known(Self::aes_128_gcm());
+        }
+        if number == Self::AES_256_GCM {
+            return Numbered::Known(Self::aes_256_gcm());
+        }
+        Numbered::Unknown
+    }
+}
+
+// Why a call was refused. More carries the number of bytes wanted in all.
+pub enum Refusal {
+    Settings,
+    Length,
+    Room,
+    NotAuthentic,
+    Malformed,
+    WrongType,
+    WrongTime,
+    Replay,
+    Full,
+    More(u64),
+    Counter,
+    Argument,
+    Binding,
+}
+
+impl Refusal {
+    pub fn number(self) -> u64
+        ensures { λ r. ⌜ r ≡ refusalNumber self ⌝ }
+    {
+        match self {
+            Refusal::Settings => 1,
+            Refusal::Length => 2,
+            Refusal::Room => 3,
+            Refusal::NotAuthentic => 4,
+            Refusal::Malformed => 5,
+            Refusal::WrongType => 6,
+            Refusal::WrongTime => 7,
+            Refusal::Replay => 8,
+            Refusal::Full => 9,
+            Refusal::More(_) => 10,
+            Refusal::Counter => 11,
+            Refusal::Argument => 12,
+            Refusal::Binding => 13,
+        }
+    }
+
+    // The number of bytes wanted in all; 0 for every other refusal.
+    pub fn wanted(self) -> u64
+        ensures { λ r. ⌜ r ≡ wantedBytes self ⌝ }
+    {
+        match self {
+            Refusal::Settings => 0,
+            Refusal::Length => 0,
+            Refusal::Room => 0,
+            Refusal::NotAuthentic => 0,
+            Refusal::Malformed => 0,
+            Refusal::WrongType => 0,
+            Refusal::WrongTime => 0,
+            Refusal::Replay => 0,
+            Refusal::Full => 0,
+            Refusal::More(n) => n,
+            Refusal::Counter => 0,
+            Refusal::Argument => 0,
+            Refusal::Binding => 0,
+        }
+    }
+}
+
+// Whether a timestamp is within 30 seconds of the clock, on either side. The difference is taken the way round that does not
+// wrap.
+pub fn time_valid(time: u64, clock: u64) -> bool
+    ensures { λ r. ⌜ r ≡ timeValid time clock ⌝ }
+{
+    if time <= clock {
+        return clock - time <= 30;
+    }
+    time - clock <= 30
+}
+
+// The subkey of a key and a salt, as long as the key, to the front of a lent buffer.
+pub fn derive_subkey(key: &[u8], salt: &[u8], out: &mut [u8])
+    requires { ⌜ length (now key) ≤ 32 ⌝ }
+    requires { ⌜ length (now salt) ≤ 32 ⌝ }
+    requires { ⌜ length (now key) ≤ length (now out) ⌝ }
+    ensures { λ _. ⌜ now (out .exit) ≡ put (now (out .entry)) 0 (subkey (now (key .entry)) (now (salt .entry))) ⌝ }
+{
+    let n = key.len();
+    let end = n + salt.len();
+    let mut material = [0u8; 64];
+    octets::copy(&mut material, 0, key);
+    octets::copy(&mut material, n, salt);
+    let bytes = blake3::derive_subkey(&material[..end]);
+    octets::copy(out, 0, &bytes[..n]);
+}
+
+// The subkey of a key and a session ID.
+pub fn derive_session_subkey(key: &[u8], id: u64, out: &mut [u8])
+    requires { ⌜ length (now key) ≤ 32 ⌝ }
+    requires { ⌜ length (now key) ≤ length (now out) ⌝ }
+    ensures { λ _. ⌜ now (out .exit) ≡ put (now (out .entry)) 0 (sessionSubkey (now (key .entry)) id) ⌝ }
+{
+    let mut salt = [0u8; 8];
+    octets::write_u64_be(&mut salt, 0, id);
+    derive_subkey(key, &salt, out);
+}
