@@ -24,7 +24,7 @@ enum Process {
     Child,
 }
 
-pub const COLUMNS: [Column; 3] = [
+pub const COLUMNS: [Column; 4] = [
     Column {
         title: "ours",
         library: Library::Ours,
@@ -39,6 +39,11 @@ pub const COLUMNS: [Column; 3] = [
         title: "OpenSSL without",
         library: Library::OpenSsl,
         process: Process::Child,
+    },
+    Column {
+        title: "plain",
+        library: Library::Plain,
+        process: Process::Here,
     },
 ];
 

@@ -1,5 +1,6 @@
 //! Speed of the proved code beside OpenSSL's, with and without processor
-//! instructions, in one table of one run.
+//! instructions, and for what OpenSSL has not beside plain Rust, in one table of
+//! one run.
 //!
 //! All outputs are compared first; a difference ends the run with exit status 1.
 
@@ -12,6 +13,7 @@ mod measure;
 mod openssl;
 #[allow(unsafe_code)]
 mod ours;
+mod plain;
 mod rows;
 mod table;
 
@@ -55,6 +57,7 @@ fn run(rows: &[Row]) -> Result<(), Box<dyn Error>> {
     println!("OpenSSL  {}", openssl::version());
     println!("         with processor instructions:    {with}");
     println!("         without processor instructions: {without}");
+    println!("Plain    this program's own Rust; its context key is computed before the calls");
     println!("Outputs  compared byte for byte in {compared} cases: all equal");
     println!("Speed    MB/s (10^6 bytes), median of {ROUNDS} interleaved rounds (quartiles)");
     println!("         buffers are warm; each call expands its key");

@@ -39,6 +39,14 @@ extern "C" {
         out: *mut u8,
         out_len: usize,
     ) -> u32;
+    fn bench_subkey(
+        key: *const u8,
+        key_len: usize,
+        salt: *const u8,
+        salt_len: usize,
+        out: *mut u8,
+        out_len: usize,
+    ) -> u32;
 }
 
 /// Encrypts `data` in place in counter mode from `counter` on, a 32-bit counter
@@ -138,4 +146,25 @@ pub fn gcm_open(key: &[u8], nonce: &[u8; 12], sealed: &[u8], out: &mut [u8]) -> 
         2 => false,
         _ => panic!("bench_gcm_open refused its lengths"),
     }
+}
+
+/// Derives the session subkey, as long as `key`, from `key` and `salt` to the front
+/// of `out`.
+///
+/// # Panics
+///
+/// If the key or the salt is longer than 32 bytes, or `out` is shorter than the key.
+pub fn subkey(key: &[u8], salt: &[u8], out: &mut [u8]) {
+    // SAFETY: as in `aes_ctr`, with `out` the one that is borrowed mutably.
+    let refused = unsafe {
+        bench_subkey(
+            key.as_ptr(),
+            key.len(),
+            salt.as_ptr(),
+            salt.len(),
+            out.as_mut_ptr(),
+            out.len(),
+        )
+    };
+    assert_eq!(refused, 0, "bench_subkey refused its lengths");
 }

@@ -5,13 +5,15 @@
 
 use std::cell::RefCell;
 
-use crate::{openssl, ours};
+use crate::{openssl, ours, plain};
 
 /// Whose code a contestant runs.
 #[derive(Clone, Copy, PartialEq, Eq)]
 pub enum Library {
     Ours,
     OpenSsl,
+    /// This program's own, for what OpenSSL has not.
+    Plain,
 }
 
 /// The work of one call, from the row's input to its buffer, or in the buffer alone.
@@ -88,6 +90,13 @@ const GCM_KEY_LENGTHS: [usize; 2] = [16, 32];
 const KEY: [u8; 32] = *b"thirty-two bytes to serve as key";
 const NONCE: [u8; 12] = *b"twelve bytes";
 const HASH_SUBKEY: [u8; 16] = *b"a block to hash!";
+const SALT: [u8; 32] = *b"thirty-two bytes to do for salt!";
+
+/// The length of a datagram's session ID, which is its subkey's salt.
+const SESSION_ID: usize = 8;
+
+/// The context under which Shadowsocks 2022 derives its subkeys.
+const SUBKEY_CONTEXT: &str = "shadowsocks 2022 session subkey";
 
 /// The counter of GCM's first block of text.
 const FIRST_COUNTER: u32 = 2;
@@ -111,6 +120,9 @@ pub fn all() -> Vec<Row> {
         rows.extend(BODIES.map(|size| gcm_open(key_length, size)));
         rows.extend(FORGED_BODIES.map(|size| gcm_forged(key_length, size)));
     }
+    // A stream's subkey of the longest method, a session's of the shortest.
+    rows.push(subkey(32, SALT.len()));
+    rows.push(subkey(16, SESSION_ID));
     rows
 }
 
@@ -219,6 +231,28 @@ fn gcm_forged(key_length: usize, size: usize) -> Row {
             Contestant::new(Library::OpenSsl, move |forged, _| {
                 let out = &mut scratch.borrow_mut();
                 assert!(!context.open(key, &NONCE, forged, out), "forged text taken");
+            }),
+        ],
+    }
+}
+
+/// The input is the key and the salt, one after the other.
+fn subkey(key_length: usize, salt_length: usize) -> Row {
+    let material = [&KEY[..key_length], &SALT[..salt_length]].concat();
+    let context = plain::DeriveKey::new(SUBKEY_CONTEXT);
+    Row {
+        name: "BLAKE3 subkey".to_string(),
+        size: material.len(),
+        input: material,
+        buffer: key_length,
+        timed: true,
+        contestants: vec![
+            Contestant::new(Library::Ours, move |material, out| {
+                let (key, salt) = material.split_at(key_length);
+                ours::subkey(key, salt, out);
+            }),
+            Contestant::new(Library::Plain, move |material, out| {
+                context.derive(material, out);
             }),
         ],
     }
