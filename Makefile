@@ -12,6 +12,7 @@ test:
 vectors:
 	python3 tools/aes-vectors.py
 	python3 tools/gcm-vectors.py
+	python3 tools/blake3-vectors.py
 
 # The table of speeds. libssl-dev has the libcrypto.so that the linker asks for.
 bench:
