@@ -8,11 +8,11 @@ use borrow.Author.Tests.{le-leb, lt-leb}
 use lib.Dec.{leb}
 use lib.ListN.{length, replicate}
 use Rattle.octets.specs.Numbers.{le}
-use Rattle.octets.specs.Buffers.{both}
-use Rattle.blake3.specs.declared.Derived.{Derived}
+use Rattle.octets.specs.Buffers.{Octets, both}
 use Rattle.blake3.specs.Words.{add32, sum3, rotr, xor, firstEight, blockWords}
-use Rattle.blake3.specs.Compression.{iv, initial, half, G, wordsAt, setAt, mixAt, columns, diagonals, oneRound, permuted, rounds, final, compressed}
-use Rattle.blake3.specs.Tree.{blocks, chunk, tree, rootOf, outputWords, contextKey, deriveAt, deriveKey}
+use Rattle.blake3.specs.Compression.{initial, half, G, wordsAt, setAt, mixAt, columns, diagonals, oneRound, permuted, rounds, final, compressed}
+use Rattle.blake3.specs.Tree.{Node, blocks, chunk, tree, rootOf, outputWords, output, contextKey, deriveAt, deriveKey}
+use Rattle.blake3.proofs.WordLaws.{length-wordBytes, octets-wordBytes}
 use Rattle.blake3.specs.Derivation.{short, answer, derived, subkeyContext}
 
 abbrev pub subkeyKey : List ℕ
@@ -26,6 +26,24 @@ subkey-context = refl
 pub derive-subkey : (material : List ℕ) → deriveAt subkeyKey material ≡ deriveKey subkeyContext material
 unfolding deriveKey
 derive-subkey material = ap (λ (k : List ℕ). deriveAt k material) (sym subkey-context)
+
+-- ---- what is derived is 64 bytes
+
+length-output : (n : Node) → length (output n) ≡ 64
+unfolding output outputWords compressed final
+length-output n = length-wordBytes (outputWords n 0)
+
+octets-output : (n : Node) → Octets (output n)
+unfolding output
+octets-output n = octets-wordBytes (outputWords n 0)
+
+pub length-deriveKey : (context material : List ℕ) → length (deriveKey context material) ≡ 64
+unfolding deriveKey deriveAt
+length-deriveKey context material = length-output (rootOf (contextKey context) 64 material)
+
+pub octets-deriveKey : (context material : List ℕ) → Octets (deriveKey context material)
+unfolding deriveKey deriveAt
+octets-deriveKey context material = octets-output (rootOf (contextKey context) 64 material)
 
 -- ---- the answers
 

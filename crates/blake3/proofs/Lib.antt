@@ -1,4 +1,4 @@
+pub mod WordLaws
 pub mod CompressionLaws
 pub mod TreeLaws
 pub mod DerivationLaws
-pub mod WordLaws

@@ -1,17 +1,17 @@
 -- The bytes of words, put into a buffer word by word.
 -- Assumes nothing.
-use mathlib.Core.Path.{_≡_, refl, sym, ap, ap₂, _∙_}
+use mathlib.Core.Path.{_≡_, refl, sym, ap, _∙_}
 use mathlib.Core.List.{List, [], _∷_, _++_, append-assoc, append-nil}
-use Prim.Native.Nat.{ℕ, zero, suc, _+_, _*_, _<_, _≤_}
+use Prim.Native.Nat.{ℕ, _+_, _*_, _<_, _≤_}
 use native.Mathlib.Nat.{zero-add, le-of-lt}
 use native.Mathlib.Numerals.{add-one}
 use native.Mathlib.Omega.{arith}
 use lib.ListN.{length, getD, take, length-append}
 use lib.Seq.{take-suc, take-all, length-take-le}
-use Rattle.octets.specs.Buffers.{put}
+use Rattle.octets.specs.Buffers.{Octets, put}
 use Rattle.octets.specs.Numbers.{toLe}
-use Rattle.octets.proofs.BufferLaws.{put-put}
-use Rattle.octets.proofs.NumberLaws.{length-toLe}
+use Rattle.octets.proofs.BufferLaws.{octets-nil, octets-append, put-put}
+use Rattle.octets.proofs.NumberLaws.{length-toLe, octets-toLe}
 use Rattle.blake3.specs.Words.{wordBytes}
 
 pub length-wordBytes : (ws : List ℕ) → length (wordBytes ws) ≡ 4 * length ws
@@ -25,6 +25,11 @@ unfolding wordBytes
 wordBytes-snoc [] w = append-nil (toLe 4 w)
 wordBytes-snoc (v ∷ ws) w =
     ap (λ (s : List ℕ). toLe 4 v ++ s) (wordBytes-snoc ws w) ∙ sym (append-assoc (toLe 4 v) (wordBytes ws) (toLe 4 w))
+
+pub octets-wordBytes : (ws : List ℕ) → Octets (wordBytes ws)
+unfolding wordBytes
+octets-wordBytes [] = octets-nil
+octets-wordBytes (w ∷ ws) = octets-append (toLe 4 w) (wordBytes ws) (octets-toLe 4 w) (octets-wordBytes ws)
 
 -- one word more
 module _ (d ws : List ℕ) (i : ℕ) (more : i < length ws) (room : 4 * length ws ≤ length d) where

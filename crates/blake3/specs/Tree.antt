@@ -1,6 +1,6 @@
 -- BLAKE3, sections 2.1 and 2.3 to 2.6: the tree, the modes, chunks, parents and output.
 use mathlib.Core.Bool.{true, false}
-use mathlib.Core.List.{List, [], _∷_, _++_}
+use mathlib.Core.List.{List, _++_}
 use Prim.Native.Nat.{ℕ, zero, suc, _+_, _-_, _*_, _/_, _^_}
 use lib.Dec.{leb}
 use lib.ListN.{length, take, drop}
