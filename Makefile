@@ -8,7 +8,7 @@ export CARGO_TARGET_DIR := $(CURDIR)/target/host
 test:
 	.ci/run
 
-# The data of the programs vectors_aes and vectors_gcm and what they must print.
+# The data of the programs vectors_aes, vectors_gcm and vectors_blake3 and what they must print.
 vectors:
 	python3 tools/aes-vectors.py
 	python3 tools/gcm-vectors.py
