@@ -89,11 +89,8 @@ def make():
     groups = list(make_groups())
     problems = [f"{name}: the reference differs" for name in blake3.selftest()]
     data = {"blake3.bin": vectors.data_file("blake3.bin", (group(*each) for each in groups))}
-    output = [f"{each[0]}: {counts([each])}0 differ" for each in groups]
-    output.append(f"total: {counts(groups)}0 differ")
-    cases = sum(len(cases) for _, _, cases in groups)
-    agreement = f"{cases} BLAKE3 key derivations in {len(groups)} groups"
-    return data, output, problems, agreement
+    agreement = f"{vectors.case_count(groups)} BLAKE3 key derivations in {len(groups)} groups"
+    return data, vectors.output(groups, counts), problems, agreement
 
 
 if __name__ == "__main__":

@@ -121,11 +121,8 @@ def make():
     problems = [f"{name}: the reference differs" for name in gcm.selftest()]
     problems += check_groups(groups)
     data = {"gcm.bin": vectors.data_file("gcm.bin", (group(*each) for each in groups))}
-    output = [f"{each[0]}: {counts([each])}0 differ" for each in groups]
-    output.append(f"total: {counts(groups)}0 differ")
-    cases = sum(len(cases) for _, _, cases in groups)
-    agreement = f"{cases} AES-GCM messages in {len(groups)} groups agree with the reference"
-    return data, output, problems, agreement
+    agreement = f"{vectors.case_count(groups)} AES-GCM messages in {len(groups)} groups agree with the reference"
+    return data, vectors.output(groups, counts), problems, agreement
 
 
 if __name__ == "__main__":

@@ -41,6 +41,17 @@ def data_file(name, groups):
     return data
 
 
+def output(groups, counts):
+    """What a program prints: the counts of each group, then of all."""
+    for each in groups:
+        yield f"{each[0]}: {counts([each])}0 differ"
+    yield f"total: {counts(groups)}0 differ"
+
+
+def case_count(groups):
+    return sum(len(cases) for _, _, cases in groups)
+
+
 def run(program, make):
     """The command line of a script for one program of crates/.
 

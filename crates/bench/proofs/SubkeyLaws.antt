@@ -19,24 +19,24 @@ module _ (key salt out : List ℕ) where
 
   pub long-key : 32 < length key → (1 ≡ answer (subkeyLawful key salt out)) × (out ≡ subkeyOut key salt out)
   unfolding subkeyLawful
-  long-key h = decided false (ap (λ (b : Bool). both b (both (leb (length salt) 32) (leb (length key) (length out)))) (lt-leb (length key) 32 h))
+  long-key h = decided false (ap (λ (b : Bool). both b (both (leb (length salt) 32) (leb 32 (length out)))) (lt-leb (length key) 32 h))
 
   pub long-salt : length key ≤ 32 → 32 < length salt → (1 ≡ answer (subkeyLawful key salt out)) × (out ≡ subkeyOut key salt out)
   unfolding subkeyLawful
   long-salt k h =
       decided false
-      (ap₂ both (le-leb (length key) 32 k) (ap (λ (b : Bool). both b (leb (length key) (length out))) (lt-leb (length salt) 32 h)))
+      (ap₂ both (le-leb (length key) 32 k) (ap (λ (b : Bool). both b (leb 32 (length out))) (lt-leb (length salt) 32 h)))
 
-  pub no-space : length key ≤ 32 → length salt ≤ 32 → length out < length key
+  pub no-space : length key ≤ 32 → length salt ≤ 32 → length out < 32
       → (1 ≡ answer (subkeyLawful key salt out)) × (out ≡ subkeyOut key salt out)
   unfolding subkeyLawful
   no-space k s h =
-      decided false (ap₂ both (le-leb (length key) 32 k) (ap₂ both (le-leb (length salt) 32 s) (lt-leb (length key) (length out) h)))
+      decided false (ap₂ both (le-leb (length key) 32 k) (ap₂ both (le-leb (length salt) 32 s) (lt-leb 32 (length out) h)))
 
-  pub subkey-done : length key ≤ 32 → length salt ≤ 32 → length key ≤ length out → (o : List ℕ) → o ≡ put out 0 (subkey key salt)
+  pub subkey-done : length key ≤ 32 → length salt ≤ 32 → 32 ≤ length out → (o : List ℕ) → o ≡ put out 0 (subkey key salt)
       → (0 ≡ answer (subkeyLawful key salt out)) × (o ≡ subkeyOut key salt out)
   unfolding subkeyLawful
   subkey-done k s h o e =
       let d =
-      decided true (ap₂ both (le-leb (length key) 32 k) (ap₂ both (le-leb (length salt) 32 s) (le-leb (length key) (length out) h))) in
+      decided true (ap₂ both (le-leb (length key) 32 k) (ap₂ both (le-leb (length salt) 32 s) (le-leb 32 (length out) h))) in
       (d .0, e ∙ d .1)

@@ -29,9 +29,9 @@ hashLawful h out = both (eqb (length h) 16) (leb 16 (length out))
 unfoldable pub hashOut : List ℕ → List ℕ → List ℕ → List ℕ
 hashOut h text out = if (hashLawful h out) (put out 0 (toBe 16 (ghash (be 16 h) (blocks text)))) out
 
--- a subkey asks for a key and a salt of 32 bytes at most, and room for as many bytes as the key has
+-- a subkey asks for a key and a salt of 32 bytes at most, and room for 32
 unfoldable pub subkeyLawful : List ℕ → List ℕ → List ℕ → Bool
-subkeyLawful key salt out = both (leb (length key) 32) (both (leb (length salt) 32) (leb (length key) (length out)))
+subkeyLawful key salt out = both (leb (length key) 32) (both (leb (length salt) 32) (leb 32 (length out)))
 
 unfoldable pub subkeyOut : List ℕ → List ℕ → List ℕ → List ℕ
 subkeyOut key salt out = if (subkeyLawful key salt out) (put out 0 (subkey key salt)) out

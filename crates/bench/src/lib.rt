@@ -66,7 +66,7 @@ pub extern "C" fn bench_ghash(h: &[u8], text: &[u8], out: &mut [u8]) -> u32
 }
 
 // The subkey of a key and a salt, of 32 bytes at most each, to the front of the lent buffer: 0, or 1 and nothing written
-// where one is longer or there is no room.
+// where one is longer or there is no room for 32 bytes.
 #[no_mangle]
 pub extern "C" fn bench_subkey(key: &[u8], salt: &[u8], out: &mut [u8]) -> u32
     ensures { λ r. ⌜ r ≡ answer (subkeyLawful (now (key .entry)) (now (salt .entry)) (now (out .entry))) ⌝ }
@@ -78,7 +78,7 @@ pub extern "C" fn bench_subkey(key: &[u8], salt: &[u8], out: &mut [u8]) -> u32
     if salt.len() > 32 {
         return 1;
     }
-    if key.len() > out.len() {
+    if out.len() < 32 {
         return 1;
     }
     protocol::derive_subkey(key, salt, out);

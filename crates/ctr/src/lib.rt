@@ -3,7 +3,7 @@
 use aes::Block;
 ghost use mathlib.Core.Path.{_≡_};
 ghost use mathlib.Core.List.{_++_};
-ghost use Prim.Native.Nat.{_+_, _<_, _≤_};
+ghost use Prim.Native.Nat.{_+_, _%_, _^_, _<_, _≤_};
 ghost use lib.ListN.{length, take, drop};
 ghost use Rattle.octets.specs.Buffers.{put, _⊞_};
 ghost use Rattle.octets.specs.Numbers.{toBe};
@@ -50,6 +50,13 @@ fn counter_block(n: Nonce, counter: u32) -> Block
     }
 }
 
+// The counter's part of inc32: one up, modulo 2^32.
+fn inc32(c: u32) -> u32
+    ensures { λ r. ⌜ r ≡ (c + 1) % 2 ^ 32 ⌝ }
+{
+    std::num::wrapping_add_u32(c, 1)
+}
+
 // The last, short block.
 fn xor_tail(text: &mut [u8], at: usize, k: Block)
     requires { ⌜ at ≤ length (now text) ⌝ }
@@ -94,7 +101,7 @@ pub fn gctr(
     for i in 0..blocks {
         let k = aes::encrypt::cipher(t, sbox, w, rounds, counter_block(n, c));
         xor_block(text, 16 * i, k);
-        c = std::num::wrapping_add_u32(c, 1);
+        c = inc32(c);
     }
 }
 

@@ -150,11 +150,11 @@ pub fn open_at(
 {
     let len = s.len() - 16;
     let tag = tag_of(t, sbox, w, rounds, n, &s[..len]);
-    if octets::equal_tags(&tag, &s[len..]) {
+    let good = octets::equal_tags(&tag, &s[len..]);
+    if good {
         crypt_into(t, sbox, w, rounds, n, &s[..len], out);
-        return true;
     }
-    false
+    good
 }
 
 // Nk for a key of k bytes, where the nonce has 12, the text is not over 2^36 - 32 bytes and there is room for what is due;

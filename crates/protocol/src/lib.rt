@@ -135,11 +135,11 @@ pub fn time_valid(time: u64, clock: u64) -> bool
     time - clock <= 30
 }
 
-// The subkey of a key and a salt, as long as the key, to the front of a lent buffer.
+// The subkey of a key and a salt, as long as the key, to the front of a lent buffer with room for the longest.
 pub fn derive_subkey(key: &[u8], salt: &[u8], out: &mut [u8])
     requires { ⌜ length (now key) ≤ 32 ⌝ }
     requires { ⌜ length (now salt) ≤ 32 ⌝ }
-    requires { ⌜ length (now key) ≤ length (now out) ⌝ }
+    requires { ⌜ 32 ≤ length (now out) ⌝ }
     ensures { λ _. ⌜ now (out .exit) ≡ put (now (out .entry)) 0 (subkey (now (key .entry)) (now (salt .entry))) ⌝ }
 {
     let n = key.len();
@@ -154,7 +154,7 @@ pub fn derive_subkey(key: &[u8], salt: &[u8], out: &mut [u8])
 // The subkey of a key and a session ID.
 pub fn derive_session_subkey(key: &[u8], id: u64, out: &mut [u8])
     requires { ⌜ length (now key) ≤ 32 ⌝ }
-    requires { ⌜ length (now key) ≤ length (now out) ⌝ }
+    requires { ⌜ 32 ≤ length (now out) ⌝ }
     ensures { λ _. ⌜ now (out .exit) ≡ put (now (out .entry)) 0 (sessionSubkey (now (key .entry)) id) ⌝ }
 {
     let mut salt = [0u8; 8];

@@ -153,7 +153,7 @@ pub fn gcm_open(key: &[u8], nonce: &[u8; 12], sealed: &[u8], out: &mut [u8]) -> 
 ///
 /// # Panics
 ///
-/// If the key or the salt is longer than 32 bytes, or `out` is shorter than the key.
+/// If the key or the salt is longer than 32 bytes, or `out` is shorter.
 pub fn subkey(key: &[u8], salt: &[u8], out: &mut [u8]) {
     // SAFETY: as in `aes_ctr`, with `out` the one that is borrowed mutably.
     let refused = unsafe {

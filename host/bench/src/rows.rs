@@ -92,6 +92,9 @@ const NONCE: [u8; 12] = *b"twelve bytes";
 const HASH_SUBKEY: [u8; 16] = *b"a block to hash!";
 const SALT: [u8; 32] = *b"thirty-two bytes to do for salt!";
 
+/// The room that a subkey is derived into, whatever its length.
+const LONGEST_SUBKEY: usize = 32;
+
 /// The length of a datagram's session ID, which is its subkey's salt.
 const SESSION_ID: usize = 8;
 
@@ -244,7 +247,7 @@ fn subkey(key_length: usize, salt_length: usize) -> Row {
         name: "BLAKE3 subkey".to_string(),
         size: material.len(),
         input: material,
-        buffer: key_length,
+        buffer: LONGEST_SUBKEY,
         timed: true,
         contestants: vec![
             Contestant::new(Library::Ours, move |material, out| {
@@ -252,7 +255,7 @@ fn subkey(key_length: usize, salt_length: usize) -> Row {
                 ours::subkey(key, salt, out);
             }),
             Contestant::new(Library::Plain, move |material, out| {
-                context.derive(material, out);
+                context.derive(material, &mut out[..key_length]);
             }),
         ],
     }

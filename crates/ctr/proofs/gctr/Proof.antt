@@ -70,11 +70,11 @@ loop-again c =
     (k .cipher .ensures
     ∙ ap (cipher (a .rounds) (map bytes (a .w .now)))
     (k .before .counter-block .ensures ∙ counter-bytes (n .a) (n .b) (n .c) (l .loop .c) (v .fits))) in
-    let next = counter-next (nonceBytes n) (l .loop .c) (v .fits) ∙ ap (counterBlock (nonceBytes n)) (sym (c .wrapping-add-u32 .ensures)) in
+    let next = counter-next (nonceBytes n) (l .loop .c) (v .fits) ∙ ap (counterBlock (nonceBytes n)) (sym (c .inc32 .ensures)) in
     record {
       within = omega arith;
       size = ap length e ∙ next-length ciph s o (16 * i) cb within (v .rest) ∙ v .size;
-      fits = subst (λ (z : ℕ). z < 2 ^ 32) (sym (c .wrapping-add-u32 .ensures)) (mod-lt _ (lit< tt));
+      fits = subst (λ (z : ℕ). z < 2 ^ 32) (sym (c .inc32 .ensures)) (mod-lt _ (lit< tt));
       rest =
           ap₂ drop at e ∙ next-rest ciph s o (16 * i) cb within (v .rest) ∙ ap (λ (z : ℕ). drop z s) (sym at);
       done =

@@ -1,9 +1,12 @@
-use mathlib.Core.Path.{_≡_, refl, sym, _∙_}
+use mathlib.Core.Path.{_≡_, sym, ap, _∙_}
+use mathlib.Core.Bool.{Bool, true}
 use Prim.Native.Nat.{_-_, _≤_}
 use native.Mathlib.Omega.{arith}
 use borrow.Author.Needs.{needs}
 use lib.ListN.{length, take}
 use lib.Seq.{length-take-le}
+use Rattle.octets.specs.Buffers.{put}
+use Rattle.aes.specs.KeyExpansion.{if}
 use Rattle.ctr.specs.Gctr.{ciphAt}
 use Rattle.ctr.specs.Words.{nonceBytes}
 use Rattle.gcm.specs.Gcm.{textOf, opened}
@@ -38,20 +41,24 @@ returns c =
     let p = c .before .before in
     let e = p .before .before .before .before in
     let t = e .before .before .before in
-    let a = t .before .before .before .before .args in (
-      sym (p .before .before .before .if1 .taken)
-          ∙ authentic-law (ciphAt (a .rounds) (a .w .now)) (nonceBytes (a .n)) (a .s .now) _ _ (t .tag-of .ensures) (e .equal-tags .ensures),
-      p .crypt-into .ensures,
+    let a = t .before .before .before .before .args in
+    let ciph = ciphAt (a .rounds) (a .w .now) in
+    let n = nonceBytes (a .n) in
+    let good : e .equal-tags .result ≡ true = p .before .before .before .if1 .taken in (
+      authentic-law ciph n (a .s .now) _ _ (t .tag-of .ensures) (e .equal-tags .ensures),
+      p .crypt-into .ensures
+          ∙ ap (λ (b : Bool). if b (put (a .out .now) 0 (opened ciph n (a .s .now))) (a .out .now)) (sym good),
     )
 
 returns-2 : tie.Need-returns-2
 returns-2 c =
     let e = c .before in
     let t = e .before .before .before in
-    let a = t .before .before .before .before .args in (
-      sym (c .if1 .left)
-          ∙ authentic-law (ciphAt (a .rounds) (a .w .now)) (nonceBytes (a .n)) (a .s .now) _ _ (t .tag-of .ensures) (e .equal-tags .ensures),
-      refl,
+    let a = t .before .before .before .before .args in
+    let ciph = ciphAt (a .rounds) (a .w .now) in
+    let n = nonceBytes (a .n) in (
+      authentic-law ciph n (a .s .now) _ _ (t .tag-of .ensures) (e .equal-tags .ensures),
+      ap (λ (b : Bool). if b (put (a .out .now) 0 (opened ciph n (a .s .now))) (a .out .now)) (sym (c .if1 .left)),
     )
 
 pub open-at-spec : {M : Type 1} → statement M

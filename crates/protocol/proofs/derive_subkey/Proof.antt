@@ -35,7 +35,7 @@ slice-aggregate-copy-3 c =
 copy-requires-3 : tie.Need-copy-requires-3
 copy-requires-3 c κs =
     let q = c .before .before .before .before .before .before .before .before .before .before .before .before .before .pre in
-    simp length-take (omega (arith, q .1 .1))
+    simp length-take (omega (arith, q .0, q .1 .1))
 
 returns : tie.Need-returns
 unfolding subkey

@@ -24,7 +24,7 @@ loop-again c = (search needs, round-law _ _ _ _ _ _ (c .before .before .before .
 returns : tie.Need-returns Inv-loop μ-loop
 returns c =
     cipher-law _ _ _ _ _ _ _ _ _ (c .before .before .before .before .before .round-key .ensures) (c .before .before .before .before .add .ensures) (search needs) (c .before .before .before .loop .inv .1)
-    (c .before .round-key3 .ensures) (c .final-round .ensures)
+    (c .before .round-key3 .ensures) (search needs)
 
 pub cipher-spec : {M : Type 1} → statement M
 cipher-spec =
