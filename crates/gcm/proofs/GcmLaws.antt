@@ -9,10 +9,10 @@ use native.Mathlib.Omega.{arith}
 use lib.Bits.{bitXor}
 use lib.Dec.{T, lit<}
 use lib.ListN.{length, take, drop, length-append}
-use lib.Seq.{take-at, drop-at}
+use lib.Seq.{take-at, drop-at, take-take, drop-drop, length-take-le}
 use Rattle.octets.specs.Buffers.{put, same}
 use Rattle.octets.specs.Numbers.{toBe}
-use Rattle.octets.proofs.BufferLaws.{rest, take-put, drop-put, put-put, same-refl, same-eq}
+use Rattle.octets.proofs.BufferLaws.{rest, length-put, take-put, drop-put, put-put, put-whole, same-refl, same-eq}
 use Rattle.octets.proofs.NumberLaws.{length-toBe}
 use Rattle.ghash.specs.Field.{mul}
 use Rattle.ghash.specs.Ghash.{blocks, ghashFrom, ghash}
@@ -48,17 +48,20 @@ module _ (ciph : ℕ → List ℕ) (nonce : List ℕ) where
   length-tag c = let s = hashed (hashKey ciph) c in length-gctr ciph (j0 nonce) (toBe 16 s) ∙ length-toBe 16 s
 
   module _ (p : List ℕ) where
-    length-seal : length (seal ciph nonce p) - 16 ≡ length (crypt ciph nonce p)
+    pub length-seal : length (seal ciph nonce p) ≡ length p + 16
     unfolding seal
-    length-seal = let c = crypt ciph nonce p in omega (arith, length-append c (tag ciph nonce c), length-tag c)
+    length-seal = let c = crypt ciph nonce p in omega (arith, length-append c (tag ciph nonce c), length-crypt p, length-tag c)
+
+    seam : length (crypt ciph nonce p) ≡ length (seal ciph nonce p) - 16
+    seam = omega (arith, length-seal, length-crypt p)
 
     text-seal : textOf (seal ciph nonce p) ≡ crypt ciph nonce p
     unfolding textOf seal
-    text-seal = let c = crypt ciph nonce p in take-at c (tag ciph nonce c) (length (seal ciph nonce p) - 16) (sym length-seal)
+    text-seal = let c = crypt ciph nonce p in take-at c (tag ciph nonce c) (length (seal ciph nonce p) - 16) seam
 
     tag-seal : tagOf (seal ciph nonce p) ≡ tag ciph nonce (crypt ciph nonce p)
     unfolding tagOf seal
-    tag-seal = let c = crypt ciph nonce p in drop-at c (tag ciph nonce c) (length (seal ciph nonce p) - 16) (sym length-seal)
+    tag-seal = let c = crypt ciph nonce p in drop-at c (tag ciph nonce c) (length (seal ciph nonce p) - 16) seam
 
     -- what is sealed is authentic
     pub seal-authentic : Authentic ciph nonce (seal ciph nonce p)
@@ -81,29 +84,62 @@ module _ (text out : List ℕ) (fits : length text ≤ length out) where
       ∙ ap (λ (n : ℕ). drop n out) (zero-add (length text))
 
   -- a text that is copied to the front and then encrypted or decrypted there
-  pub crypt-law : (ciph : ℕ → List ℕ) (nonce o k : List ℕ) → o ≡ put out 0 text
-      → k ≡ gctr ciph (counterBlock nonce 2) (take (length text) o) → k ++ drop (length text) o ≡ put out 0 (crypt ciph nonce text)
-  unfolding crypt put
-  crypt-law ciph nonce o k eo ek =
-      let n : length text ≡ 0 + length (crypt ciph nonce text) = sym (zero-add _ ∙ length-crypt ciph nonce text) in
-      ap₂ (λ (x y : List ℕ). x ++ y)
-      (ek ∙ ap₂ (gctr ciph) (second nonce) (ap (take (length text)) eo ∙ take-copied))
-      (ap (drop (length text)) eo ∙ drop-copied ∙ ap (λ (m : ℕ). drop m out) n)
+  pub crypt-law : (ciph : ℕ → List ℕ) (nonce o r : List ℕ) → o ≡ put out 0 text
+      → r ≡ put o 0 (crypt ciph nonce (take (length text) o)) → r ≡ put out 0 (crypt ciph nonce text)
+  unfolding put
+  crypt-law ciph nonce o r eo er =
+      let c = crypt ciph nonce text in
+      let n : 0 + length c ≡ length text = zero-add _ ∙ length-crypt ciph nonce text in
+      er ∙ (λ i. put (eo i) 0 (crypt ciph nonce ((ap (take (length text)) eo ∙ take-copied) i)))
+      ∙ ap (λ (x : List ℕ). c ++ x)
+      (ap (λ (m : ℕ). drop m (put out 0 text)) n ∙ drop-copied ∙ ap (λ (m : ℕ). drop m out) (sym n))
 
--- the tag behind the ciphertext
-pub seal-law : (ciph : ℕ → List ℕ) (nonce text out o t r : List ℕ) → length text + 16 ≤ length out
-    → o ≡ put out 0 (crypt ciph nonce text) → t ≡ tag ciph nonce (take (length text) o) → r ≡ put o (length text) t
-    → r ≡ put out 0 (seal ciph nonce text)
-unfolding seal
-seal-law ciph nonce text out o t r fits eo et er =
-    let c = crypt ciph nonce text in
-    let l : length c ≡ length text = length-crypt ciph nonce text in
-    let n : length text ≡ 0 + length c = sym (zero-add (length c) ∙ l) in
-    let front : take (length text) o ≡ c =
-    ap₂ take (sym l) eo ∙ take-copied c out (omega (arith, l)) in
+-- the first bytes of a buffer, encrypted or decrypted where they stand
+pub front-law : (ciph : ℕ → List ℕ) (nonce out k : List ℕ) (len : ℕ) → len ≤ length out
+    → k ≡ gctr ciph (counterBlock nonce 2) (take len out) → k ++ drop len out ≡ put out 0 (crypt ciph nonce (take len out))
+unfolding crypt put
+front-law ciph nonce out k len h ek =
+    let t = take len out in
+    let n : len ≡ 0 + length (crypt ciph nonce t) = sym (zero-add _ ∙ length-crypt ciph nonce t ∙ length-take-le len out h) in
+    ap₂ (λ (x y : List ℕ). x ++ y) (ek ∙ ap (λ (b : ℕ). gctr ciph b t) (second nonce)) (ap (λ (m : ℕ). drop m out) n)
+
+-- the tag behind the ciphertext, in the last 16 bytes
+pub seal-law : (ciph : ℕ → List ℕ) (nonce body o t r : List ℕ) → 16 ≤ length body
+    → o ≡ put body 0 (crypt ciph nonce (textOf body)) → t ≡ tag ciph nonce (take (length body - 16) o) → r ≡ put o (length body - 16) t
+    → r ≡ seal ciph nonce (textOf body)
+unfolding seal textOf
+seal-law ciph nonce body o t r h eo et er =
+    let c = crypt ciph nonce (textOf body) in
+    let l : length c ≡ length body - 16 =
+    length-crypt ciph nonce (textOf body) ∙ length-take-le (length body - 16) body (omega arith) in
+    let n : length body - 16 ≡ 0 + length c = sym (zero-add (length c) ∙ l) in
+    let front : take (length body - 16) o ≡ c =
+    ap₂ take (sym l) eo ∙ take-copied c body (omega (arith, l)) in
+    let whole : length body ≤ length (c ++ tag ciph nonce c) =
+    omega (arith, l, length-append c (tag ciph nonce c), length-tag ciph nonce c) in
     er
     ∙ (λ i. put (eo i) (n i) ((et ∙ ap (tag ciph nonce) front) i))
-    ∙ put-put out 0 c (omega (arith, l)) (tag ciph nonce c)
+    ∙ put-put body 0 c (omega (arith, l)) (tag ciph nonce c)
+    ∙ put-whole body (c ++ tag ciph nonce c) whole
+
+-- a text that is copied to the front of a buffer and sealed there
+pub seal-copied : (ciph : ℕ → List ℕ) (nonce text out o k : List ℕ) → length text + 16 ≤ length out → o ≡ put out 0 text
+    → k ≡ seal ciph nonce (textOf (take (length text + 16) o)) → k ++ drop (length text + 16) o ≡ put out 0 (seal ciph nonce text)
+unfolding put textOf
+seal-copied ciph nonce text out o k fits eo ek =
+    let n = length text in
+    let h : n ≤ length out = omega arith in
+    let within : 0 + n ≤ length out = omega arith in
+    let room : n + 16 ≤ length (put out 0 text) = omega (arith, length-put out 0 text within) in
+    let due : 0 + length (seal ciph nonce text) ≡ n + 16 = zero-add _ ∙ length-seal ciph nonce text in
+    let cut : length (take (n + 16) (put out 0 text)) - 16 ≡ n = omega (arith, length-take-le (n + 16) (put out 0 text) room) in
+    let least : n ≤ n + 16 = omega arith in
+    let front : textOf (take (n + 16) o) ≡ text =
+    ap (λ (x : List ℕ). textOf (take (n + 16) x)) eo ∙ ap (λ (m : ℕ). take m (take (n + 16) (put out 0 text))) cut
+    ∙ take-take n (n + 16) (put out 0 text) least ∙ take-copied text out h in
+    ap₂ (λ (x y : List ℕ). x ++ y) (ek ∙ ap (seal ciph nonce) front)
+    (ap (drop (n + 16)) eo ∙ sym (drop-drop 16 n (put out 0 text)) ∙ ap (drop 16) (drop-copied text out h) ∙ drop-drop 16 n out
+    ∙ ap (λ (m : ℕ). drop m out) (sym due))
 
 -- the tag that was found, compared with the last 16 bytes
 pub authentic-law : (ciph : ℕ → List ℕ) (nonce s t : List ℕ) (b : Bool) → t ≡ tag ciph nonce (take (length s - 16) s)

@@ -15,9 +15,9 @@ use Rattle.aes.specs.Words.{bytes}
 use Rattle.aes.proofs.KeyedLaws.{KeyLength, key-length}
 use Rattle.ctr.specs.Gctr.{ciphAt, aesBlock}
 use Rattle.ctr.proofs.GctrLaws.{ciph-aes}
-use Rattle.gcm.specs.Gcm.{seal, opened}
+use Rattle.gcm.specs.Gcm.{seal, textOf, opened}
 use Rattle.gcm.specs.declared.Opened.the-variants.{Unlawful}
-use Rattle.gcm.specs.Keyed.{maxText, ciphOf, fits, words, sealLawful, sealed, openLawful, authentic, answer, openAnswer, openOut}
+use Rattle.gcm.specs.Keyed.{maxText, ciphOf, fits, words, sealLawful, sealed, openLawful, inPlaceLawful, sealedInPlace, authentic, answer, openAnswer, openOut}
 
 both-false : (b : Bool) → both b false ≡ false
 both-false true = refl
@@ -134,6 +134,36 @@ module _ (key nonce text out : List ℕ) where
         ∙ sym (ap (λ (b : Bool). if b (put out 0 (seal (ciphOf key) nonce text)) out) e),
   )
 
+short-unlawful : (key nonce s out : List ℕ) → length s < 16 → openLawful key nonce s out ≡ false
+unfolding openLawful
+short-unlawful key nonce s out h =
+    ap (λ (b : Bool). both b (fits (length key) (length nonce) (length s - 16) (length s - 16) (length out))) (lt-leb 16 (length s) h)
+
+-- ---- sealing in place
+
+module _ (key nonce s : List ℕ) where
+  in-place-decided : (b : Bool) → openLawful key nonce s s ≡ b
+      → (b ≡ inPlaceLawful key nonce s) × (if b (seal (ciphOf key) nonce (textOf s)) s ≡ sealedInPlace key nonce s)
+  unfolding inPlaceLawful sealedInPlace
+  in-place-decided b e = (sym e, ap (λ (l : Bool). if l (seal (ciphOf key) nonce (textOf s)) s) (sym e))
+
+  pub in-place-short : length s < 16 → (false ≡ inPlaceLawful key nonce s) × (s ≡ sealedInPlace key nonce s)
+  in-place-short h = in-place-decided false (short-unlawful key nonce s s h)
+
+  pub in-place-refused : 16 ≤ length s → fits (length key) (length nonce) (length s - 16) (length s - 16) (length s) ≡ false
+      → (false ≡ inPlaceLawful key nonce s) × (s ≡ sealedInPlace key nonce s)
+  unfolding openLawful
+  in-place-refused h e = in-place-decided false (ap₂ both (le-leb 16 (length s) h) e)
+
+  pub in-place-done : (nk : ℕ) (w m o : List ℕ) → 16 ≤ length s
+      → fits (length key) (length nonce) (length s - 16) (length s - 16) (length s) ≡ true
+      → nk ≡ nkOf (length key) → map bytes (take (4 * nk + 28) w) ≡ keyExpansion nk key → m ≡ nonce
+      → o ≡ seal (ciphAt (nk + 6) w) m (textOf s) → (true ≡ inPlaceLawful key nonce s) × (o ≡ sealedInPlace key nonce s)
+  unfolding openLawful
+  in-place-done nk w m o h e en ew em eo =
+      let d = in-place-decided true (ap₂ both (le-leb 16 (length s) h) e) in
+      (d .0, eo ∙ (λ i. seal (ciph-key nk key w en ew i) (em i) (textOf s)) ∙ d .1)
+
 -- ---- opening
 
 module _ (key nonce s out : List ℕ) where
@@ -148,10 +178,7 @@ module _ (key nonce s out : List ℕ) where
   open-unlawful e = decided false (authentic (ciphOf key) nonce s) e refl
 
   pub open-short : length s < 16 → (Unlawful ≡ openAnswer key nonce s out) × (out ≡ openOut key nonce s out)
-  unfolding openLawful
-  open-short h =
-      open-unlawful
-      (ap (λ (b : Bool). both b (fits (length key) (length nonce) (length s - 16) (length s - 16) (length out))) (lt-leb 16 (length s) h))
+  open-short h = open-unlawful (short-unlawful key nonce s out h)
 
   pub open-refused : 16 ≤ length s → fits (length key) (length nonce) (length s - 16) (length s - 16) (length out) ≡ false
       → (Unlawful ≡ openAnswer key nonce s out) × (out ≡ openOut key nonce s out)

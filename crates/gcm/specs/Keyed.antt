@@ -39,6 +39,13 @@ sealed key nonce text out = if (sealLawful key nonce text out) (put out 0 (seal 
 unfoldable pub openLawful : List ℕ → List ℕ → List ℕ → List ℕ → Bool
 openLawful key nonce s out = both (leb 16 (length s)) (fits (length key) (length nonce) (length s - 16) (length s - 16) (length out))
 
+-- sealing in place asks for room for a tag behind the text
+unfoldable pub inPlaceLawful : List ℕ → List ℕ → List ℕ → Bool
+inPlaceLawful key nonce s = openLawful key nonce s s
+
+unfoldable pub sealedInPlace : List ℕ → List ℕ → List ℕ → List ℕ
+sealedInPlace key nonce s = if (inPlaceLawful key nonce s) (seal (ciphOf key) nonce (textOf s)) s
+
 -- whether the tag is that of the text
 unfoldable pub authentic : (ℕ → List ℕ) → List ℕ → List ℕ → Bool
 authentic ciph nonce s = same (tag ciph nonce (textOf s)) (tagOf s)

@@ -3,7 +3,7 @@ use ctr::Nonce;
 use ghash::Element;
 ghost use mathlib.Core.Path.{_≡_};
 ghost use Prim.Native.Nat.{_+_, _-_, _<_, _≤_};
-ghost use lib.ListN.{length};
+ghost use lib.ListN.{length, take};
 ghost use Rattle.octets.specs.Buffers.{put};
 ghost use Rattle.octets.specs.Numbers.{toBe};
 ghost use Rattle.aes_tables.specs.SBox.{sBox};
@@ -13,7 +13,7 @@ ghost use Rattle.ghash.specs.Words.{blockOf};
 ghost use Rattle.ctr.specs.Gctr.{ciphAt};
 ghost use Rattle.ctr.specs.Words.{nonceBytes};
 ghost use Rattle.gcm.specs.Gcm as spec;
-ghost use Rattle.gcm.specs.Keyed.{maxText, words, authentic, sealLawful, sealed as sealedOf, openAnswer, openOut};
+ghost use Rattle.gcm.specs.Keyed.{maxText, words, authentic, sealLawful, sealed as sealedOf, inPlaceLawful, sealedInPlace, openAnswer, openOut};
 
 // What opening answers: the text is in the buffer; the tag is wrong; a length is wrong.
 pub enum Opened {
@@ -82,6 +82,26 @@ fn tag_of(
     tag
 }
 
+// The first len bytes of the lent buffer, encrypted or decrypted in place.
+fn crypt_front(
+    t: &[u32; 256],
+    sbox: &[u8; 256],
+    w: &[u32; 60],
+    rounds: usize,
+    n: Nonce,
+    len: usize,
+    out: &mut [u8],
+)
+    requires { ⌜ IsTable mixEntry (now t) ⌝ }
+    requires { ⌜ IsTable sBox (now sbox) ⌝ }
+    requires { ⌜ 0 < rounds ⌝ }
+    requires { ⌜ rounds < 15 ⌝ }
+    requires { ⌜ len ≤ length (now out) ⌝ }
+    ensures { λ _. ⌜ now (out .exit) ≡ put (now (out .entry)) 0 (spec.crypt (ciphAt rounds (now (w .entry))) (nonceBytes n) (take len (now (out .entry)))) ⌝ }
+{
+    ctr::gctr(t, sbox, w, rounds, n, 2, &mut out[..len]);
+}
+
 // A text to the front of the lent buffer, encrypted or decrypted there.
 fn crypt_into(
     t: &[u32; 256],
@@ -99,9 +119,31 @@ fn crypt_into(
     requires { ⌜ length (now text) ≤ length (now out) ⌝ }
     ensures { λ _. ⌜ now (out .exit) ≡ put (now (out .entry)) 0 (spec.crypt (ciphAt rounds (now (w .entry))) (nonceBytes n) (now (text .entry))) ⌝ }
 {
-    let len = text.len();
     octets::copy(out, 0, text);
-    ctr::gctr(t, sbox, w, rounds, n, 2, &mut out[..len]);
+    crypt_front(t, sbox, w, rounds, n, text.len(), out);
+}
+
+// Ciphertext and tag, at an expanded key and in place: the text is all but the last 16 bytes of the lent buffer.
+pub fn seal_in_place_at(
+    t: &[u32; 256],
+    sbox: &[u8; 256],
+    w: &[u32; 60],
+    rounds: usize,
+    n: Nonce,
+    body: &mut [u8],
+)
+    requires { ⌜ IsTable mixEntry (now t) ⌝ }
+    requires { ⌜ IsTable sBox (now sbox) ⌝ }
+    requires { ⌜ 0 < rounds ⌝ }
+    requires { ⌜ rounds < 15 ⌝ }
+    requires { ⌜ 16 ≤ length (now body) ⌝ }
+    requires { ⌜ length (now body) - 16 ≤ maxText ⌝ }
+    ensures { λ _. ⌜ now (body .exit) ≡ spec.seal (ciphAt rounds (now (w .entry))) (nonceBytes n) (spec.textOf (now (body .entry))) ⌝ }
+{
+    let len = body.len() - 16;
+    crypt_front(t, sbox, w, rounds, n, len, body);
+    let tag = tag_of(t, sbox, w, rounds, n, &body[..len]);
+    octets::copy(body, len, &tag);
 }
 
 // Ciphertext and tag of a text, at an expanded key, to the front of the lent buffer.
@@ -122,10 +164,9 @@ pub fn seal_at(
     requires { ⌜ length (now text) + 16 ≤ length (now out) ⌝ }
     ensures { λ _. ⌜ now (out .exit) ≡ put (now (out .entry)) 0 (spec.seal (ciphAt rounds (now (w .entry))) (nonceBytes n) (now (text .entry))) ⌝ }
 {
-    let len = text.len();
-    crypt_into(t, sbox, w, rounds, n, text, out);
-    let tag = tag_of(t, sbox, w, rounds, n, &out[..len]);
-    octets::copy(out, len, &tag);
+    let due = text.len() + 16;
+    octets::copy(out, 0, text);
+    seal_in_place_at(t, sbox, w, rounds, n, &mut out[..due]);
 }
 
 // Whether the last 16 bytes are the tag of those before them; then the text goes to the front of the lent buffer.
@@ -195,6 +236,27 @@ pub fn seal(key: &[u8], nonce: &[u8], text: &[u8], out: &mut [u8]) -> bool
     let t = aes_tables::mix_table();
     let w = aes::key::expand(&sbox, key, nk);
     seal_at(&t, &sbox, &w, nk + 6, ctr::read_nonce(nonce), text, out);
+    true
+}
+
+// Seals in place: the text is all but the last 16 bytes of the lent buffer, which are for the tag. A wrong length of key or
+// nonce, a buffer without room for a tag or a text over 2^36 - 32 bytes is refused: false, and nothing is written.
+pub fn seal_in_place(key: &[u8], nonce: &[u8], body: &mut [u8]) -> bool
+    ensures { λ r. ⌜ r ≡ inPlaceLawful (now (key .entry)) (now (nonce .entry)) (now (body .entry)) ⌝ }
+    ensures { λ r. ⌜ now (body .exit) ≡ sealedInPlace (now (key .entry)) (now (nonce .entry)) (now (body .entry)) ⌝ }
+{
+    if body.len() < 16 {
+        return false;
+    }
+    let len = body.len() - 16;
+    let nk = lawful_words(key.len(), nonce.len(), len, len, body.len());
+    if nk == 0 {
+        return false;
+    }
+    let sbox = aes_tables::sbox();
+    let t = aes_tables::mix_table();
+    let w = aes::key::expand(&sbox, key, nk);
+    seal_in_place_at(&t, &sbox, &w, nk + 6, ctr::read_nonce(nonce), body);
     true
 }
 

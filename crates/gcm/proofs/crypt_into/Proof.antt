@@ -1,22 +1,25 @@
 use native.Mathlib.Omega.{arith}
 use borrow.Author.Needs.{needs}
-use lib.ListN.{length-take}
 use Rattle.ctr.specs.Gctr.{ciphAt}
 use Rattle.ctr.specs.Words.{nonceBytes}
 use Rattle.gcm.proofs.GcmLaws.{crypt-law}
 use Rattle.gcm.proofs.crypt_into.Statement.{statement}
 use Rattle.gcm.proofs.crypt_into.Tie as tie
 
+crypt-front-requires : tie.Need-crypt-front-requires
+crypt-front-requires c κs =
+    let p = c .before .before .before in
+    let q = p .before .before .before .before .pre in
+    (q .0, (q .1 .0, (q .1 .1 .0, (q .1 .1 .1 .0, omega (arith, q .1 .1 .1 .1, p .copy .kept .0)))))
+
 returns : tie.Need-returns
 returns c =
-    let g = c .before .before in
-    let p = g .before .before .before .before in
+    let f = c .before .before in
+    let p = f .before .before .before .before in
     let start = p .before .before .before .before in
     let a = start .args in
     crypt-law (a .text .now) (a .out .now) (start .pre .1 .1 .1 .1) (ciphAt (a .rounds) (a .w .now)) (nonceBytes (a .n)) (p .copy .last .0) _
-    (p .copy .ensures) (g .gctr .ensures)
+    (p .copy .ensures) (f .crypt-front .ensures)
 
 pub crypt-into-spec : {M : Type 1} → statement M
-crypt-into-spec =
-    tie.close
-    (tie.spec (λ c κs. search needs) (λ c. search needs) (λ c. simp length-take (omega (arith, c .before .before .before .copy .kept .0))) (λ c κs. search needs) (λ c. search needs) returns)
+crypt-into-spec = tie.close (tie.spec (λ c κs. search needs) crypt-front-requires (λ c. search needs) returns)

@@ -1,0 +1,66 @@
+use mathlib.Core.Path.{_≡_}
+use Prim.Native.Nat.{_-_}
+use native.Mathlib.Omega.{arith}
+use borrow.Author.Needs.{needs}
+use lib.ListN.{length}
+use Rattle.gcm.proofs.KeyedLaws.{Fits, fits-not, fits-are, in-place-short, in-place-refused, in-place-done}
+use Rattle.gcm.proofs.seal_in_place.Statement.{statement}
+use Rattle.gcm.proofs.seal_in_place.Tie as tie
+
+-- where everything fits
+facts : (c : tie.Else2) → let a = c .before .before .before .before .before .before .args in
+    Fits (length (a .key .now)) (length (a .nonce .now)) (length (a .body .now) - 16) (length (a .body .now) - 16) (length (a .body .now))
+    (c .before .lawful-words .result)
+facts c = fits-are _ _ _ _ _ _ (c .before .lawful-words .ensures) (c .if2 .left)
+
+returns-2 : tie.Need-returns-2
+returns-2 c =
+    in-place-refused _ _ _ (c .before .before .if1 .left)
+    (fits-not _ _ _ _ _ _ (c .before .lawful-words .ensures) (c .if2 .taken))
+
+expand-requires : tie.Need-expand-requires
+expand-requires c κs =
+    let k = facts (c .before .before .before) .key in
+    (c .before .before .sbox .ensures, (k .words, (k .least, k .most)))
+
+add-seal-in-place-at : tie.Need-add-seal-in-place-at
+add-seal-in-place-at c = omega (arith, facts (c .before .before .before .before .before .before .before) .key .most)
+
+read-nonce-requires : tie.Need-read-nonce-requires
+read-nonce-requires c κs = facts (c .before .before .before .before .before .before .before) .nonce
+
+seal-in-place-at-requires : tie.Need-seal-in-place-at-requires
+seal-in-place-at-requires c κs =
+    let m = c .before .before .before .before .before .before .before in
+    let k = m .before .before in
+    let f = facts k in (
+      m .mix-table .ensures,
+      (m .before .sbox .ensures, (omega (arith, f .key .least), (omega (arith, f .key .most), (k .before .before .if1 .left, f .text)))),
+    )
+
+returns-3 : tie.Need-returns-3
+returns-3 c =
+    let r = c .before .before in
+    let n = r .before .before in
+    let e = n .before .before .before .before in
+    let k = e .before .before .before .before in
+    let f = facts k in
+    in-place-done _ _ _ (k .before .lawful-words .result) (e .expand .result) _ _ (k .before .before .if1 .left) (f .lawful) (f .words-are)
+    (e .expand .ensures) (n .read-nonce .ensures) (r .seal-in-place-at .ensures)
+
+pub seal-in-place-spec : {M : Type 1} → statement M
+seal-in-place-spec =
+    tie.close
+    (tie.spec
+    (λ c. in-place-short _ _ _ (c .if1 .taken))
+    (λ c. search needs)
+    (λ c κs. search needs)
+    returns-2
+    (λ c κs. search needs)
+    (λ c κs. search needs)
+    expand-requires
+    add-seal-in-place-at
+    read-nonce-requires
+    seal-in-place-at-requires
+    (λ c. search needs)
+    returns-3)
