@@ -100,6 +100,10 @@ module _ (key s : List ℕ) (f : ℕ → List ℕ → List ℕ → List ℕ) whe
   unfolding inPlace
   in-place-refused e = sym (ap (λ (b : Bool). if b (f (nkOf (length key)) key s) s) e)
 
+  pub in-place-lawful : 0 < nkOf (length key) → length s ≡ 16 → inPlace f key s ≡ f (nkOf (length key)) key s
+  unfolding inPlace
+  in-place-lawful k l = ap (λ (b : Bool). if b (f (nkOf (length key)) key s) s) (both-lawful 16 key s (λ e. omega arith) l)
+
   -- the block x is read, and y, the same under f, is written in its place
   pub in-place : (nk : ℕ) (o x y : List ℕ) → lawful 16 key s ≡ true → length s ≡ 16 → nk ≡ nkOf (length key) → x ≡ take 16 s
       → y ≡ f nk key x → length y ≡ 16 → o ≡ put s 0 y → o ≡ inPlace f key s

@@ -43,6 +43,10 @@ module _ (ciph : ℕ → List ℕ) (nonce : List ℕ) where
   unfolding crypt
   length-crypt s = length-gctr ciph (inc32 (j0 nonce)) s
 
+  pub length-opened : (s : List ℕ) → length (opened ciph nonce s) ≡ length s - 16
+  unfolding opened textOf
+  length-opened s = length-crypt (take (length s - 16) s) ∙ length-take-le (length s - 16) s (omega arith)
+
   pub length-tag : (c : List ℕ) → length (tag ciph nonce c) ≡ 16
   unfolding tag
   length-tag c = let s = hashed (hashKey ciph) c in length-gctr ciph (j0 nonce) (toBe 16 s) ∙ length-toBe 16 s

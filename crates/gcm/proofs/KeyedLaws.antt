@@ -16,7 +16,7 @@ use Rattle.aes.proofs.KeyedLaws.{KeyLength, key-length}
 use Rattle.ctr.specs.Gctr.{ciphAt, aesBlock}
 use Rattle.ctr.proofs.GctrLaws.{ciph-aes}
 use Rattle.gcm.specs.Gcm.{seal, textOf, opened}
-use Rattle.gcm.specs.declared.Opened.the-variants.{Unlawful}
+use Rattle.gcm.specs.declared.Opened.the-variants.{Text, Forged, Unlawful}
 use Rattle.gcm.specs.Keyed.{maxText, ciphOf, fits, words, sealLawful, sealed, openLawful, inPlaceLawful, sealedInPlace, authentic, answer, openAnswer, openOut}
 
 both-false : (b : Bool) → both b false ≡ false
@@ -195,3 +195,36 @@ module _ (key nonce s out : List ℕ) where
       let p = ciph-key nk key w en ew in
       let d = decided true b (ap₂ both (le-leb 16 (length s) h) e) (sym (eb ∙ (λ i. authentic (p i) (em i) s))) in
       (d .0, eo ∙ (λ i. if b (put out 0 (opened (p i) (em i) s)) out) ∙ d .1)
+
+  -- where every length is lawful, the tag decides
+  pub open-lawful : 0 < nkOf (length key) → length nonce ≡ 12 → 16 ≤ length s → length s - 16 ≤ maxText → length s - 16 ≤ length out
+      → openLawful key nonce s out ≡ true
+  unfolding openLawful fits
+  open-lawful k n t m r =
+      λ i. both (le-leb 16 (length s) t i)
+      (both (lt-ltb 0 (nkOf (length key)) k i)
+      (both (eq-eqb (length nonce) 12 n i) (both (le-leb (length s - 16) maxText m i) (le-leb (length s - 16) (length out) r i))))
+
+  pub open-decided : openLawful key nonce s out ≡ true → let b = authentic (ciphOf key) nonce s in
+      (answer true b ≡ openAnswer key nonce s out) × (if b (put out 0 (opened (ciphOf key) nonce s)) out ≡ openOut key nonce s out)
+  open-decided l = decided true (authentic (ciphOf key) nonce s) l refl
+
+-- the same of sealing in place
+pub in-place-seals : (key nonce s : List ℕ) → 0 < nkOf (length key) → length nonce ≡ 12 → 16 ≤ length s → length s - 16 ≤ maxText
+    → sealedInPlace key nonce s ≡ seal (ciphOf key) nonce (textOf s)
+unfolding inPlaceLawful sealedInPlace
+in-place-seals key nonce s k n t m =
+    ap (λ (b : Bool). if b (seal (ciphOf key) nonce (textOf s)) s) (open-lawful key nonce s s k n t m (omega arith))
+
+-- what an answer says of the tag
+pub answer-text : (b : Bool) → answer true b ≡ Text → b ≡ true
+answer-text true e = refl
+answer-text false e = absurd (let z : _≡_ {A = ℕ} 0 1 = cc in omega arith)
+
+pub answer-forged : (b : Bool) → answer true b ≡ Forged → b ≡ false
+answer-forged true e = absurd (let z : _≡_ {A = ℕ} 0 1 = cc in omega arith)
+answer-forged false e = refl
+
+pub answer-lawful : (b : Bool) → answer true b ≡ Unlawful → ⊥
+answer-lawful true e = let z : _≡_ {A = ℕ} 0 1 = cc in omega arith
+answer-lawful false e = let z : _≡_ {A = ℕ} 0 1 = cc in omega arith

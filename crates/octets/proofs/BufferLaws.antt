@@ -130,6 +130,11 @@ module _ (d : List ℕ) (at : ℕ) (s : List ℕ) (fits : at + length s ≤ leng
       ∙ drop-drop (length t) (at + length s) d)
       ∙ ap₂ (λ (x : List ℕ) (k : ℕ). x ++ drop k d) (append-assoc (take at d) s t) n
 
+-- the same, by what each writer left
+pub put-behind : (d s t v w : List ℕ) (at n : ℕ) → n ≡ at + length s → at + length s ≤ length d → v ≡ put d at s → w ≡ put v n t
+    → w ≡ put d at (s ++ t)
+put-behind d s t v w at n en h ev ew = ew ∙ (λ i. put (ev i) (en i) t) ∙ put-put d at s h t
+
 -- one byte
 pub put-one : (d : List ℕ) (at a : ℕ) → at < length d → put d at (a ∷ []) ≡ set d at a
 unfolding put

@@ -3,12 +3,12 @@
 use mathlib.Core.Path.{_≡_, refl, sym, ap, ap₂, _∙_, subst}
 use mathlib.Core.List.{List, [], _∷_, _++_}
 use Prim.Native.Nat.{ℕ, zero, suc, _+_, _-_, _*_, _/_, _%_, _^_, _<_, _≤_}
-use native.Mathlib.Nat.{add-zero, zero-add, add-suc, suc-add, add-comm, pow-zero, pow-suc, pow-succ', mod-lt, mod-eq-of-lt, div-add-mod', mod-one, div-one, div-div-eq-div-mul, mul-add-div-right, mul-add-mod-self-right, one-le-pow, lt-suc-self}
+use native.Mathlib.Nat.{add-zero, zero-add, add-suc, suc-add, add-comm, pow-zero, pow-suc, pow-succ', mod-lt, mod-eq-of-lt, div-add-mod', mod-one, div-one, div-div-eq-div-mul, mul-add-div-right, mul-add-mod-self-right, one-le-pow, lt-suc-self, le-of-eq}
 use native.Mathlib.Omega.{arith}
 use lib.Bits.{bitOr, or-shifted-r}
 use lib.Arith.{digits-lt, digits-div, digits-mod, mod-mul}
 use lib.Dec.{lit<}
-use lib.ListN.{length, getD, take, drop, replicate, drop-of-length-le}
+use lib.ListN.{length, getD, take, drop, replicate, drop-of-length-le, List·getD-append}
 use lib.Pow.{pow-add, shl-exact}
 use lib.Seq.{getD-take, getD-drop, drop-drop}
 use Rattle.octets.specs.Buffers.{Octets, put}
@@ -114,6 +114,9 @@ be-take n s = be-same n (take n s) s (λ i h. getD-take n s i 0 h)
 pub le-take : (n : ℕ) (s : List ℕ) → le n (take n s) ≡ le n s
 le-take n s = le-same n (take n s) s (λ i h. getD-take n s i 0 h)
 
+pub be-append : (n : ℕ) (s t : List ℕ) → n ≤ length s → be n (s ++ t) ≡ be n s
+be-append n s t h = be-same n (s ++ t) s (λ i l. List·getD-append s t 0 i (omega arith))
+
 -- past the end; with zeros behind; a copy of what is left of s, with zeros behind
 pub be-past : (n : ℕ) (s : List ℕ) {at : ℕ} → length s ≤ at → 0 ≡ be n (drop at s)
 be-past n s h = sym (ap (be n) (drop-of-length-le s h) ∙ be-nil n)
@@ -173,6 +176,13 @@ be-toBe (suc n) x =
     be-cons n (x / 256 ^ n % 256) (toBe n x)
     ∙ ap (λ (r : ℕ). x / 256 ^ n % 256 * 256 ^ n + r) (be-toBe n x)
     ∙ sym (ap (λ (p : ℕ). x % p) (pow-succ' 256 n) ∙ mod-mul x (lit< tt) (256-pos n))
+
+-- other bytes behind them do not show
+pub be-toBe-append : (n x : ℕ) (t : List ℕ) → be n (toBe n x ++ t) ≡ x % 256 ^ n
+be-toBe-append n x t = be-append n (toBe n x) t (le-of-eq (sym (length-toBe n x))) ∙ be-toBe n x
+
+pub be-front : (n x : ℕ) (t : List ℕ) → x < 256 ^ n → be n (toBe n x ++ t) ≡ x
+be-front n x t h = be-toBe-append n x t ∙ mod-eq-of-lt h
 
 pub le-toLe : (n x : ℕ) → le n (toLe n x) ≡ x % 256 ^ n
 unfolding le toLe

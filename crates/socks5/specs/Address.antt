@@ -48,3 +48,9 @@ ends Malformed n = false
 -- exactly one address, and nothing behind it
 unfoldable pub isAddress : List ℕ → Bool
 isAddress s = ends (parseAt s 0) (length s)
+
+-- a target in a longer string, whose address begins at place k: a name's bytes stand k places further on
+abbrev pub moved : ℕ → Target → Target
+moved k (V4 x) = V4 x
+moved k (V6 x y) = V6 x y
+moved k (Name place n) = Name (k + place) n

@@ -1,0 +1,6 @@
+pub mod LengthLaws
+pub mod SubkeyLaws
+pub mod AnswerLaws
+pub mod WritingLaws
+pub mod OpeningLaws
+pub mod ReadBack

@@ -1,0 +1,18 @@
+use native.Mathlib.Omega.{arith}
+use borrow.Author.Needs.{needs}
+use Rattle.datagram.proofs.LengthLaws.{length-plaintext}
+use Rattle.datagram.proofs.WritingLaws.{sealed-law}
+use Rattle.datagram.proofs.write.write_body.Statement.{statement}
+use Rattle.datagram.proofs.write.write_body.Tie as tie
+
+returns : tie.Need-returns
+returns c =
+    let s = c .before .before in
+    let w = s .before .before .before .before in
+    let start = w .before .before .before .before .before .before in
+    let a = start .args in
+    let l = length-plaintext (a .sender .side) (a .clock) (a .padding) (a .address .now) (a .payload .now) in
+    sealed-law _ _ _ _ _ _ _ (omega (arith, l, start .pre .1 .0)) (w .write-plaintext .ensures) (s .seal-body .ensures)
+
+pub write-body-spec : {M : Type 1} → statement M
+write-body-spec = tie.close (tie.spec (λ c κs. search needs) (λ c κs. search needs) (λ c. search needs) returns)

@@ -1,0 +1,118 @@
+-- Sending sessions, and sealing datagrams (SIP022, section 3.2): what is answered and what is written.
+use mathlib.Core.Bool.{Bool, true, false, not}
+use mathlib.Core.List.{List, _++_}
+use Prim.Native.Nat.{ℕ, _+_, _-_, _^_}
+use lib.Dec.{eqb, leb, ltb}
+use lib.ListN.{length}
+use Rattle.octets.specs.Buffers.{both, put}
+use Rattle.aes.specs.KeyExpansion.{aes}
+use Rattle.aes.specs.Keyed.{pick, nkOf}
+use Rattle.gcm.specs.Gcm.{seal}
+use Rattle.gcm.specs.Keyed.{ciphOf}
+use Rattle.protocol.specs.declared.Refusal.{Refusal}
+use Rattle.protocol.specs.declared.Refusal.the-variants.{Settings, Length, Room, Counter, Argument}
+use Rattle.protocol.specs.declared.Numbered.{Numbered}
+use Rattle.protocol.specs.declared.Numbered.the-variants.{Known, Unknown}
+use Rattle.protocol.specs.Method.{methodOf}
+use Rattle.protocol.specs.Subkey.{sessionSubkey}
+use Rattle.socks5.specs.Address.{isAddress}
+use Rattle.datagram.specs.declared.Side.{Side}
+use Rattle.datagram.specs.declared.Side.the-variants.{Client, Server}
+use Rattle.datagram.specs.declared.Sender.{Sender}
+use Rattle.datagram.specs.declared.Begun.{Begun}
+use Rattle.datagram.specs.declared.Begun.the-variants.{Ready, Refused as NotBegun}
+use Rattle.datagram.specs.declared.Sealed.{Sealed}
+use Rattle.datagram.specs.declared.Sealed.the-variants.{Datagram, Refused}
+use Rattle.datagram.specs.Headers.{separateHeader, nonce, fixedLength, plaintext}
+
+-- what UDP can carry over IPv4
+abbrev pub maxDatagram : ℕ
+maxDatagram = 65507
+
+-- the method of a number asks for a key of its own length
+abbrev pub asks : Numbered → ℕ → Bool
+asks (Known m) k = eqb (m .key) k
+asks Unknown k = false
+
+unfoldable pub keyFits : ℕ → ℕ → Bool
+keyFits method k = asks (methodOf method) k
+
+-- ---- sending sessions begin at packet ID 0
+
+abbrev pub clientSender : ℕ → Sender
+clientSender id = record { side = Client; id = id; packet = 0 }
+
+abbrev pub pickBegun : Bool → Begun → Begun → Begun
+pickBegun true a b = a
+pickBegun false a b = b
+
+-- a server's ID is not its client's
+abbrev pub begun : ℕ → ℕ → Begun
+begun id client = pickBegun (eqb id client) (NotBegun Argument) (Ready (record { side = Server client; id = id; packet = 0 }))
+
+abbrev pub differs : Side → ℕ → Bool
+differs Client id = true
+differs (Server client) id = not (eqb id client)
+
+abbrev pub idsDiffer : Sender → Bool
+idsDiffer sender = differs (sender .side) (sender .id)
+
+-- ---- what is answered
+
+-- the separate header, the main header, padding, address, payload, and the tag
+unfoldable pub sealedLength : Side → ℕ → ℕ → ℕ → ℕ
+sealedLength side address padding payload = fixedLength side + padding + address + payload + 32
+
+-- a length, and 0 for one that no datagram has
+unfoldable pub capped : ℕ → ℕ
+capped n = pick (leb n maxDatagram) n 0
+
+abbrev pub pickSealed : Bool → Sealed → Sealed → Sealed
+pickSealed true a b = a
+pickSealed false a b = b
+
+-- refusals 11, 2 and 3, of a capped length
+unfoldable pub lengthAnswer : ℕ → ℕ → ℕ → Sealed
+lengthAnswer packet n room =
+    pickSealed (eqb packet (2 ^ 64 - 1)) (Refused Counter)
+    (pickSealed (eqb n 0) (Refused Length) (pickSealed (leb n room) (Datagram n) (Refused Room)))
+
+-- refusal 12, and those behind it
+unfoldable pub argumentAnswer : Sender → List ℕ → ℕ → ℕ → ℕ → Sealed
+argumentAnswer sender address padding payload room =
+    pickSealed (both (isAddress address) (idsDiffer sender))
+    (lengthAnswer (sender .packet) (capped (sealedLength (sender .side) (length address) padding payload)) room) (Refused Argument)
+
+-- refusal 1, and those behind it; a key of k bytes, a payload of that length, and the room
+unfoldable pub sealAnswer : ℕ → ℕ → Sender → List ℕ → ℕ → ℕ → ℕ → Sealed
+sealAnswer method k sender address padding payload room =
+    pickSealed (keyFits method k) (argumentAnswer sender address padding payload room) (Refused Settings)
+
+-- ---- what becomes of the sending session: one packet further for each datagram
+
+abbrev pub packetsOf : Sealed → ℕ
+packetsOf (Datagram n) = 1
+packetsOf (Refused r) = 0
+
+abbrev pub sealNext : Sender → Sealed → Sender
+sealNext sender answer = record { side = sender .side; id = sender .id; packet = sender .packet + packetsOf answer }
+
+-- ---- what is written
+
+-- the separate header as one block under the shared key
+unfoldable pub separateBlock : List ℕ → ℕ → ℕ → List ℕ
+separateBlock key id packet = aes (nkOf (length key)) key (separateHeader id packet)
+
+-- a body in GCM under the session's subkey
+unfoldable pub sealBody : List ℕ → ℕ → ℕ → List ℕ → List ℕ
+sealBody key id packet text = seal (ciphOf (sessionSubkey key id)) (nonce id packet) text
+
+unfoldable pub datagram : List ℕ → Sender → ℕ → List ℕ → ℕ → List ℕ → List ℕ
+datagram key sender time address padding payload =
+    separateBlock key (sender .id) (sender .packet)
+    ++ sealBody key (sender .id) (sender .packet) (plaintext (sender .side) time padding address payload)
+
+-- the datagram at the front of the buffer, and nothing for a refusal
+abbrev pub sealOut : Sealed → List ℕ → List ℕ → List ℕ
+sealOut (Datagram n) s out = put out 0 s
+sealOut (Refused r) s out = out

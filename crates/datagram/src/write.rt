@@ -1,0 +1,293 @@
+// Sealing datagrams.
+use super::MAX_DATAGRAM;
+use super::Sealed;
+use super::Sealing;
+use super::Sender;
+use super::Side;
+use super::fixed_length;
+use super::key_fits;
+use super::separate_header;
+use protocol::Refusal;
+ghost use mathlib.Core.Path.{_≡_};
+ghost use mathlib.Core.List.{_∷_, _++_};
+ghost use Prim.Native.Nat.{_+_, _-_, _<_, _≤_, _^_};
+ghost use lib.ListN.{length};
+ghost use Rattle.octets.specs.Buffers.{put};
+ghost use Rattle.octets.specs.Numbers.{toBe};
+ghost use Rattle.aes.specs.KeyExpansion.{aes};
+ghost use Rattle.aes.specs.Keyed.{nkOf};
+ghost use Rattle.gcm.specs.Gcm.{textOf};
+ghost use Rattle.datagram.specs.Headers.{fixedLength, fixedPart, plaintext, separateHeader};
+ghost use Rattle.datagram.specs.Sealing.{maxDatagram, idsDiffer, sealedLength, capped, lengthAnswer, argumentAnswer, sealAnswer, packetsOf, sealNext, separateBlock, sealBody, datagram, sealOut};
+
+// ---- what is answered
+
+fn ids_differ(sender: Sender) -> bool
+    ensures { λ r. ⌜ r ≡ idsDiffer sender ⌝ }
+{
+    let side = sender.side;
+    match side {
+        Side::Client => true,
+        Side::Server(client) => sender.id != client,
+    }
+}
+
+// The length of the sealed datagram, and 0 where that is over the longest.
+fn sealed_length(side: Side, address: usize, padding: usize, payload: usize) -> usize
+    ensures { λ r. ⌜ r ≡ capped (sealedLength side address padding payload) ⌝ }
+{
+    let fixed = fixed_length(side);
+    if MAX_DATAGRAM < address {
+        return 0;
+    }
+    if MAX_DATAGRAM < padding {
+        return 0;
+    }
+    if MAX_DATAGRAM < payload {
+        return 0;
+    }
+    let n = fixed + padding + address + payload + 32;
+    if MAX_DATAGRAM < n {
+        return 0;
+    }
+    n
+}
+
+// Refusals 11, 2 and 3, in this order.
+fn length_answer(packet: u64, n: usize, room: usize) -> Sealed
+    ensures { λ r. ⌜ r ≡ lengthAnswer packet n room ⌝ }
+{
+    if packet == 0xffff_ffff_ffff_ffff {
+        return Sealed::Refused(Refusal::Counter);
+    }
+    if n == 0 {
+        return Sealed::Refused(Refusal::Length);
+    }
+    if room < n {
+        return Sealed::Refused(Refusal::Room);
+    }
+    Sealed::Datagram(n)
+}
+
+// Refusal 12, and those behind it.
+fn argument_answer(
+    sender: Sender,
+    address: &[u8],
+    padding: usize,
+    payload: usize,
+    room: usize,
+) -> Sealed
+    ensures { λ r. ⌜ r ≡ argumentAnswer sender (now (address .entry)) padding payload room ⌝ }
+{
+    if socks5::is_address(address) {
+        if ids_differ(sender) {
+            let side = sender.side;
+            let n = sealed_length(side, address.len(), padding, payload);
+            return length_answer(sender.packet, n, room);
+        }
+    }
+    Sealed::Refused(Refusal::Argument)
+}
+
+// What sealing answers, from the lengths of what is lent: refusals 1, 12, 11, 2 and 3, in this order, or the length.
+fn seal_answer(
+    method: u64,
+    key: usize,
+    sender: Sender,
+    address: &[u8],
+    padding: usize,
+    payload: usize,
+    room: usize,
+) -> Sealed
+    ensures { λ r. ⌜ r ≡ sealAnswer method key sender (now (address .entry)) padding payload room ⌝ }
+{
+    if key_fits(method, key) {
+        return argument_answer(sender, address, padding, payload, room);
+    }
+    Sealed::Refused(Refusal::Settings)
+}
+
+// How many packet IDs an answer uses up.
+fn packets(answer: Sealed) -> u64
+    ensures { λ r. ⌜ r ≡ packetsOf answer ⌝ }
+{
+    match answer {
+        Sealed::Datagram(_) => 1,
+        Sealed::Refused(_) => 0,
+    }
+}
+
+// An answer, with the sending session as it is then.
+fn sealing(sender: Sender, answer: Sealed) -> Sealing
+    requires { ⌜ (sender .packet ≡ 2 ^ 64 - 1 → packetsOf answer ≡ 0) ⌝ }
+    ensures { λ r. ⌜ r .answer ≡ answer ⌝ }
+    ensures { λ r. ⌜ r .sender ≡ sealNext sender answer ⌝ }
+{
+    let side = sender.side;
+    Sealing {
+        answer: answer,
+        sender: Sender {
+            side: side,
+            id: sender.id,
+            packet: sender.packet + packets(answer),
+        },
+    }
+}
+
+// ---- what is written
+
+// Type and time.
+fn write_start(out: &mut [u8], kind: u8, clock: u64)
+    requires { ⌜ 9 ≤ length (now out) ⌝ }
+    ensures { λ _. ⌜ now (out .exit) ≡ put (now (out .entry)) 0 (kind ∷ toBe 8 clock) ⌝ }
+{
+    out[0] = kind;
+    octets::write_u64_be(out, 1, clock);
+}
+
+// The main header before its padding.
+fn write_fixed(out: &mut [u8], side: Side, clock: u64, padding: usize)
+    requires { ⌜ 19 ≤ length (now out) ⌝ }
+    requires { ⌜ padding < 2 ^ 16 ⌝ }
+    ensures { λ _. ⌜ now (out .exit) ≡ put (now (out .entry)) 0 (fixedPart side clock padding) ⌝ }
+{
+    match side {
+        Side::Client => {
+            write_start(out, 0, clock);
+            octets::write_u16_be(out, 9, padding as u16);
+        }
+        Side::Server(client) => {
+            write_start(out, 1, clock);
+            octets::write_u64_be(out, 9, client);
+            octets::write_u16_be(out, 17, padding as u16);
+        }
+    }
+}
+
+// The plaintext of a datagram's body, to the front of a buffer with room for it and for the tag.
+fn write_plaintext(
+    out: &mut [u8],
+    side: Side,
+    clock: u64,
+    address: &[u8],
+    padding: usize,
+    payload: &[u8],
+)
+    requires { ⌜ padding < 2 ^ 16 ⌝ }
+    requires { ⌜ fixedLength side + padding + length (now address) + length (now payload) + 16 ≤ length (now out) ⌝ }
+    ensures { λ _. ⌜ now (out .exit) ≡ put (now (out .entry)) 0 (plaintext side clock padding (now (address .entry)) (now (payload .entry))) ⌝ }
+{
+    write_fixed(out, side, clock, padding);
+    let fixed = fixed_length(side);
+    octets::zero(out, fixed, padding);
+    let at = fixed + padding;
+    octets::copy(out, at, address);
+    octets::copy(out, at + address.len(), payload);
+}
+
+// The encrypted separate header, to the front of a buffer.
+fn write_separate(out: &mut [u8], key: &[u8], id: u64, packet: u64)
+    requires { ⌜ 0 < nkOf (length (now key)) ⌝ }
+    requires { ⌜ 16 ≤ length (now out) ⌝ }
+    ensures { λ _. ⌜ now (out .exit) ≡ put (now (out .entry)) 0 (separateBlock (now (key .entry)) id packet) ⌝ }
+{
+    let mut header = separate_header(id, packet);
+    aes::encrypt::encrypt_block(key, &mut header);
+    octets::copy(out, 0, &header);
+}
+
+// Seals a body in place: its last 16 bytes are room for the tag.
+fn seal_body(body: &mut [u8], key: &[u8], id: u64, packet: u64)
+    requires { ⌜ 0 < nkOf (length (now key)) ⌝ }
+    requires { ⌜ 16 ≤ length (now body) ⌝ }
+    requires { ⌜ length (now body) ≤ maxDatagram ⌝ }
+    ensures { λ _. ⌜ now (body .exit) ≡ sealBody (now (key .entry)) id packet (textOf (now (body .entry))) ⌝ }
+{
+    let header = separate_header(id, packet);
+    let mut subkey = [0u8; 32];
+    protocol::derive_session_subkey(key, id, &mut subkey);
+    let n = key.len();
+    gcm::seal_in_place(&subkey[..n], &header[4..16], body);
+}
+
+fn write_body(
+    body: &mut [u8],
+    key: &[u8],
+    sender: Sender,
+    clock: u64,
+    address: &[u8],
+    padding: usize,
+    payload: &[u8],
+)
+    requires { ⌜ 0 < nkOf (length (now key)) ⌝ }
+    requires { ⌜ length (now body) ≡ fixedLength (sender .side) + padding + length (now address) + length (now payload) + 16 ⌝ }
+    requires { ⌜ length (now body) ≤ maxDatagram ⌝ }
+    ensures { λ _. ⌜ now (body .exit) ≡ sealBody (now (key .entry)) (sender .id) (sender .packet) (plaintext (sender .side) clock padding (now (address .entry)) (now (payload .entry))) ⌝ }
+{
+    let side = sender.side;
+    write_plaintext(body, side, clock, address, padding, payload);
+    seal_body(body, key, sender.id, sender.packet);
+}
+
+// A datagram of n bytes, to the front of a buffer. The body is sealed where it stands, behind the separate header.
+fn write_datagram(
+    out: &mut [u8],
+    n: usize,
+    key: &[u8],
+    sender: Sender,
+    clock: u64,
+    address: &[u8],
+    padding: usize,
+    payload: &[u8],
+)
+    requires { ⌜ 0 < nkOf (length (now key)) ⌝ }
+    requires { ⌜ n ≡ sealedLength (sender .side) (length (now address)) padding (length (now payload)) ⌝ }
+    requires { ⌜ n ≤ maxDatagram ⌝ }
+    requires { ⌜ n ≤ length (now out) ⌝ }
+    ensures { λ _. ⌜ now (out .exit) ≡ put (now (out .entry)) 0 (datagram (now (key .entry)) sender clock (now (address .entry)) padding (now (payload .entry))) ⌝ }
+{
+    write_separate(out, key, sender.id, sender.packet);
+    write_body(
+        &mut out[16..n],
+        key,
+        sender,
+        clock,
+        address,
+        padding,
+        payload,
+    );
+}
+
+// Seals a datagram to the front of the lent buffer. The address is given as its bytes (RFC 1928), exactly one; the time
+// written is the clock. A refusal writes nothing and leaves the sending session as it was.
+pub fn seal(
+    method: u64,
+    key: &[u8],
+    sender: Sender,
+    clock: u64,
+    address: &[u8],
+    padding: usize,
+    payload: &[u8],
+    out: &mut [u8],
+) -> Sealing
+    ensures { λ r. ⌜ r .answer ≡ sealAnswer method (length (now (key .entry))) sender (now (address .entry)) padding (length (now (payload .entry))) (length (now (out .entry))) ⌝ }
+    ensures { λ r. ⌜ r .sender ≡ sealNext sender (r .answer) ⌝ }
+    ensures { λ r. ⌜ now (out .exit) ≡ sealOut (r .answer) (datagram (now (key .entry)) sender clock (now (address .entry)) padding (now (payload .entry))) (now (out .entry)) ⌝ }
+{
+    let answer = seal_answer(
+        method,
+        key.len(),
+        sender,
+        address,
+        padding,
+        payload.len(),
+        out.len(),
+    );
+    match answer {
+        Sealed::Datagram(n) => {
+            write_datagram(out, n, key, sender, clock, address, padding, payload);
+            sealing(sender, answer)
+        }
+        Sealed::Refused(_) => sealing(sender, answer),
+    }
+}
