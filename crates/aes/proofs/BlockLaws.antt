@@ -16,8 +16,8 @@ use Rattle.aes_tables.specs.Field.{_⊕_, _•_}
 use Rattle.aes_tables.specs.SBox.{sBox}
 use Rattle.aes_tables.proofs.Substitution.{sBox-lt}
 use Rattle.aes_tables.proofs.Products.{xTimes-lt, product-lt}
-use Rattle.aes.specs.Cipher.{IsBlock, at, state, byColumn, subBytes, shiftRows, mixColumn, mixColumns, word, roundKey, addRoundKey, rounds}
-use Rattle.aes.specs.KeyExpansion.{rotWord, subWord, xPower, rcon, if, temp, keyWords, expanded, keyExpansion}
+use Rattle.aes.specs.Cipher.{IsBlock, at, state, byColumn, subBytes, shiftRows, mixColumn, mixColumns, word, roundKey, addRoundKey, rounds, cipher}
+use Rattle.aes.specs.KeyExpansion.{rotWord, subWord, xPower, rcon, if, temp, keyWords, expanded, keyExpansion, aes}
 
 -- ---- a block is the state of its bytes
 
@@ -73,6 +73,18 @@ octets-mixColumn a b c d ha hb hc hd =
 length-mix : (s : List ℕ) → length (mixColumns s) ≡ 16
 unfolding mixColumns byColumn mixColumn
 length-mix s = refl
+
+length-shift : (s : List ℕ) → length (shiftRows s) ≡ 16
+unfolding shiftRows state
+length-shift s = refl
+
+-- a block under AES, whatever the key and the block
+pub length-aes : (nk : ℕ) (key s : List ℕ) → length (aes nk key s) ≡ 16
+unfolding aes cipher addRoundKey
+length-aes nk key s =
+    let w = keyExpansion nk key in
+    let t = subBytes (rounds w (nk + 6 - 1) (addRoundKey w 0 s)) in
+    length-xor (shiftRows t) (roundKey w (nk + 6)) ∙ length-shift t
 
 pub byte-at : {s : List ℕ} → Octets s → (r c : ℕ) → at s r c < 256
 unfolding at

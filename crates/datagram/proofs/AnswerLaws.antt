@@ -1,14 +1,14 @@
 -- What sealing answers: one law for each way out, and what an answered length tells.
 -- Assumes nothing.
-use mathlib.Core.Path.{_≡_, refl, sym, ap, ap₂, _∙_, subst}
+use mathlib.Core.Path.{_≡_, refl, sym, ap, ap₂, _∙_}
 use mathlib.Core.Bool.{Bool, true, false}
 use mathlib.Core.List.{List}
 use Prim.Native.Nat.{ℕ, _+_, _-_, _^_, _≤_, _<_}
 use native.Mathlib.Decide.{decLe}
 use native.Mathlib.Omega.{arith}
-use lib.Dec.{T, eqb, leb, eqb→eq, leb→le}
+use lib.Dec.{T, eqb, leb, leb→le}
 use lib.ListN.{length}
-use borrow.Author.Tests.{eq-eqb, ne-eqb, le-leb, lt-leb, eqb-true, eqb-false}
+use borrow.Author.Tests.{eq-eqb, ne-eqb, le-leb, lt-leb, leb-true, eqb-false}
 use Rattle.octets.specs.Buffers.{both}
 use Rattle.aes.specs.Keyed.{pick, nkOf}
 use Rattle.protocol.specs.declared.Refusal.{Refusal}
@@ -49,14 +49,6 @@ pub differs-law : (id : ℕ) (p q : Side) → p ≡ q → differs q id ≡ diffe
 differs-law id p q e = ap (λ (side : Side). differs side id) (sym e)
 
 -- ---- the length
-
-pub fixed-most : (side : Side) → fixedLength side ≤ 19
-fixed-most Client = omega arith
-fixed-most (Server client) = omega arith
-
-pub fixed-least : (side : Side) → 11 ≤ fixedLength side
-fixed-least Client = omega arith
-fixed-least (Server client) = omega arith
 
 pub capped-over : (n x : ℕ) → maxDatagram < x → x ≤ n → 0 ≡ capped n
 unfolding capped
@@ -146,7 +138,8 @@ module _ (method k : ℕ) (sender : Sender) (address : List ℕ) (padding payloa
 
 -- ---- what a length that was answered tells
 
-pub record Sealable (k : ℕ) (sender : Sender) (address : List ℕ) (padding payload room n : ℕ) : Type 0 where
+pub record Sealable (method k : ℕ) (sender : Sender) (address : List ℕ) (padding payload room n : ℕ) : Type 0 where
+  pub fits : keyFits method k ≡ true
   pub key : 0 < nkOf k
   pub whole : isAddress address ≡ true
   pub counter : sender .packet ≡ 2 ^ 64 - 1 → ⊥
@@ -173,12 +166,8 @@ both-true : (a b : Bool) → both a b ≡ true → a ≡ true
 both-true true b e = refl
 both-true false b e = e
 
-test-true : (b : Bool) → b ≡ true → T b
-test-true true e = tt
-test-true false e = absurd (let z : _≡_ {A = ℕ} 0 1 = cc in omega arith)
-
 module _ (method k : ℕ) (sender : Sender) (address : List ℕ) (padding payload room n : ℕ) where
-  pub sealable : sealAnswer method k sender address padding payload room ≡ Datagram n → Sealable k sender address padding payload room n
+  pub sealable : sealAnswer method k sender address padding payload room ≡ Datagram n → Sealable method k sender address padding payload room n
   unfolding sealAnswer argumentAnswer lengthAnswer
   sealable e =
       let s = sealedLength (sender .side) (length address) padding payload in
@@ -189,8 +178,9 @@ module _ (method k : ℕ) (sender : Sender) (address : List ℕ) (padding payloa
       let e₅ = passed (leb (capped s) room) _ _ n (e₄ .1) in
       let c = capped-is s (eqb-false (capped s) 0 (e₄ .0)) in
       let is : capped s ≡ n = ap lengthOf (e₅ .1) in
-      let within : capped s ≤ room = leb→le (capped s) room (test-true (leb (capped s) room) (e₅ .0)) in
+      let within : capped s ≤ room = leb-true (capped s) room (e₅ .0) in
       record {
+        fits = e₁ .0;
         key = key-of-method method k (e₁ .0);
         whole = both-true (isAddress address) (idsDiffer sender) (e₂ .0);
         counter = eqb-false (sender .packet) (2 ^ 64 - 1) (e₃ .0);

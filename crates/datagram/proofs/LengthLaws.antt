@@ -2,18 +2,15 @@
 -- Assumes nothing.
 use mathlib.Core.Path.{_≡_, refl, ap, ap₂, _∙_}
 use mathlib.Core.List.{List, _++_}
-use Prim.Native.Nat.{ℕ, _+_, _-_}
+use Prim.Native.Nat.{ℕ, _+_, _-_, _≤_}
 use native.Mathlib.Omega.{arith}
 use lib.ListN.{length, replicate, length-append, length-drop, length-replicate}
 use Rattle.octets.specs.Numbers.{toBe}
-use Rattle.octets.proofs.BufferLaws.{length-xor}
 use Rattle.octets.proofs.NumberLaws.{length-toBe}
-use Rattle.aes.specs.Cipher.{state, shiftRows, subBytes, roundKey, addRoundKey, rounds, cipher}
-use Rattle.aes.specs.KeyExpansion.{keyExpansion, aes}
 use Rattle.aes.specs.Keyed.{nkOf}
-use Rattle.gcm.specs.Gcm.{crypt, tag, seal}
+use Rattle.aes.proofs.BlockLaws.{length-aes}
 use Rattle.gcm.specs.Keyed.{ciphOf}
-use Rattle.gcm.proofs.GcmLaws.{length-crypt, length-tag}
+use Rattle.gcm.proofs.GcmLaws.{length-seal}
 use Rattle.protocol.specs.Subkey.{sessionSubkey}
 use Rattle.datagram.specs.declared.Side.{Side}
 use Rattle.datagram.specs.declared.Side.the-variants.{Client, Server}
@@ -33,23 +30,19 @@ unfolding nonce
 length-nonce id packet =
     length-drop 4 (separateHeader id packet) ∙ ap (λ (n : ℕ). n - 4) (length-separateHeader id packet)
 
--- a block under AES, whatever the key and the block
-length-shift : (s : List ℕ) → length (shiftRows s) ≡ 16
-unfolding shiftRows state
-length-shift s = refl
-
-length-cipher : (nr : ℕ) (w : List (List ℕ)) (s : List ℕ) → length (cipher nr w s) ≡ 16
-unfolding cipher addRoundKey
-length-cipher nr w s =
-    let t = subBytes (rounds w (nr - 1) (addRoundKey w 0 s)) in
-    length-xor (shiftRows t) (roundKey w nr) ∙ length-shift t
-
 pub length-separateBlock : (key : List ℕ) (id packet : ℕ) → length (separateBlock key id packet) ≡ 16
-unfolding separateBlock aes
-length-separateBlock key id packet =
-    length-cipher (nkOf (length key) + 6) (keyExpansion (nkOf (length key)) key) (separateHeader id packet)
+unfolding separateBlock
+length-separateBlock key id packet = length-aes (nkOf (length key)) key (separateHeader id packet)
 
 -- ---- the body
+
+pub fixed-least : (side : Side) → 11 ≤ fixedLength side
+fixed-least Client = omega arith
+fixed-least (Server client) = omega arith
+
+pub fixed-most : (side : Side) → fixedLength side ≤ 19
+fixed-most Client = omega arith
+fixed-most (Server client) = omega arith
 
 pub length-clientField : (side : Side) → 11 + length (clientField side) ≡ fixedLength side
 length-clientField Client = refl
@@ -82,12 +75,8 @@ module _ (side : Side) (time padding : ℕ) where
       )
 
 pub length-sealBody : (key : List ℕ) (id packet : ℕ) (text : List ℕ) → length (sealBody key id packet text) ≡ length text + 16
-unfolding sealBody seal
-length-sealBody key id packet text =
-    let ciph = ciphOf (sessionSubkey key id) in
-    let n = nonce id packet in
-    length-append (crypt ciph n text) (tag ciph n (crypt ciph n text))
-    ∙ ap₂ (λ (a b : ℕ). a + b) (length-crypt ciph n text) (length-tag ciph n (crypt ciph n text))
+unfolding sealBody
+length-sealBody key id packet text = length-seal (ciphOf (sessionSubkey key id)) (nonce id packet) text
 
 -- ---- the whole
 

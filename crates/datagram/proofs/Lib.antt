@@ -4,3 +4,4 @@ pub mod AnswerLaws
 pub mod WritingLaws
 pub mod OpeningLaws
 pub mod ReadBack
+pub mod Theorems

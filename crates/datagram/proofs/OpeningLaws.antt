@@ -15,7 +15,7 @@ use Rattle.octets.specs.Numbers.{be}
 use Rattle.octets.proofs.BufferLaws.{rest, put-whole, take-put}
 use Rattle.aes.specs.KeyExpansion.{if}
 use Rattle.aes.specs.Keyed.{nkOf, inPlace}
-use Rattle.aes.proofs.KeyedLaws.{both-lawful}
+use Rattle.aes.proofs.KeyedLaws.{in-place-lawful}
 use Rattle.aes_inverse.specs.InvCipher.{invAes}
 use Rattle.gcm.specs.Keyed.{ciphOf, answer, openAnswer, openOut}
 use Rattle.gcm.specs.declared.Opened.{Opened as Answer}
@@ -46,12 +46,10 @@ module _ (key s : List ℕ) where
   -- the first 16 bytes, copied and decrypted in place
   separate-law : (z o b : List ℕ) → 0 < nkOf (length key) → 16 ≤ length s → length z ≡ 16 → o ≡ put z 0 (take 16 s)
       → b ≡ inPlace invAes key o → b ≡ separateOf key s
-  unfolding separateOf inPlace
+  unfolding separateOf
   separate-law z o b k l m eo eb =
       let n : length (take 16 s) ≡ 16 = length-take-le 16 s l in
-      let e = eo ∙ put-whole z (take 16 s) (omega arith) in
-      eb ∙ ap (inPlace invAes key) e
-      ∙ ap (λ (t : Bool). if t (invAes (nkOf (length key)) key (take 16 s)) (take 16 s)) (both-lawful 16 key (take 16 s) (λ h. omega arith) n)
+      eb ∙ ap (inPlace invAes key) (eo ∙ put-whole z (take 16 s) (omega arith)) ∙ in-place-lawful key (take 16 s) invAes k n
 
   pub separate-read : (z o b : List ℕ) (x y : ℕ) → 0 < nkOf (length key) → 16 ≤ length s → length z ≡ 16 → o ≡ put z 0 (take 16 s)
       → b ≡ inPlace invAes key o → x ≡ be 8 b → y ≡ be 8 (drop 8 b) → (x ≡ sessionOf key s) × (y ≡ packetOf key s)
@@ -102,14 +100,6 @@ module _ (key : List ℕ) (id packet : ℕ) (body out : List ℕ) where
     body-lawful e = answer-lawful (bodyAuthentic key id packet body) (d .answers ∙ e)
 
 -- ---- the main header
-
-pub fixed-least : (side : Side) → 11 ≤ fixedLength side
-fixed-least Client = omega arith
-fixed-least (Server client) = omega arith
-
-pub fixed-most : (side : Side) → fixedLength side ≤ 19
-fixed-most Client = omega arith
-fixed-most (Server client) = omega arith
 
 pub meant-law : (side : Side) (client x : ℕ) (plain : List ℕ) → side ≡ Server client → x ≡ be 8 (drop 9 plain)
     → eqb x client ≡ meant side plain

@@ -148,7 +148,7 @@ fn write_start(out: &mut [u8], kind: u8, clock: u64)
 // The main header before its padding.
 fn write_fixed(out: &mut [u8], side: Side, clock: u64, padding: usize)
     requires { ⌜ 19 ≤ length (now out) ⌝ }
-    requires { ⌜ padding < 2 ^ 16 ⌝ }
+    requires { ⌜ padding ≤ maxDatagram ⌝ }
     ensures { λ _. ⌜ now (out .exit) ≡ put (now (out .entry)) 0 (fixedPart side clock padding) ⌝ }
 {
     match side {
@@ -173,7 +173,7 @@ fn write_plaintext(
     padding: usize,
     payload: &[u8],
 )
-    requires { ⌜ padding < 2 ^ 16 ⌝ }
+    requires { ⌜ padding ≤ maxDatagram ⌝ }
     requires { ⌜ fixedLength side + padding + length (now address) + length (now payload) + 16 ≤ length (now out) ⌝ }
     ensures { λ _. ⌜ now (out .exit) ≡ put (now (out .entry)) 0 (plaintext side clock padding (now (address .entry)) (now (payload .entry))) ⌝ }
 {

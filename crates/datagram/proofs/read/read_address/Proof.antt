@@ -1,6 +1,7 @@
 use native.Mathlib.Omega.{arith}
 use borrow.Author.Needs.{needs}
-use Rattle.datagram.proofs.OpeningLaws.{fixed-least, fixed-most, address-found, address-none}
+use Rattle.datagram.proofs.LengthLaws.{fixed-least, fixed-most}
+use Rattle.datagram.proofs.OpeningLaws.{address-found, address-none}
 use Rattle.datagram.proofs.read.read_address.Statement.{statement}
 use Rattle.datagram.proofs.read.read_address.Tie as tie
 

@@ -9,7 +9,7 @@ use Rattle.datagram.proofs.write.seal.Tie as tie
 
 -- where a length is answered
 facts : (c : tie.After-answer) → let a = c .before .before .before .before .before .before .before .args in
-    Sealable (length (a .key .now)) (a .sender) (a .address .now) (a .padding) (length (a .payload .now)) (length (a .out .now)) (c .answer .given .0 .0)
+    Sealable (a .method) (length (a .key .now)) (a .sender) (a .address .now) (a .padding) (length (a .payload .now)) (length (a .out .now)) (c .answer .given .0 .0)
 facts c = sealable _ _ _ _ _ _ _ _ (sym (c .before .before .seal-answer .ensures) ∙ c .answer .given .1)
 
 write-datagram-requires : tie.Need-write-datagram-requires

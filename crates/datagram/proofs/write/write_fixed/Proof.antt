@@ -35,7 +35,7 @@ write-fixed-spec =
     (tie.spec
     (λ c. search needs)
     (λ c κs. search needs)
-    (λ c. search needs)
+    (λ p. search needs)
     (λ c κs. search needs)
     (λ c. search needs)
     (λ c κs. search needs)

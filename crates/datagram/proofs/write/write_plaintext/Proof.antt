@@ -1,6 +1,6 @@
 use native.Mathlib.Omega.{arith}
 use borrow.Author.Needs.{needs}
-use Rattle.datagram.proofs.AnswerLaws.{fixed-least}
+use Rattle.datagram.proofs.LengthLaws.{fixed-least}
 use Rattle.datagram.proofs.WritingLaws.{plaintext-law}
 use Rattle.datagram.proofs.write.write_plaintext.Statement.{statement}
 use Rattle.datagram.proofs.write.write_plaintext.Tie as tie
