@@ -8,12 +8,13 @@ export CARGO_TARGET_DIR := $(CURDIR)/target/host
 test:
 	.ci/run
 
-# The data of the programs vectors_aes, vectors_gcm, vectors_blake3 and vectors_datagram and what they must print.
+# The data of the programs vectors_aes, vectors_gcm, vectors_blake3, vectors_datagram and vectors_sessions and what they must print.
 vectors:
 	python3 tools/aes-vectors.py
 	python3 tools/gcm-vectors.py
 	python3 tools/blake3-vectors.py
 	python3 tools/datagram-vectors.py
+	python3 tools/session-vectors.py
 
 # The table of speeds. libssl-dev has the libcrypto.so that the linker asks for.
 bench:

@@ -91,10 +91,6 @@ inverse-product b h =
     ap (λ (x : ℕ). suc b • x) (inverse-entry (suc b) (omega arith))
     ∙ eqb→eq _ _ (at-each 255 (λ y. eqb (suc y • unaffine (getD sTable (suc y) 0)) 1) tt b h)
 
--- P12 of the scope: entry 53 (hex) is ed
-pub entry-53 : sBox 0x53 ≡ 0xed
-entry-53 = sym (s-table .entry 0x53 (ltb→lt 0x53 256 tt))
-
 pub sBox-lt : (x : ℕ) → x < 256 → sBox x < 256
 sBox-lt x h = subst (λ (y : ℕ). y < 256) (s-table .entry x h) (ltb→lt _ _ (at-each 256 (λ y. ltb (getD sTable y 0) 256) tt x h))
 

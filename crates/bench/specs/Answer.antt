@@ -9,6 +9,11 @@ use Rattle.octets.specs.Numbers.{be, toBe}
 use Rattle.aes.specs.KeyExpansion.{if}
 use Rattle.ghash.specs.Ghash.{blocks, ghash}
 use Rattle.protocol.specs.Subkey.{subkey}
+use Rattle.session.specs.declared.Peer.{Peer}
+use Rattle.book.specs.Call.{Answer, refused, opened}
+use Rattle.datagram.specs.declared.Header.{Header}
+use Rattle.datagram.specs.declared.Sealed.{Sealed}
+use Rattle.datagram.specs.declared.Sealed.the-variants.{Datagram, Refused}
 use Rattle.gcm.specs.declared.Opened.{Opened}
 use Rattle.gcm.specs.declared.Opened.the-variants.{Text, Forged, Unlawful}
 
@@ -35,3 +40,17 @@ subkeyLawful key salt out = both (leb (length key) 32) (both (leb (length salt) 
 
 unfoldable pub subkeyOut : List ℕ → List ℕ → List ℕ → List ℕ
 subkeyOut key salt out = if (subkeyLawful key salt out) (put out 0 (subkey key salt)) out
+
+-- the length of a sealed datagram, and 0 for a refusal
+abbrev pub sealedNumber : Sealed → ℕ
+sealedNumber (Datagram n) = n
+sealedNumber (Refused r) = 0
+
+-- 0 for an opened datagram, and the refusal's number
+abbrev pub openedNumber : Answer Header → ℕ
+openedNumber (opened h) = 0
+openedNumber (refused n) = n
+
+-- the address of the benchmark's caller
+abbrev pub nobody : Peer
+nobody = record { first = 0; second = 0; port = 0 }

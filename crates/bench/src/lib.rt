@@ -1,8 +1,15 @@
 // What the benchmark calls, one primitive at a time.
+use datagram::Sealed;
+use datagram::Sender;
 use gcm::Opened;
 use ghash::Element;
+use session::Peer;
 ghost use mathlib.Core.Path.{_≡_};
-ghost use Rattle.bench.specs.Answer.{answer, number, hashLawful, hashOut, subkeyLawful, subkeyOut};
+ghost use mathlib.Core.Option.{none};
+ghost use lib.ListN.{length};
+ghost use Rattle.bench.specs.Answer.{answer, number, hashLawful, hashOut, subkeyLawful, subkeyOut, sealedNumber, openedNumber, nobody};
+ghost use Rattle.datagram.specs.Sealing as sealing;
+ghost use Rattle.datagram.specs.Deciding as deciding;
 ghost use Rattle.gcm.specs.Keyed.{sealLawful, sealed, openAnswer, openOut};
 ghost use Rattle.aes.specs.Keyed.{lawful};
 ghost use Rattle.ctr.specs.Gctr.{aesCtr};
@@ -83,4 +90,60 @@ pub extern "C" fn bench_subkey(key: &[u8], salt: &[u8], out: &mut [u8]) -> u32
     }
     protocol::derive_subkey(key, salt, out);
     0
+}
+
+// Seals a client's first datagram: its length, or 0 and nothing written for a refusal.
+#[no_mangle]
+pub extern "C" fn bench_datagram_seal(
+    method: u64,
+    key: &[u8],
+    id: u64,
+    clock: u64,
+    address: &[u8],
+    payload: &[u8],
+    out: &mut [u8],
+) -> usize
+    ensures { λ r. ⌜ r ≡ sealedNumber (sealing.sealAnswer method (length (now (key .entry))) (sealing.clientSender id) (now (address .entry)) 0 (length (now (payload .entry))) (length (now (out .entry)))) ⌝ }
+    ensures { λ r. ⌜ now (out .exit) ≡ sealing.sealOut (sealing.sealAnswer method (length (now (key .entry))) (sealing.clientSender id) (now (address .entry)) 0 (length (now (payload .entry))) (length (now (out .entry)))) (sealing.datagram (now (key .entry)) (sealing.clientSender id) clock (now (address .entry)) 0 (now (payload .entry))) (now (out .entry)) ⌝ }
+{
+    let done = datagram::seal(
+        method,
+        key,
+        Sender::client(id),
+        clock,
+        address,
+        0,
+        payload,
+        out,
+    );
+    let answer = done.answer;
+    match answer {
+        Sealed::Datagram(n) => n,
+        Sealed::Refused(_) => 0,
+    }
+}
+
+// Opens a client's datagram for a server: 0, or the refusal's number.
+#[no_mangle]
+pub extern "C" fn bench_datagram_open(
+    method: u64,
+    key: &[u8],
+    clock: u64,
+    s: &[u8],
+    table: &mut [u64],
+    out: &mut [u8],
+) -> u64
+    ensures { λ r. ⌜ r ≡ openedNumber (deciding.openAnswer method (now (key .entry)) none clock nobody (now (s .entry)) (now (table .entry)) (now (out .entry))) ⌝ }
+    ensures { λ r. ⌜ now (out .exit) ≡ deciding.openOut method (now (key .entry)) none clock nobody (now (s .entry)) (now (table .entry)) (now (out .entry)) ⌝ }
+    ensures { λ r. ⌜ now (table .exit) ≡ deciding.openTable method (now (key .entry)) none clock nobody (now (s .entry)) (now (table .entry)) (now (out .entry)) ⌝ }
+{
+    let peer = Peer {
+        first: 0,
+        second: 0,
+        port: 0,
+    };
+    match datagram::open_server(method, key, clock, peer, s, table, out) {
+        datagram::Opened::Datagram(_) => 0,
+        datagram::Opened::Refused(refusal) => refusal.number(),
+    }
 }

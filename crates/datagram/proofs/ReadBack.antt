@@ -39,6 +39,7 @@ use Rattle.datagram.specs.declared.Opened.the-variants.{Datagram, Refuse
 use Rattle.datagram.specs.Headers.{separateHeader, nonce, typeOf, clientField, fixedPart, fixedLength, plaintext}
 use Rattle.datagram.specs.Sealing.{maxDatagram, keyFits, sealedLength, separateBlock, sealBody, datagram}
 use Rattle.datagram.specs.Opening.{separateOf, sessionOf, packetOf, bodyAuthentic, bodyText, pickOpened, timeOf, paddingOf, meant, headerWith, readAddress, readMain, lengthLawful, readBody, readAnswer, settled, bodyOut, readOut}
+use Rattle.datagram.specs.Demands.{clientOf, headerOf}
 use Rattle.datagram.proofs.LengthLaws.{length-separateHeader, length-separateBlock, length-clientField, length-fixedPart, length-plaintext, length-datagram}
 
 -- ---- the separate header
@@ -85,24 +86,6 @@ body-back key id packet text =
     (test-true (authentic ciph n s) (authentic-exactly ciph n s .1 (seal-authentic ciph n text)), open-seal ciph n text)
 
 -- ---- the main header
-
--- the client session that a server's datagrams name
-abbrev pub clientOf : Side → ℕ
-clientOf Client = 0
-clientOf (Server client) = client
-
--- the header of what was written, where a is what the address says
-abbrev pub headerOf : Side → ℕ → ℕ → ℕ → ℕ → ℕ → Address → Header
-headerOf side id packet time padding address a =
-    record {
-      target = moved (fixedLength side + padding) (a .target);
-      port = a .port;
-      session = id;
-      packet = packet;
-      time = time;
-      padding = padding;
-      payload = fixedLength side + padding + address;
-    }
 
 module _ (side : Side) (time padding : ℕ) (address payload : List ℕ) where
   abbrev plain : List ℕ

@@ -21,9 +21,10 @@ use Rattle.datagram.specs.declared.Opened.the-variants.{Datagram}
 use Rattle.datagram.specs.Headers.{plaintext}
 use Rattle.datagram.specs.Sealing.{sealAnswer, datagram, sealOut}
 use Rattle.datagram.specs.Opening.{readAnswer, readOut}
+use Rattle.datagram.specs.Demands.{clientOf, headerOf}
 use Rattle.datagram.proofs.LengthLaws.{length-datagram}
 use Rattle.datagram.proofs.AnswerLaws.{Sealable, sealable}
-use Rattle.datagram.proofs.ReadBack.{clientOf, headerOf, sealed-reads}
+use Rattle.datagram.proofs.ReadBack.{sealed-reads}
 
 module _ (method : ℕ) (key : List ℕ) (sender : Sender) (clock : ℕ) (address : List ℕ) (padding : ℕ) (payload out : List ℕ) (n : ℕ)
     (answered : sealAnswer method (length key) sender address padding (length payload) (length out) ≡ Written n)

@@ -1,3 +1,5 @@
 pub mod Headers
 pub mod Sealing
 pub mod Opening
+pub mod Deciding
+pub mod Demands

@@ -11,9 +11,13 @@ ghost use Rattle.octets.specs.Numbers.{toBe};
 ghost use Rattle.datagram.specs.Headers.{separateHeader, fixedLength};
 ghost use Rattle.datagram.specs.Sealing.{keyFits, clientSender, begun};
 
+mod open;
 mod read;
 mod write;
 
+pub use open::open_client;
+pub use open::open_server;
+pub use open::payload;
 pub use write::seal;
 
 // The longest datagram: what UDP can carry over IPv4.
@@ -60,8 +64,8 @@ pub struct Header {
     pub payload: usize,
 }
 
-// What opening answers before a session is looked at.
-enum Opened {
+// What opening answers.
+pub enum Opened {
     Datagram(Header),
     Refused(Refusal),
 }

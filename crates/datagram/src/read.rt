@@ -127,7 +127,7 @@ fn read_main(side: Side, clock: u64, id: u64, packet: u64, plain: &[u8]) -> Open
 // ---- the whole
 
 // A refusal clears what the plaintext has filled.
-fn settle(answer: Opened, due: usize, out: &mut [u8])
+pub fn settle(answer: Opened, due: usize, out: &mut [u8])
     requires { ⌜ due ≤ length (now out) ⌝ }
     ensures { λ _. ⌜ now (out .exit) ≡ settled answer due (now (out .entry)) ⌝ }
 {
@@ -163,7 +163,7 @@ fn read_body(
 }
 
 // Refusals 1, 2, 3, 4, 5, 6, 7, 13 and 5, in this order, or the header; its plaintext is then at the front of the buffer.
-fn read_datagram(
+pub fn read_datagram(
     method: u64,
     key: &[u8],
     side: Side,

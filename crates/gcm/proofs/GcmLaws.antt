@@ -12,7 +12,7 @@ use lib.ListN.{length, take, drop, length-append}
 use lib.Seq.{take-at, drop-at, take-take, drop-drop, length-take-le}
 use Rattle.octets.specs.Buffers.{put, same}
 use Rattle.octets.specs.Numbers.{toBe}
-use Rattle.octets.proofs.BufferLaws.{rest, length-put, take-put, drop-put, put-put, put-whole, same-refl, same-eq}
+use Rattle.octets.proofs.BufferLaws.{rest, length-put, take-put, drop-put, put-put, put-again, put-whole, same-refl, same-eq}
 use Rattle.octets.proofs.NumberLaws.{length-toBe}
 use Rattle.ghash.specs.Field.{mul}
 use Rattle.ghash.specs.Ghash.{blocks, ghashFrom, ghash}
@@ -90,13 +90,9 @@ module _ (text out : List ℕ) (fits : length text ≤ length out) where
   -- a text that is copied to the front and then encrypted or decrypted there
   pub crypt-law : (ciph : ℕ → List ℕ) (nonce o r : List ℕ) → o ≡ put out 0 text
       → r ≡ put o 0 (crypt ciph nonce (take (length text) o)) → r ≡ put out 0 (crypt ciph nonce text)
-  unfolding put
   crypt-law ciph nonce o r eo er =
-      let c = crypt ciph nonce text in
-      let n : 0 + length c ≡ length text = zero-add _ ∙ length-crypt ciph nonce text in
       er ∙ (λ i. put (eo i) 0 (crypt ciph nonce ((ap (take (length text)) eo ∙ take-copied) i)))
-      ∙ ap (λ (x : List ℕ). c ++ x)
-      (ap (λ (m : ℕ). drop m (put out 0 text)) n ∙ drop-copied ∙ ap (λ (m : ℕ). drop m out) (sym n))
+      ∙ put-again out text (crypt ciph nonce text) (omega arith) (length-crypt ciph nonce text)
 
 -- the first bytes of a buffer, encrypted or decrypted where they stand
 pub front-law : (ciph : ℕ → List ℕ) (nonce out k : List ℕ) (len : ℕ) → len ≤ length out

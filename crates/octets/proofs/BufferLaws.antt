@@ -135,6 +135,13 @@ pub put-behind : (d s t v w : List ℕ) (at n : ℕ) → n ≡ at + length s →
     → w ≡ put d at (s ++ t)
 put-behind d s t v w at n en h ev ew = ew ∙ (λ i. put (ev i) (en i) t) ∙ put-put d at s h t
 
+-- a second string of the same length takes the first one's place
+pub put-again : (d s t : List ℕ) → 0 + length s ≤ length d → length t ≡ length s → put (put d 0 s) 0 t ≡ put d 0 t
+unfolding put
+put-again d s t h e =
+    let n : 0 + length t ≡ 0 + length s = ap (λ (k : ℕ). 0 + k) e in
+    ap (λ (x : List ℕ). t ++ x) (ap (λ (k : ℕ). drop k (put d 0 s)) n ∙ drop-put d 0 s h ∙ ap (λ (k : ℕ). drop k d) (sym n))
+
 -- one byte
 pub put-one : (d : List ℕ) (at a : ℕ) → at < length d → put d at (a ∷ []) ≡ set d at a
 unfolding put

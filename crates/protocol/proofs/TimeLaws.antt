@@ -1,8 +1,8 @@
--- The time rule: a difference that does not wrap, and the scope's rows P1 to P3.
+-- The time rule: a difference that does not wrap.
 -- Assumes nothing.
 use mathlib.Core.Path.{_≡_, refl, sym, ap, ap₂, _∙_}
 use mathlib.Core.Bool.{Bool, true, false}
-use Prim.Native.Nat.{ℕ, _+_, _-_, _^_, _≤_, _<_}
+use Prim.Native.Nat.{ℕ, _+_, _-_, _≤_, _<_}
 use native.Mathlib.Decide.{decLe}
 use native.Mathlib.Omega.{arith}
 use lib.Dec.{leb}
@@ -39,17 +39,3 @@ module _ (time clock : ℕ) where
       let m : clock ≤ time = omega arith in
       difference clock time 30 m
       ∙ sym (ap (both (leb time (clock + 30))) (le-leb clock (time + 30) l) ∙ both-true (leb time (clock + 30)))
-
--- ---- the scope's rows
-
-pub p1 : (timeValid 970 1000 ≡ true) × (timeValid 1030 1000 ≡ true)
-unfolding timeValid
-p1 = (refl, refl)
-
-pub p2 : (timeValid 969 1000 ≡ false) × (timeValid 1031 1000 ≡ false)
-unfolding timeValid
-p2 = (refl, refl)
-
-pub p3 : timeValid (2 ^ 64 - 1) 0 ≡ false
-unfolding timeValid
-p3 = refl

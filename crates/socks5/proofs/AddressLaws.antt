@@ -1,8 +1,8 @@
--- The cases of an address, and the scope's rows P10 and P11.
+-- The cases of an address.
 -- Assumes nothing.
-use mathlib.Core.Path.{_≡_, refl, sym, ap, _∙_}
+use mathlib.Core.Path.{_≡_, sym, ap, _∙_}
 use mathlib.Core.Bool.{Bool, true, false}
-use mathlib.Core.List.{List, [], _∷_}
+use mathlib.Core.List.{List}
 use Prim.Native.Nat.{ℕ, _+_, _-_, _≤_, _<_}
 use native.Mathlib.Omega.{arith}
 use lib.Dec.{eqb, leb, ltb}
@@ -89,15 +89,3 @@ module _ (s : List ℕ) (at : ℕ) where
 pub whole-law : (s : List ℕ) (p q : Parsed) → p ≡ parseAt s 0 → p ≡ q → ends q (length s) ≡ isAddress s
 unfolding isAddress
 whole-law s p q e f = ap (λ (x : Parsed). ends x (length s)) (sym f ∙ e)
-
--- ---- the scope's rows
-
--- P10: 03 01 61 00 50 is the name "a", port 80
-pub p10 : parseAt (3 ∷ 1 ∷ 0x61 ∷ 0 ∷ 0x50 ∷ []) 0 ≡ Found (record { target = Name 2 1; port = 80; end = 5 })
-unfolding parseAt nameAt be
-p10 = refl
-
--- P11: 03 00 00 50 is malformed
-pub p11 : parseAt (3 ∷ 0 ∷ 0 ∷ 0x50 ∷ []) 0 ≡ Malformed
-unfolding parseAt nameAt
-p11 = refl

@@ -39,6 +39,31 @@ extern "C" {
         out: *mut u8,
         out_len: usize,
     ) -> u32;
+    fn bench_datagram_seal(
+        method: u64,
+        key: *const u8,
+        key_len: usize,
+        id: u64,
+        clock: u64,
+        address: *const u8,
+        address_len: usize,
+        payload: *const u8,
+        payload_len: usize,
+        out: *mut u8,
+        out_len: usize,
+    ) -> usize;
+    fn bench_datagram_open(
+        method: u64,
+        key: *const u8,
+        key_len: usize,
+        clock: u64,
+        datagram: *const u8,
+        datagram_len: usize,
+        table: *mut u64,
+        table_len: usize,
+        out: *mut u8,
+        out_len: usize,
+    ) -> u64;
     fn bench_subkey(
         key: *const u8,
         key_len: usize,
@@ -167,4 +192,63 @@ pub fn subkey(key: &[u8], salt: &[u8], out: &mut [u8]) {
         )
     };
     assert_eq!(refused, 0, "bench_subkey refused its lengths");
+}
+
+/// Seals a client's first datagram to the front of `out` and answers its length.
+///
+/// # Panics
+///
+/// If it is refused.
+pub fn datagram_seal(
+    method: u64,
+    key: &[u8],
+    clock: u64,
+    address: &[u8],
+    payload: &[u8],
+    out: &mut [u8],
+) -> usize {
+    // SAFETY: as in `aes_ctr`, with `out` the one that is borrowed mutably.
+    let length = unsafe {
+        bench_datagram_seal(
+            method,
+            key.as_ptr(),
+            key.len(),
+            1,
+            clock,
+            address.as_ptr(),
+            address.len(),
+            payload.as_ptr(),
+            payload.len(),
+            out.as_mut_ptr(),
+            out.len(),
+        )
+    };
+    assert_ne!(length, 0, "bench_datagram_seal refused");
+    length
+}
+
+/// Opens a client's datagram on a session table: 0, or the refusal's number.
+pub fn datagram_open(
+    method: u64,
+    key: &[u8],
+    clock: u64,
+    datagram: &[u8],
+    table: &mut [u64],
+    out: &mut [u8],
+) -> u64 {
+    // SAFETY: as in `aes_ctr`, with `table` and `out` those that are borrowed mutably.
+    unsafe {
+        bench_datagram_open(
+            method,
+            key.as_ptr(),
+            key.len(),
+            clock,
+            datagram.as_ptr(),
+            datagram.len(),
+            table.as_mut_ptr(),
+            table.len(),
+            out.as_mut_ptr(),
+            out.len(),
+        )
+    }
 }

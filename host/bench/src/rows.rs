@@ -82,6 +82,25 @@ const FORGED_BODIES: [usize; 2] = [64, 65_507];
 
 const WHOLE_BLOCKS: usize = 65_504;
 
+/// Whole datagrams, to the longest that UDP carries.
+const DATAGRAMS: [usize; 4] = [64, 1_400, 9_000, 65_507];
+
+/// What a client's datagram has beside its address and payload: both headers, no
+/// padding, and the tag.
+const DATAGRAM_OVERHEAD: usize = 16 + 11 + 16;
+
+/// An IPv4 address and its port.
+const ADDRESS: [u8; 7] = [1, 192, 0, 2, 1, 0, 80];
+
+const CLOCK: u64 = 1_000;
+
+/// A session table that was just made, with a retention of 60 seconds.
+const TABLE_WORDS: usize = 1 + 64 * 11;
+const RETENTION: u64 = 60;
+
+/// What an opener answers to a datagram whose tag is wrong.
+const NOT_AUTHENTIC: u64 = 4;
+
 const KEY_LENGTHS: [usize; 3] = [16, 24, 32];
 
 /// Those of the Shadowsocks 2022 methods.
@@ -122,6 +141,11 @@ pub fn all() -> Vec<Row> {
         rows.extend(BODIES.map(|size| gcm_seal(key_length, size)));
         rows.extend(BODIES.map(|size| gcm_open(key_length, size)));
         rows.extend(FORGED_BODIES.map(|size| gcm_forged(key_length, size)));
+    }
+    for (method, key_length) in [(1, 16), (2, 32)] {
+        rows.extend(DATAGRAMS.map(|size| datagram_seal(method, key_length, size)));
+        rows.extend(DATAGRAMS.map(|size| datagram_open(method, key_length, size)));
+        rows.extend(FORGED_BODIES.map(|size| datagram_forged(method, key_length, size)));
     }
     // A stream's subkey of the longest method, a session's of the shortest.
     rows.push(subkey(32, SALT.len()));
@@ -259,6 +283,75 @@ fn subkey(key_length: usize, salt_length: usize) -> Row {
             }),
         ],
     }
+}
+
+/// A whole datagram is sealed; the input is its payload.
+fn datagram_seal(method: u64, key_length: usize, size: usize) -> Row {
+    let key = &KEY[..key_length];
+    Row {
+        name: format!("datagram seal, {method}"),
+        size,
+        input: text(size - DATAGRAM_OVERHEAD - ADDRESS.len()),
+        buffer: size,
+        timed: true,
+        contestants: vec![Contestant::new(Library::Ours, move |payload, out| {
+            ours::datagram_seal(method, key, CLOCK, &ADDRESS, payload, out);
+        })],
+    }
+}
+
+/// A whole datagram is opened, as the first one of its session.
+fn datagram_open(method: u64, key_length: usize, size: usize) -> Row {
+    let key = &KEY[..key_length];
+    let table = RefCell::new(new_table());
+    Row {
+        name: format!("datagram open, {method}"),
+        size,
+        input: sealed_datagram(method, key, size),
+        buffer: size,
+        timed: true,
+        contestants: vec![Contestant::new(Library::Ours, move |datagram, out| {
+            let table = &mut table.borrow_mut();
+            // The first record's word in use: the session is forgotten again.
+            table[1] = 0;
+            let refused = ours::datagram_open(method, key, CLOCK, datagram, table, out);
+            assert_eq!(refused, 0, "sealed datagram refused");
+        })],
+    }
+}
+
+/// A datagram whose tag is wrong in its last bit.
+fn datagram_forged(method: u64, key_length: usize, size: usize) -> Row {
+    let key = &KEY[..key_length];
+    let table = RefCell::new(new_table());
+    let mut forged = sealed_datagram(method, key, size);
+    *forged.last_mut().expect("a tag is not empty") ^= 1;
+    Row {
+        name: format!("datagram forged, {method}"),
+        size,
+        input: forged,
+        buffer: size,
+        timed: true,
+        contestants: vec![Contestant::new(Library::Ours, move |datagram, out| {
+            let table = &mut table.borrow_mut();
+            let refused = ours::datagram_open(method, key, CLOCK, datagram, table, out);
+            assert_eq!(refused, NOT_AUTHENTIC, "forged datagram taken");
+        })],
+    }
+}
+
+fn new_table() -> Vec<u64> {
+    let mut table = vec![0; TABLE_WORDS];
+    table[0] = RETENTION;
+    table
+}
+
+fn sealed_datagram(method: u64, key: &[u8], size: usize) -> Vec<u8> {
+    let payload = text(size - DATAGRAM_OVERHEAD - ADDRESS.len());
+    let mut datagram = vec![0; size];
+    let length = ours::datagram_seal(method, key, CLOCK, &ADDRESS, &payload, &mut datagram);
+    assert_eq!(length, size, "another length than was asked for");
+    datagram
 }
 
 fn gcm_name(key_length: usize, work: &str) -> String {

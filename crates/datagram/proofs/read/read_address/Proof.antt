@@ -19,7 +19,8 @@ returns c =
     let r = c .before .before .before .before in
     let w = r .before in
     let p = w .before in
-    address-found _ _ _ _ _ _ _ (p .before .fixed-length .ensures) (p .read-u16-be .ensures) (w .wide .ensures) _ (r .parse .ensures) _
+    let a = p .before .before .before .args in
+    address-found (a .side) (a .id) (a .packet) (a .plain .now) _ _ _ (p .before .fixed-length .ensures) (p .read-u16-be .ensures) (w .wide .ensures) _ (r .parse .ensures) _
     (c .before .before .address .given .1) _ (c .read-u64-be .ensures)
 
 returns-2 : tie.Need-returns-2

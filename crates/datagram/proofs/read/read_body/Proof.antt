@@ -24,7 +24,8 @@ returns c =
 returns-2 : tie.Need-returns-2
 returns-2 c =
     let o = c .before .before .before in
-    read-forged _ _ _ _ _ _ _ _ _ (o .open-body .ensures .0) (o .open-body .ensures .1) (c .if1 .left)
+    let a = o .before .before .before .before .before .args in
+    read-forged (a .side) (a .clock) (a .key .now) (a .id) (a .packet) (a .body .now) (a .out .now) _ _ (o .open-body .ensures .0) (o .open-body .ensures .1) (c .if1 .left)
 
 pub read-body-spec : {M : Type 1} → statement M
 read-body-spec =

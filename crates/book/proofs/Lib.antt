@@ -1,0 +1,16 @@
+pub mod Tests
+pub mod Pages
+pub mod Swap
+pub mod Shuffle
+pub mod Rearrange
+pub mod Second
+pub mod Search
+pub mod Bits
+pub mod Window
+pub mod Words
+pub mod Refine
+pub mod Step
+pub mod First
+pub mod Demand3
+pub mod MarkWords
+pub mod Example

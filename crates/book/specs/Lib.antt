@@ -1,0 +1,4 @@
+pub mod Call
+pub mod Book
+pub mod Runs
+pub mod Demand3

@@ -1,0 +1,168 @@
+-- The session table as words, and what a packet ID meets there. Any words have a meaning; past the end a word reads as 0.
+use Prim.Native.Nat.{ℕ, zero, suc, _+_, _-_, _*_, _/_, _%_, _^_, max}
+use mathlib.Core.Bool.{Bool, true, false, cond, not, _&&_, _||_}
+use mathlib.Core.List.{List, [], _∷_}
+use mathlib.Core.Option.{Option, none, some}
+use lib.Dec.{leb, ltb, eqb}
+use lib.ListN.{length, getD, replicate}
+use lib.Seq.{sets}
+use Rattle.session.specs.declared.Peer.{Peer}
+use Rattle.session.specs.declared.Session.{Session}
+use Rattle.session.specs.declared.Admitted.{Admitted}
+use Rattle.session.specs.declared.Admitted.the-variants.{Accepted, Replay, Full}
+use Rattle.session.specs.Sizes.{capacity, window, alive}
+
+-- ---- the layout: R, then a record of `recordWords` words for each session
+
+abbrev pub recordWords : ℕ
+recordWords = 11
+
+abbrev pub tableWords : ℕ
+tableWords = 1 + capacity * recordWords
+
+-- where record i begins
+abbrev pub start : ℕ → ℕ
+start i = 1 + i * recordWords
+
+abbrev pub retention : List ℕ → ℕ
+retention t = getD t 0 0
+
+-- a table of the right length, its R in range
+abbrev pub lawful : List ℕ → Bool
+lawful t = eqb (length t) tableWords && (leb 60 (retention t) && leb (retention t) 3600)
+
+-- ---- making: R and zeros; 0 stands for 60
+
+abbrev pub newTable : ℕ → List ℕ
+newTable R = R ∷ replicate (capacity * recordWords) 0
+
+abbrev pub madeRetention : ℕ → ℕ
+madeRetention R = cond (eqb R 0) 60 R
+
+abbrev pub makeLawful : ℕ → List ℕ → Bool
+makeLawful R t = eqb (length t) tableWords && (leb 60 (madeRetention R) && leb (madeRetention R) 3600)
+
+abbrev pub made : ℕ → List ℕ → List ℕ
+made R t = cond (makeLawful R t) (newTable (madeRetention R)) t
+
+-- ---- a record
+
+-- The marks are one number of 256 bits: bit i of mark word k is its bit 64 k + i, and bit d marks h - d.
+pub record Record : Type 0 where
+  pub used : ℕ
+  pub id : ℕ
+  pub h : ℕ
+  pub last : ℕ
+  pub marks : ℕ
+  pub peer : Peer
+
+abbrev pub join4 : ℕ → ℕ → ℕ → ℕ → ℕ
+join4 w0 w1 w2 w3 = w0 + 2 ^ 64 * (w1 + 2 ^ 64 * (w2 + 2 ^ 64 * w3))
+
+abbrev pub recordAt : List ℕ → ℕ → Record
+recordAt t i =
+    record {
+      used = getD t (start i) 0;
+      id = getD t (start i + 1) 0;
+      h = getD t (start i + 2) 0;
+      last = getD t (start i + 3) 0;
+      marks = join4 (getD t (start i + 4) 0) (getD t (start i + 5) 0) (getD t (start i + 6) 0) (getD t (start i + 7) 0);
+      peer = record { first = getD t (start i + 8) 0; second = getD t (start i + 9) 0; port = getD t (start i + 10) 0 % 2 ^ 16 };
+    }
+
+abbrev pub wordsOf : Record → List ℕ
+wordsOf r =
+    r .used ∷ r .id ∷ r .h ∷ r .last
+    ∷ r .marks % 2 ^ 64 ∷ r .marks / 2 ^ 64 % 2 ^ 64 ∷ r .marks / 2 ^ 64 / 2 ^ 64 % 2 ^ 64 ∷ r .marks / 2 ^ 64 / 2 ^ 64 / 2 ^ 64 % 2 ^ 64
+    ∷ r .peer .first ∷ r .peer .second ∷ r .peer .port ∷ []
+
+-- the table with a record in place i, every other word as it was
+abbrev pub store : List ℕ → ℕ → Record → List ℕ
+store t i r = sets t (start i) (wordsOf r)
+
+-- a session by value, as the code has it, with its marks in four words
+abbrev pub recordOf : Session → Record
+recordOf s =
+    record {
+      used = s .used;
+      id = s .id;
+      h = s .high;
+      last = s .last;
+      marks = join4 (getD (s .marks) 0 0) (getD (s .marks) 1 0) (getD (s .marks) 2 0) (getD (s .marks) 3 0);
+      peer = s .peer;
+    }
+
+-- ---- the window
+
+-- is packet ID h - d marked
+abbrev pub bit : ℕ → ℕ → Bool
+bit marks d = eqb (marks / 2 ^ d % 2) 1
+
+abbrev pub freshIn : Record → ℕ → Bool
+freshIn r p = ltb (r .h) p || ltb (r .h - p) window && not (bit (r .marks) (r .h - p))
+
+-- p above h moves the window up by p - h, and bit 0 marks p; any other p is marked where it stands
+abbrev pub markedWith : (marks h p : ℕ) → ℕ
+markedWith marks h p = cond (ltb h p) ((marks * 2 ^ (p - h) + 1) % 2 ^ window) (marks + 2 ^ (h - p))
+
+-- the record that accepts p: the word in use and the ID stay
+abbrev pub acceptIn : (clock : ℕ) → Peer → (p : ℕ) → Record → Record
+acceptIn clock a p r =
+    record { used = r .used; id = r .id; h = max (r .h) p; last = max (r .last) clock; marks = markedWith (r .marks) (r .h) p; peer = a }
+
+abbrev pub newRecord : (clock : ℕ) → Peer → (id p : ℕ) → Record
+newRecord clock a id p = record { used = 1; id = id; h = p; last = clock; marks = 1; peer = a }
+
+-- ---- the search
+
+-- the lowest i at least `from` and below `from + n` that passes the test
+abbrev pub lowestFrom : (ℕ → Bool) → (from n : ℕ) → Option ℕ
+lowestFrom f i zero = none
+lowestFrom f i (suc n) = let r = lowestFrom f (suc i) n in cond (f i) (some i) r
+
+abbrev pub lowest : (ℕ → Bool) → Option ℕ
+lowest f = lowestFrom f 0 capacity
+
+abbrev pub live : (R clock : ℕ) → Record → Bool
+live R clock r = not (eqb (r .used) 0) && alive R clock (r .last)
+
+abbrev pub holds : (R clock id : ℕ) → Record → Bool
+holds R clock id r = live R clock r && eqb (r .id) id
+
+-- the place of the record for an ID, and of the record that a new session takes
+unfoldable pub sessionPlace : List ℕ → (clock id : ℕ) → Option ℕ
+sessionPlace t clock id = lowest (λ i. holds (retention t) clock id (recordAt t i))
+
+unfoldable pub freePlace : List ℕ → (clock : ℕ) → Option ℕ
+freePlace t clock = lowest (λ i. not (live (retention t) clock (recordAt t i)))
+
+-- a place as a number: `capacity` where there is none
+abbrev pub placeNumber : Option ℕ → ℕ
+placeNumber none = capacity
+placeNumber (some i) = i
+
+-- ---- what a packet ID meets
+
+pub data Entry : Type 0 where
+  stores : (i : ℕ) → Record → Entry
+  replay : Entry
+  full : Entry
+
+abbrev pub meetBy : Option ℕ → Option ℕ → List ℕ → (clock : ℕ) → Peer → (id p : ℕ) → Entry
+meetBy (some i) free t clock a id p = cond (freshIn (recordAt t i) p) (stores i (acceptIn clock a p (recordAt t i))) replay
+meetBy none (some i) t clock a id p = stores i (newRecord clock a id p)
+meetBy none none t clock a id p = full
+
+unfoldable pub meet : List ℕ → (clock : ℕ) → Peer → (id p : ℕ) → Entry
+meet t clock a id p = meetBy (sessionPlace t clock id) (freePlace t clock) t clock a id p
+
+-- what becomes of the table, and the answer
+abbrev pub keep : Entry → List ℕ → List ℕ
+keep (stores i r) t = store t i r
+keep replay t = t
+keep full t = t
+
+abbrev pub admitted : Entry → Admitted
+admitted (stores i r) = Accepted
+admitted replay = Replay
+admitted full = Full

@@ -1,0 +1,408 @@
+// The session table: lent words, one record for each session behind the retention. Any words have a meaning, so nothing here
+// assumes an invariant of the table.
+ghost use mathlib.Core.Path.{_≡_};
+ghost use mathlib.Core.Bool.{true, false};
+ghost use mathlib.Core.Option.{none, some};
+ghost use Prim.Native.Nat.{_+_, _*_, _%_, _^_, _<_, _≤_, max};
+ghost use lib.ListN.{length, replicate};
+ghost use lib.Seq.{sets};
+ghost use Rattle.session.specs.Sizes.{capacity, window};
+ghost use Rattle.session.specs.Table.{recordWords, tableWords, retention, lawful, madeRetention, makeLawful, made, recordAt, recordOf, wordsOf, store as storeOf, bit, freshIn, acceptIn, newRecord, live, sessionPlace, freePlace, placeNumber, meetBy, meet, keep, admitted};
+ghost use Rattle.session.specs.Words.{number, wordOf};
+
+pub const SESSIONS: usize = 64;
+
+pub const WORDS: usize = 11;
+
+pub const TABLE: usize = 1 + SESSIONS * WORDS;
+
+pub const WINDOW: u64 = 256;
+
+// The words of a record behind the first, which tells whether it is in use.
+const ID: usize = 1;
+
+const HIGH: usize = 2;
+
+const LAST: usize = 3;
+
+const MARKS_0: usize = 4;
+
+const MARKS_1: usize = 5;
+
+const MARKS_2: usize = 6;
+
+const MARKS_3: usize = 7;
+
+const PEER_FIRST: usize = 8;
+
+const PEER_SECOND: usize = 9;
+
+const PORT: usize = 10;
+
+// A caller's address: two numbers and a port.
+pub struct Peer {
+    pub first: u64,
+    pub second: u64,
+    pub port: u16,
+}
+
+// One record. Bit i of marks[k] marks packet ID high - 64 k - i.
+pub struct Session {
+    pub used: u64,
+    pub id: u64,
+    pub high: u64,
+    pub last: u64,
+    pub marks: [u64; 4],
+    pub peer: Peer,
+}
+
+// What a packet ID meets: it is accepted, or it is refusal 8 or 9.
+pub enum Admitted {
+    Accepted,
+    Replay,
+    Full,
+}
+
+// ---- the window
+
+// The upper word of the pair (hi, lo) moved up by n bits.
+fn raised(hi: u64, lo: u64, n: u64) -> u64
+    requires { ⌜ n < 64 ⌝ }
+    ensures { λ r. ⌜ r ≡ wordOf ((lo + hi * 2 ^ 64) * 2 ^ n) 1 ⌝ }
+{
+    if n == 0 {
+        return hi;
+    }
+    (hi << n) | (lo >> (64 - n))
+}
+
+// Word k of the window moved up by d bits.
+fn moved_word(marks: [u64; 4], d: u64, k: usize) -> u64
+    requires { ⌜ (k < 4) × (d < window) ⌝ }
+    ensures { λ r. ⌜ r ≡ wordOf (number marks * 2 ^ d) k ⌝ }
+{
+    let w = (d / 64) as usize;
+    let n = d % 64;
+    if k < w {
+        return 0;
+    }
+    if k == w {
+        return raised(marks[0], 0, n);
+    }
+    raised(marks[k - w], marks[k - w - 1], n)
+}
+
+// The window moved up by d, with the new highest packet ID marked.
+fn moved(marks: [u64; 4], d: u64) -> [u64; 4]
+    requires { ⌜ 0 < d ⌝ }
+    ensures { λ r. ⌜ number r ≡ (number marks * 2 ^ d + 1) % 2 ^ window ⌝ }
+{
+    if WINDOW <= d {
+        return [1, 0, 0, 0];
+    }
+    [
+        moved_word(marks, d, 0) + 1,
+        moved_word(marks, d, 1),
+        moved_word(marks, d, 2),
+        moved_word(marks, d, 3),
+    ]
+}
+
+// Whether bit j of the window is set.
+fn is_marked(marks: [u64; 4], j: u64) -> bool
+    requires { ⌜ j < window ⌝ }
+    ensures { λ r. ⌜ r ≡ bit (number marks) j ⌝ }
+{
+    let k = (j / 64) as usize;
+    (marks[k] >> (j % 64)) % 2 == 1
+}
+
+// The window with bit j, which is not set, set.
+fn with_mark(marks: [u64; 4], j: u64) -> [u64; 4]
+    requires { ⌜ (j < window) × (bit (number marks) j ≡ false) ⌝ }
+    ensures { λ r. ⌜ number r ≡ number marks + 2 ^ j ⌝ }
+{
+    let k = (j / 64) as usize;
+    let mut m = marks;
+    m[k] = m[k] + (1 << (j % 64));
+    m
+}
+
+fn is_fresh(s: Session, p: u64) -> bool
+    ensures { λ r. ⌜ r ≡ freshIn (recordOf s) p ⌝ }
+{
+    let h = s.high;
+    if h < p {
+        return true;
+    }
+    if h - p < WINDOW {
+        let m = s.marks;
+        return !is_marked(m, h - p);
+    }
+    false
+}
+
+// ---- one session
+
+fn larger(x: u64, y: u64) -> u64
+    ensures { λ r. ⌜ r ≡ max x y ⌝ }
+{
+    if x < y { y } else { x }
+}
+
+// The session after it accepted p.
+fn accept(s: Session, p: u64, clock: u64, peer: Peer) -> Session
+    requires { ⌜ freshIn (recordOf s) p ≡ true ⌝ }
+    ensures { λ r. ⌜ recordOf r ≡ acceptIn clock peer p (recordOf s) ⌝ }
+{
+    let h = s.high;
+    let m = s.marks;
+    let last = larger(s.last, clock);
+    if h < p {
+        let up = moved(m, p - h);
+        return Session {
+            used: s.used,
+            id: s.id,
+            high: p,
+            last,
+            marks: up,
+            peer,
+        };
+    }
+    let same = with_mark(m, h - p);
+    Session {
+        used: s.used,
+        id: s.id,
+        high: h,
+        last,
+        marks: same,
+        peer,
+    }
+}
+
+// A session that begins with p.
+fn begin(id: u64, p: u64, clock: u64, peer: Peer) -> Session
+    ensures { λ r. ⌜ recordOf r ≡ newRecord clock peer id p ⌝ }
+{
+    Session {
+        used: 1,
+        id,
+        high: p,
+        last: clock,
+        marks: [1, 0, 0, 0],
+        peer,
+    }
+}
+
+// ---- the table
+
+fn is_alive(table: &[u64], clock: u64, r: usize) -> bool
+    requires { ⌜ (length (now table) ≡ tableWords) × (r < capacity) ⌝ }
+    ensures { λ b. ⌜ b ≡ live (retention (now (table .entry))) clock (recordAt (now (table .entry)) r) ⌝ }
+{
+    let at = 1 + r * WORDS;
+    if table[at] == 0 {
+        return false;
+    }
+    let last = table[at + LAST];
+    if clock <= last {
+        return true;
+    }
+    clock - last <= table[0]
+}
+
+// The record that holds the session with this ID, or SESSIONS.
+fn find(table: &[u64], clock: u64, id: u64) -> usize
+    requires { ⌜ length (now table) ≡ tableWords ⌝ }
+    ensures { λ r. ⌜ r ≡ placeNumber (sessionPlace (now (table .entry)) clock id) ⌝ }
+{
+    let mut r: usize = 0;
+    while r < SESSIONS {
+        if is_alive(table, clock, r) {
+            if table[1 + r * WORDS + ID] == id {
+                return r;
+            }
+        }
+        r += 1;
+    }
+    r
+}
+
+// The lowest record that is not alive, or SESSIONS.
+fn find_room(table: &[u64], clock: u64) -> usize
+    requires { ⌜ length (now table) ≡ tableWords ⌝ }
+    ensures { λ r. ⌜ r ≡ placeNumber (freePlace (now (table .entry)) clock) ⌝ }
+{
+    let mut r: usize = 0;
+    while r < SESSIONS {
+        if !is_alive(table, clock, r) {
+            return r;
+        }
+        r += 1;
+    }
+    r
+}
+
+fn load(table: &[u64], r: usize) -> Session
+    requires { ⌜ (length (now table) ≡ tableWords) × (r < capacity) ⌝ }
+    ensures { λ s. ⌜ recordOf s ≡ recordAt (now (table .entry)) r ⌝ }
+{
+    let at = 1 + r * WORDS;
+    let marks = [
+        table[at + MARKS_0],
+        table[at + MARKS_1],
+        table[at + MARKS_2],
+        table[at + MARKS_3],
+    ];
+    let peer = Peer {
+        first: table[at + PEER_FIRST],
+        second: table[at + PEER_SECOND],
+        port: (table[at + PORT] % 65536) as u16,
+    };
+    Session {
+        used: table[at],
+        id: table[at + ID],
+        high: table[at + HIGH],
+        last: table[at + LAST],
+        marks,
+        peer,
+    }
+}
+
+fn words_of(s: Session) -> [u64; WORDS]
+    ensures { λ r. ⌜ r ≡ wordsOf (recordOf s) ⌝ }
+{
+    let m = s.marks;
+    let peer = s.peer;
+    [
+        s.used,
+        s.id,
+        s.high,
+        s.last,
+        m[0],
+        m[1],
+        m[2],
+        m[3],
+        peer.first,
+        peer.second,
+        peer.port as u64,
+    ]
+}
+
+// Writes the words from place at on. Every other word stays.
+fn write(table: &mut [u64], at: usize, ws: [u64; WORDS])
+    requires { ⌜ at + recordWords ≤ length (now table) ⌝ }
+    ensures { λ _. ⌜ now (table .exit) ≡ sets (now (table .entry)) at ws ⌝ }
+{
+    let mut k: usize = 0;
+    while k < WORDS {
+        table[at + k] = ws[k];
+        k += 1;
+    }
+}
+
+// Writes the session into record r. Every other word stays.
+fn store(table: &mut [u64], r: usize, s: Session)
+    requires { ⌜ (length (now table) ≡ tableWords) × (r < capacity) ⌝ }
+    ensures { λ _. ⌜ now (table .exit) ≡ storeOf (now (table .entry)) r (recordOf s) ⌝ }
+{
+    let ws = words_of(s);
+    write(table, 1 + r * WORDS, ws);
+}
+
+pub fn is_lawful(table: &[u64]) -> bool
+    ensures { λ b. ⌜ b ≡ lawful (now (table .entry)) ⌝ }
+{
+    if table.len() != TABLE {
+        return false;
+    }
+    let keep = table[0];
+    if keep < 60 {
+        return false;
+    }
+    keep <= 3600
+}
+
+// ---- one packet
+
+// Packet p in the session of record r: what it meets there depends on no ID and on no free record.
+fn admit_known(table: &mut [u64], r: usize, clock: u64, p: u64, peer: Peer) -> Admitted
+    requires { ⌜ (length (now table) ≡ tableWords) × (r < capacity) ⌝ }
+    ensures { λ a. ⌜ a ≡ admitted (meetBy (some r) none (now (table .entry)) clock peer 0 p) ⌝ }
+    ensures { λ a. ⌜ now (table .exit) ≡ keep (meetBy (some r) none (now (table .entry)) clock peer 0 p) (now (table .entry)) ⌝ }
+{
+    let s = load(table, r);
+    if is_fresh(s, p) {
+        store(table, r, accept(s, p, clock, peer));
+        return Admitted::Accepted;
+    }
+    Admitted::Replay
+}
+
+// Packet p where no alive session has the ID.
+fn admit_new(table: &mut [u64], clock: u64, id: u64, p: u64, peer: Peer) -> Admitted
+    requires { ⌜ length (now table) ≡ tableWords ⌝ }
+    ensures { λ a. ⌜ a ≡ admitted (meetBy none (freePlace (now (table .entry)) clock) (now (table .entry)) clock peer id p) ⌝ }
+    ensures { λ a. ⌜ now (table .exit) ≡ keep (meetBy none (freePlace (now (table .entry)) clock) (now (table .entry)) clock peer id p) (now (table .entry)) ⌝ }
+{
+    let r = find_room(table, clock);
+    if r < SESSIONS {
+        store(table, r, begin(id, p, clock, peer));
+        return Admitted::Accepted;
+    }
+    Admitted::Full
+}
+
+// Accepts packet p of the session with this ID, or refuses it and leaves the table as it was.
+pub fn admit(table: &mut [u64], clock: u64, id: u64, p: u64, peer: Peer) -> Admitted
+    requires { ⌜ length (now table) ≡ tableWords ⌝ }
+    ensures { λ r. ⌜ r ≡ admitted (meet (now (table .entry)) clock peer id p) ⌝ }
+    ensures { λ r. ⌜ now (table .exit) ≡ keep (meet (now (table .entry)) clock peer id p) (now (table .entry)) ⌝ }
+{
+    let r = find(table, clock, id);
+    if r < SESSIONS {
+        return admit_known(table, r, clock, p, peer);
+    }
+    admit_new(table, clock, id, p, peer)
+}
+
+// ---- making
+
+// 0 stands for 60.
+fn made_retention(retention: u64) -> u64
+    ensures { λ r. ⌜ r ≡ madeRetention retention ⌝ }
+{
+    if retention == 0 {
+        return 60;
+    }
+    retention
+}
+
+fn clear(table: &mut [u64])
+    ensures { λ _. ⌜ now (table .exit) ≡ replicate (length (now (table .entry))) 0 ⌝ }
+{
+    for i in 0..table.len() {
+        table[i] = 0;
+    }
+}
+
+// Makes a table of the lent words: the retention, 60 for 0, and zeros. False, and nothing written, where the length is wrong
+// or the retention is neither 0 nor 60 to 3,600.
+pub fn make(retention: u64, table: &mut [u64]) -> bool
+    ensures { λ r. ⌜ r ≡ makeLawful retention (now (table .entry)) ⌝ }
+    ensures { λ r. ⌜ now (table .exit) ≡ made retention (now (table .entry)) ⌝ }
+{
+    let keep = made_retention(retention);
+    if table.len() != TABLE {
+        return false;
+    }
+    if keep < 60 {
+        return false;
+    }
+    if 3600 < keep {
+        return false;
+    }
+    clear(table);
+    table[0] = keep;
+    true
+}

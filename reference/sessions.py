@@ -1,0 +1,588 @@
+"""The session table, its book, and opening datagrams, written from the scope over datagram.py.
+
+An independent reference for the proved code: the table as its 705 words, the book
+as pages, and both sides' opening over either. Plain and slow.
+
+The client of a call is None where a server opens a client's datagram; where a
+client opens a server's it is the ID of its own session.
+
+    python3 reference/sessions.py --selftest
+"""
+
+import collections
+import functools
+import hashlib
+import itertools
+import sys
+
+sys.dont_write_bytecode = True  # no __pycache__ in the tree
+import aes  # noqa: E402
+import datagram  # noqa: E402
+import gcm  # noqa: E402
+from datagram import CLIENT_PACKET, KEY_LENGTHS, LENGTH, MAX_LENGTH, ROOM  # noqa: E402
+from datagram import SEPARATE_LENGTH, SERVER_PACKET, SETTINGS, u16, u64  # noqa: E402
+
+SESSIONS = 64
+RECORD_WORDS = 11
+TABLE_WORDS = 1 + SESSIONS * RECORD_WORDS
+WINDOW = 256
+RETENTIONS = range(60, 3_601)
+DEFAULT_RETENTION = 60
+TIME_LIMIT = 30
+MIN_LENGTH = SEPARATE_LENGTH + gcm.TAG_LENGTH
+
+# The numbers of the other refusals.
+NOT_AUTHENTIC, MALFORMED, TYPE, TIME, REPLAY, FULL, BINDING = 4, 5, 6, 7, 8, 9, 13
+
+Peer = collections.namedtuple("Peer", "first second port")
+
+# The meaning of a record: its marks are the distances from the highest packet ID down.
+Session = collections.namedtuple("Session", "used id high last marks peer")
+
+# A page of the book, under its ID.
+Page = collections.namedtuple("Page", "high accepted last peer")
+
+# What an opened datagram says. Its target: (1, number), (4, number, number) or (3, place, length).
+Header = collections.namedtuple("Header", "target port session packet time padding payload")
+
+# A call: its arguments but the table. The output is the buffer as it is lent.
+Call = collections.namedtuple("Call", "method key client clock peer datagram output")
+
+# The number of the refusal or 0, the header if there is one, and the output afterwards.
+Answer = collections.namedtuple("Answer", "number header output")
+
+
+# Time, for the table and the book.
+
+
+def alive(last, retention, clock):
+    return clock <= last + retention
+
+
+def time_valid(time, clock):
+    return abs(time - clock) <= TIME_LIMIT
+
+
+# The table. A table is a tuple of words; what changes it gives another.
+
+
+def make(retention, table):
+    """A refusal's number, or 0; and the table afterwards."""
+    if retention == 0:
+        retention = DEFAULT_RETENTION
+    if len(table) != TABLE_WORDS or retention not in RETENTIONS:
+        return SETTINGS, table
+    return 0, (retention,) + (0,) * (TABLE_WORDS - 1)
+
+
+def lawful(table):
+    return len(table) == TABLE_WORDS and table[0] in RETENTIONS
+
+
+def words_of(table, record):
+    start = 1 + record * RECORD_WORDS
+    return table[start : start + RECORD_WORDS]
+
+
+def with_words(table, record, words):
+    start = 1 + record * RECORD_WORDS
+    return table[:start] + tuple(words) + table[start + RECORD_WORDS :]
+
+
+def session_of(words):
+    used, id, high, last, *marks, first, second, port = words
+    distances = (d for d in range(WINDOW) if marks[d // 64] >> d % 64 & 1)
+    return Session(used, id, high, last, frozenset(distances), Peer(first, second, port % 2**16))
+
+
+def words_from(session):
+    marks = [sum(1 << d % 64 for d in session.marks if d // 64 == k) for k in range(4)]
+    return (session.used, session.id, session.high, session.last, *marks, *session.peer)
+
+
+def alive_records(table, clock):
+    for record in range(SESSIONS):
+        used, _, _, last, *_ = words_of(table, record)
+        if used != 0 and alive(last, table[0], clock):
+            yield record
+
+
+def fresh(session, packet):
+    distance = session.high - packet
+    return distance < 0 or distance < WINDOW and distance not in session.marks
+
+
+def accepted(session, packet, clock, peer):
+    """The session after it accepted a fresh packet."""
+    up = max(0, packet - session.high)
+    high = session.high + up
+    marks = {distance + up for distance in session.marks} | {high - packet}
+    marks = frozenset(distance for distance in marks if distance < WINDOW)
+    return Session(session.used, session.id, high, max(session.last, clock), marks, peer)
+
+
+def begun(id, packet, clock, peer):
+    return Session(1, id, packet, clock, frozenset({0}), peer)
+
+
+def admit(table, clock, id, packet, peer):
+    """Refusal 8 or 9, or 0; and the table afterwards."""
+    living = list(alive_records(table, clock))
+    for record in living:
+        session = session_of(words_of(table, record))
+        if session.id == id:
+            if not fresh(session, packet):
+                return REPLAY, table
+            session = accepted(session, packet, clock, peer)
+            return 0, with_words(table, record, words_from(session))
+    for record in range(SESSIONS):
+        if record not in living:
+            session = begun(id, packet, clock, peer)
+            return 0, with_words(table, record, words_from(session))
+    return FULL, table
+
+
+def table_sessions(table, clock):
+    """What the table says of its sessions alive: by ID, without record numbers."""
+    sessions = (session_of(words_of(table, record)) for record in alive_records(table, clock))
+    return sorted((s.id, s.high, sorted(s.marks), s.last, s.peer) for s in sessions)
+
+
+# The book: pages by ID.
+
+
+def enter(pages, retention, clock, id, packet, peer):
+    """Refusal 8 or 9, or 0; and the pages afterwards."""
+    living = {key for key, page in pages.items() if alive(page.last, retention, clock)}
+    if id in living:
+        page = pages[id]
+        close = page.high - packet < 256 and packet not in page.accepted
+        if not (packet > page.high or close):
+            return REPLAY, pages
+    elif len(living) == 64:
+        return FULL, pages
+    else:
+        page = Page(packet, frozenset(), clock, peer)
+    high = max(page.high, packet)
+    return 0, pages | {id: Page(high, page.accepted | {packet}, clock, peer)}
+
+
+def book_sessions(pages, retention, clock):
+    """What the book says of its pages alive, as of the table's sessions."""
+    sessions = []
+    for id, page in pages.items():
+        if alive(page.last, retention, clock):
+            marks = sorted(page.high - p for p in page.accepted if page.high - p < 256)
+            sessions.append((id, page.high, marks, page.last, page.peer))
+    return sorted(sessions)
+
+
+# Opening: what the arguments decide.
+
+
+subkey = functools.lru_cache(maxsize=None)(datagram.subkey)
+
+
+@functools.lru_cache(maxsize=None)
+def sealed(key, session, packet, text):
+    """A datagram of any plaintext."""
+    header = datagram.separate_header(session, packet)
+    body = gcm.seal(subkey(key, session), datagram.nonce(header), text)
+    return aes.encrypt(key, header) + body
+
+
+@functools.lru_cache(maxsize=None)
+def separate(key, block):
+    """The session ID and packet ID of a datagram's first 16 bytes."""
+    header = aes.decrypt(key, block)
+    return tuple(int.from_bytes(header[at : at + 8], "big") for at in (0, 8))
+
+
+@functools.lru_cache(maxsize=None)
+def text_of(key, sealed):
+    """The plaintext, None if the tag is wrong."""
+    session, packet = separate(key, sealed[:SEPARATE_LENGTH])
+    nonce = datagram.nonce(datagram.separate_header(session, packet))
+    return gcm.open(subkey(key, session), nonce, sealed[SEPARATE_LENGTH:])
+
+
+def target_of(address):
+    """The target of an address and port, the place of a name from the address's start."""
+    number = int.from_bytes(address[1:-2], "big")
+    if address[0] == 1:
+        return (1, number)
+    if address[0] == 4:
+        return (4, number >> 64, number % 2**64)
+    return (3, 2, len(address) - 4)
+
+
+def read(client, clock, session, packet, text):
+    """Refusal 5, 6, 7 or 13, or 0; and the header if there is one."""
+    kind, bound = (CLIENT_PACKET, 0) if client is None else (SERVER_PACKET, 8)
+    fixed = datagram.parts(text, 1, 8, bound, 2)
+    if fixed is None:
+        return MALFORMED, None
+    said, time, ours, padding = (int.from_bytes(part, "big") for part in fixed[:4])
+    if said != kind:
+        return TYPE, None
+    if not time_valid(time, clock):
+        return TIME, None
+    if client is not None and ours != client:
+        return BINDING, None
+    padded = datagram.parts(fixed[4], padding)
+    length = datagram.address_length(padded[1]) if padded else None
+    if length is None:
+        return MALFORMED, None
+    address, payload = datagram.parts(padded[1], length)
+    end = len(text) - len(payload)
+    target = target_of(address)
+    if target[0] == 3:
+        target = (3, end - length + target[1], target[2])
+    port = int.from_bytes(address[-2:], "big")
+    return 0, Header(target, port, session, packet, time, padding, end)
+
+
+def judge(call):
+    """The first refusal before 8, or 0; the header if there is one; a good tag's plaintext."""
+    if KEY_LENGTHS.get(call.method) != len(call.key):
+        return SETTINGS, None, None
+    if not MIN_LENGTH <= len(call.datagram) <= MAX_LENGTH:
+        return LENGTH, None, None
+    if len(call.output) < len(call.datagram) - MIN_LENGTH:
+        return ROOM, None, None
+    text = text_of(call.key, call.datagram)
+    if text is None:
+        return NOT_AUTHENTIC, None, None
+    session, packet = separate(call.key, call.datagram[:SEPARATE_LENGTH])
+    return *read(call.client, call.clock, session, packet, text), text
+
+
+def answer(call, number, header, text):
+    """What is answered; the output is untouched without a good tag, else plaintext or zeros."""
+    if text is None:
+        return Answer(number, None, call.output)
+    left = call.output[len(text) :]
+    if number:
+        return Answer(number, None, bytes(len(text)) + left)
+    return Answer(0, header, text + left)
+
+
+# Opening, on the table and by the book.
+
+
+def open(call, table):
+    """The answer, and the table afterwards."""
+    if not lawful(table):
+        return Answer(SETTINGS, None, call.output), table
+    number, header, text = judge(call)
+    if number == 0:
+        packet = header.session, header.packet
+        number, table = admit(table, call.clock, *packet, call.peer)
+    return answer(call, number, header, text), table
+
+
+def open_by_book(call, pages, retention):
+    """The answer, and the pages afterwards."""
+    number, header, text = judge(call)
+    if number == 0:
+        packet = header.session, header.packet
+        number, pages = enter(pages, retention, call.clock, *packet, call.peer)
+    return answer(call, number, header, text), pages
+
+
+def run_table(retention, calls):
+    """The answers, and the sessions alive at the last clock, from a new table."""
+    _, table = make(retention, (0,) * TABLE_WORDS)
+    answers = []
+    for call in calls:
+        given, table = open(call, table)
+        answers.append(given)
+    return answers, table_sessions(table, calls[-1].clock) if calls else []
+
+
+def run_book(retention, calls):
+    """The same by the book."""
+    retention = retention or DEFAULT_RETENTION
+    pages, answers = {}, []
+    for call in calls:
+        given, pages = open_by_book(call, pages, retention)
+        answers.append(given)
+    return answers, book_sessions(pages, retention, calls[-1].clock) if calls else []
+
+
+def belongs(call):
+    """The ID of the session that a call's datagram belongs to, None if it names none."""
+    if KEY_LENGTHS.get(call.method) != len(call.key) or len(call.datagram) < SEPARATE_LENGTH:
+        return None
+    return separate(call.key, call.datagram[:SEPARATE_LENGTH])[0]
+
+
+# Lists of calls, the same in every run.
+
+
+class Dice:
+    """Numbers from SHAKE256 of a seed."""
+
+    def __init__(self, seed):
+        self.seed, self.count = seed, 0
+
+    def below(self, limit):
+        self.count += 1
+        data = hashlib.shake_256(f"{self.seed} {self.count}".encode()).digest(16)
+        return int.from_bytes(data, "big") % limit
+
+    def pick(self, options):
+        return options[self.below(len(options))]
+
+    def often(self, percent):
+        return self.below(100) < percent
+
+
+def plaintext(client, time, address, padding=b"", payload=b"", kind=None):
+    """The plaintext of a datagram for this client, or for a server; any padding and type byte."""
+    if kind is None:
+        kind = CLIENT_PACKET if client is None else SERVER_PACKET
+    bound = b"" if client is None else u64(client)
+    return bytes([kind]) + u64(time) + bound + u16(len(padding)) + padding + address + payload
+
+
+# How far a packet ID is from the highest so far.
+STEPS = (1, 1, 1, 2, 3, 9, 63, 64, 65, 128, 255, 256, 300, 2**40)
+STEPS += (0, -1, -2, -3, -64, -100, -254, -255, -256, -257)
+GAPS = (1, 1, 5, 29, 30, 31, 59, 60, 61, 62, 200)
+ADDRESSES = (datagram.V4, datagram.NAME, datagram.V6)
+
+
+class Host:
+    """Makes the calls of a list: a clock that never goes back, and what was sent before."""
+
+    def __init__(self, seed, method=1, sessions=4, clock=1_000, quiet=80):
+        self.dice = Dice(seed)
+        self.method, self.key = method, datagram.KEYS[method]
+        self.ids = [self.dice.below(2**64) for _ in range(sessions)]
+        self.clients = (None, self.dice.below(2**64))
+        self.high = {}
+        self.clock, self.quiet = clock, quiet
+        self.sent = []
+
+    def text(self, client):
+        time = max(0, self.clock + self.dice.pick((0, 0, 0, 30, -30, 17, -9)))
+        if self.dice.often(4):
+            time += 61
+        address = self.dice.pick(ADDRESSES)
+        if self.dice.often(4):
+            address = address[:-1]
+        payload = bytes(self.dice.below(256) for _ in range(self.dice.below(6)))
+        return plaintext(client, time, address, bytes(self.dice.below(3)), payload)
+
+    def new(self):
+        """A client, and a datagram for its side."""
+        id, client = self.dice.pick(self.ids), self.dice.pick(self.clients)
+        high = self.high.get(id, self.dice.below(600))
+        packet = min(max(0, high + self.dice.pick(STEPS)), 2**64 - 1)
+        self.high[id] = max(high, packet)
+        return client, sealed(self.key, id, packet, self.text(client))
+
+    def damaged(self, data):
+        if self.dice.often(50):
+            return data[: self.dice.pick((0, 15, 16, 31, 32, 40))]
+        return datagram.flipped(data, self.dice.below(len(data)))
+
+    def call(self):
+        if not self.dice.often(self.quiet):
+            self.clock += self.dice.pick(GAPS)
+        if self.sent and self.dice.often(35):
+            client, data = self.dice.pick(self.sent[-20:])
+        else:
+            client, data = self.new()
+            self.sent.append((client, data))
+        if self.dice.often(8):
+            data = self.damaged(data)
+        if self.dice.often(4):
+            client = self.dice.pick((None, self.dice.below(2**64)))
+        room = max(0, len(data) - MIN_LENGTH + self.dice.pick((0, 0, 1, 3)))
+        if self.dice.often(3) and room:
+            room -= 4 if room > 4 else 1
+        peer = Peer(self.dice.below(2**64), self.dice.below(2**64), self.dice.below(2**16))
+        fill = bytes([self.dice.below(256)])
+        return Call(self.method, self.key, client, self.clock, peer, data, fill * room)
+
+    def calls(self, count):
+        return [self.call() for _ in range(count)]
+
+
+def rearranged(calls, dice):
+    """The calls' places in another order: within equal clocks, each session's as they were."""
+    order = []
+    for _, run in itertools.groupby(enumerate(calls), lambda pair: pair[1].clock):
+        waiting = collections.OrderedDict()
+        for place, call in run:
+            id = belongs(call)
+            waiting.setdefault(("none", place) if id is None else id, []).append(place)
+        while waiting:
+            id = dice.pick(list(waiting))
+            order.append(waiting[id].pop(0))
+            if not waiting[id]:
+                del waiting[id]
+    return order
+
+
+# Examples of the scope.
+
+PEER = Peer(2**64 - 1, 0, 65_535)
+OTHER_PEER = Peer(1, 2, 3)
+ID = datagram.SESSION
+KEY = datagram.KEYS[1]
+CLIENT = 0xFEDCBA9876543210
+
+
+def table_with(retention, *records):
+    """A table with these sessions in its first records."""
+    _, table = make(retention, (0,) * TABLE_WORDS)
+    for number, session in enumerate(records):
+        table = with_words(table, number, words_from(session))
+    return table
+
+
+def marked_300(*packets):
+    """A table with only 300 marked, after these packets too; and the last answer."""
+    table = table_with(60, begun(ID, 300, 1_000, PEER))
+    number = None
+    for packet in packets:
+        number, table = admit(table, 1_000, ID, packet, PEER)
+    return number, table
+
+
+def is_marked(table, packet):
+    session = session_of(words_of(table, 0))
+    return session.high - packet in session.marks
+
+
+def marked_edges():
+    yield "P1", time_valid(970, 1_000) and time_valid(1_030, 1_000)
+    yield "P2", not time_valid(969, 1_000) and not time_valid(1_031, 1_000)
+    yield "P3", not time_valid(2**64 - 1, 0)
+    table = table_with(60, begun(ID, 300, 1_000, PEER))
+    yield "P4", all(list(alive_records(table, clock)) == [0] for clock in (1_060, 990))
+    yield "P5", not list(alive_records(table, 1_061))
+    yield "P6", marked_300(45)[0] == 0
+    yield "P7", marked_300(44)[0] == REPLAY and marked_300(300)[0] == REPLAY
+    number, table = marked_300(555)
+    yield "P8", number == 0 and is_marked(table, 300)
+    number, table = marked_300(556)
+    far = not is_marked(table, 300) and marked_300(556, 300)[0] == REPLAY
+    yield "P9", number == 0 and far and marked_300(556, 301)[0] == 0
+    text = plaintext(None, 0, bytes.fromhex("03 01 61 0050"))
+    _, header = read(None, 0, ID, 5, text)
+    yield "P10", (header.target, header.port) == ((3, 13, 1), 80) and text[13:14] == b"a"
+    text = plaintext(None, 0, bytes.fromhex("03 00 0050"))
+    yield "P11", read(None, 0, ID, 5, text)[0] == MALFORMED
+
+
+def opened(text, client=None, clock=1_000, table=None, room=None, packet=5, peer=PEER):
+    """What opening answers to a datagram of method 1 with this plaintext."""
+    data = sealed(KEY, ID, packet, text)
+    room = len(text) if room is None else room
+    call = Call(1, KEY, client, clock, peer, data, b"\xa5" * room)
+    return open(call, table_with(60) if table is None else table)
+
+
+def worked_example():
+    text = bytes.fromhex(datagram.TEXT)
+    given, table = opened(text, room=20)
+    header = Header((3, 13, 1), 80, ID, 5, 1_000, 0, 16)
+    yield "worked example", given == Answer(0, header, text + b"\xa5" * 4)
+    record = (1, ID, 5, 1_000, 1, 0, 0, 0, *PEER)
+    yield "its record", table == (60, *record) + (0,) * (TABLE_WORDS - 12)
+    again, after = opened(text, table=table)
+    yield "the same again", again == Answer(REPLAY, None, bytes(16)) and after == table
+    given, after = opened(b"", table=table)
+    yield "a datagram of 32 bytes", given == Answer(MALFORMED, None, b"") and after == table
+    given, after = opened(text, table=table, room=15)
+    yield "too little room", given == Answer(ROOM, None, b"\xa5" * 15) and after == table
+    lengths = {n: opened(bytes(n))[0].number for n in range(19)}
+    yield "short plaintexts", set(lengths.values()) == {MALFORMED, TIME}
+    yield "under 11 bytes", [n for n in lengths if lengths[n] == MALFORMED] == list(range(11))
+
+
+def order_examples():
+    name = datagram.NAME
+    padded = b"\1" + u64(1_000) + u64(CLIENT) + u16(1)  # padding past the end
+    yield "under 19 bytes", opened(padded[:18], CLIENT)[0].number == MALFORMED
+    yield "wrong type", opened(b"\2" + padded[1:], CLIENT)[0].number == TYPE
+    yield "mirrored", opened(plaintext(None, 1_000, name), CLIENT)[0].number == MALFORMED
+    mirrored = plaintext(None, 1_000, name, payload=bytes(3))
+    yield "mirrored and longer", opened(mirrored, CLIENT)[0].number == TYPE
+    yield "wrong time", opened(padded, 7, 1_031)[0].number == TIME
+    yield "another client's", opened(padded, 7)[0].number == BINDING
+    yield "padding past the end", opened(padded, CLIENT)[0].number == MALFORMED
+    text = plaintext(CLIENT, 1_000, name)
+    yield "our own", opened(text, CLIENT)[0].number == 0
+    far = plaintext(None, 2**64 - 1, name)
+    yield "time past the last", opened(far, clock=29)[0].number == TIME
+
+
+def table_examples():
+    yield "making, 0", make(0, (9,) * TABLE_WORDS) == (0, (60,) + (0,) * (TABLE_WORDS - 1))
+    for retention in (1, 59, 3_601, 2**64 - 1):
+        table = (9,) * TABLE_WORDS
+        yield f"making, {retention}", make(retention, table) == (SETTINGS, table)
+    for count in (0, 704, 706):
+        yield f"making, {count} words", make(60, (9,) * count) == (SETTINGS, (9,) * count)
+    full = table_with(60, *(begun(n, 0, 1_000 + n, PEER) for n in range(64)))
+    yield "full", admit(full, 1_060, 64, 0, PEER) == (FULL, full)
+    number, table = admit(full, 1_060, 63, 1, OTHER_PEER)
+    known = Session(1, 63, 1, 1_063, frozenset({0, 1}), OTHER_PEER)
+    yield "known in a full table", number == 0 and table == with_words(full, 63, words_from(known))
+    number, table = admit(full, 1_062, 64, 9, OTHER_PEER)
+    new = begun(64, 9, 1_062, OTHER_PEER)
+    yield "lowest forgotten", number == 0 and table == with_words(full, 0, words_from(new))
+    odd = begun(ID, 20, 2**64 - 1, PEER)._replace(used=7, marks=frozenset({3, 30}))
+    number, table = admit(table_with(60, odd), 0, ID, 21, PEER)
+    expected = odd._replace(high=21, marks=frozenset({0, 4, 31}))
+    yield "words of a host", number == 0 and table == table_with(60, expected)
+    early = plaintext(None, 1_030, datagram.NAME)
+    _, table = opened(early)
+    again, _ = opened(early, clock=1_060, table=table)
+    yield "30 ahead, at its 60th second", again.number == REPLAY
+
+
+# Random lists: the table against the book, and rearranged.
+
+
+def lists():
+    """Retention and calls."""
+    yield 0, []
+    yield 0, Host("empty").calls(1)
+    for number in range(6):
+        yield 60, Host(f"few {number}", 1 + number % 2, 3, quiet=85).calls(90)
+    yield 60, Host("many", 1, 200, quiet=99).calls(220)
+    yield 61, Host("late", 2, 5, 2**64 - 1_000, quiet=93).calls(90)
+    yield 3_600, Host("equal", 1, 6, quiet=100).calls(90)
+
+
+def book_runs():
+    seen = collections.Counter()
+    for number, (retention, calls) in enumerate(lists()):
+        answers, sessions = run_table(retention, calls)
+        seen.update(given.number for given in answers)
+        yield f"list {number} by the book", (answers, sessions) == run_book(retention, calls)
+        if FULL in (given.number for given in answers):
+            continue
+        for turn in range(3):
+            order = rearranged(calls, Dice(f"order {number} {turn}"))
+            other = run_table(retention, [calls[place] for place in order])
+            same = other == ([answers[place] for place in order], sessions)
+            yield f"list {number} rearranged", same and sorted(order) == list(range(len(calls)))
+    every = {0, LENGTH, ROOM, NOT_AUTHENTIC, MALFORMED, TYPE, TIME, REPLAY, FULL, BINDING}
+    yield "every answer in the lists", set(seen) == every
+
+
+def selftest():
+    """The names of the examples that this code fails."""
+    edges = (marked_edges(), worked_example(), order_examples(), table_examples(), book_runs())
+    return [name for name, holds in itertools.chain(*edges) if not holds]
+
+
+if __name__ == "__main__":
+    aes.run(selftest, "examples of sessions, and the table against the book: all agree")
