@@ -1,13 +1,10 @@
 // Datagrams of SIP022, section 3.2: a separate header, one AES block under the shared key, and a body in AES-GCM under the
-// session's subkey. Sealing is public; what opening does before it looks at a session table is private until there is one.
+// session's subkey. Sealing is in write.rt, opening in read.rt, as far as a datagram's own bytes decide it, and open.rt.
 use protocol::Method;
 use protocol::Numbered;
 use protocol::Refusal;
 use socks5::Target;
 ghost use mathlib.Core.Path.{_≡_};
-ghost use mathlib.Core.List.{_++_};
-ghost use Prim.Native.Nat.{_≤_};
-ghost use Rattle.octets.specs.Numbers.{toBe};
 ghost use Rattle.datagram.specs.Headers.{separateHeader, fixedLength};
 ghost use Rattle.datagram.specs.Sealing.{keyFits, clientSender, begun};
 

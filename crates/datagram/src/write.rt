@@ -9,15 +9,14 @@ use super::key_fits;
 use super::separate_header;
 use protocol::Refusal;
 ghost use mathlib.Core.Path.{_≡_};
-ghost use mathlib.Core.List.{_∷_, _++_};
+ghost use mathlib.Core.List.{_∷_};
 ghost use Prim.Native.Nat.{_+_, _-_, _<_, _≤_, _^_};
 ghost use lib.ListN.{length};
 ghost use Rattle.octets.specs.Buffers.{put};
 ghost use Rattle.octets.specs.Numbers.{toBe};
-ghost use Rattle.aes.specs.KeyExpansion.{aes};
 ghost use Rattle.aes.specs.Keyed.{nkOf};
 ghost use Rattle.gcm.specs.Gcm.{textOf};
-ghost use Rattle.datagram.specs.Headers.{fixedLength, fixedPart, plaintext, separateHeader};
+ghost use Rattle.datagram.specs.Headers.{fixedLength, fixedPart, plaintext};
 ghost use Rattle.datagram.specs.Sealing.{maxDatagram, idsDiffer, sealedLength, capped, lengthAnswer, argumentAnswer, sealAnswer, packetsOf, sealNext, separateBlock, sealBody, datagram, sealOut};
 
 // ---- what is answered
