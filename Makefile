@@ -8,7 +8,7 @@ export CARGO_TARGET_DIR := $(CURDIR)/target/host
 test:
 	.ci/run
 
-# The data of the programs vectors_aes, vectors_gcm, vectors_blake3, vectors_datagram and vectors_sessions and what they must print.
+# The data of the vectors_* programs and what they must print.
 vectors:
 	python3 tools/aes-vectors.py
 	python3 tools/gcm-vectors.py

@@ -78,6 +78,12 @@ key-length n = go (eqb n 16) (eqb n 24) (eqb n 32) (eqb→eq n 16) (eqb→eq n 2
     go false false true e f g h = record { words = g tt; least = omega arith; most = omega arith }
     go false false false e f g h = absurd (h refl)
 
+-- no key of AES is longer than 32 bytes
+pub key-most : (n : ℕ) → 0 < nkOf n → n ≤ 32
+key-most n h =
+    let k = key-length n (λ e. omega arith) in
+    omega (arith, k .words, k .most)
+
 -- ---- whether key and string have their lengths
 
 module _ (n : ℕ) (key s : List ℕ) where

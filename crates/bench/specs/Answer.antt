@@ -14,6 +14,15 @@ use Rattle.book.specs.Call.{Answer, refused, opened}
 use Rattle.datagram.specs.declared.Header.{Header}
 use Rattle.datagram.specs.declared.Sealed.{Sealed}
 use Rattle.datagram.specs.declared.Sealed.the-variants.{Datagram, Refused}
+use Rattle.protocol.specs.Refusal.{refusalNumber}
+use Rattle.stream.specs.declared.Subkey.{Subkey}
+use Rattle.stream.specs.declared.Sender.{Sender}
+use Rattle.stream.specs.declared.Turn.the-variants.{Payload}
+use Rattle.stream.specs.declared.Receiver.{Receiver}
+use Rattle.stream.specs.declared.Sealed.{Sealed as ChunkSealed}
+use Rattle.stream.specs.declared.Sealed.the-variants.{Bytes, Refused as ChunkRefused}
+use Rattle.stream.specs.declared.Stepped.{Stepped}
+use Rattle.stream.specs.declared.Stepped.the-variants.{Opened as StepOpened, Refused as StepRefused}
 use Rattle.gcm.specs.declared.Opened.{Opened}
 use Rattle.gcm.specs.declared.Opened.the-variants.{Text, Forged, Unlawful}
 
@@ -54,3 +63,26 @@ openedNumber (refused n) = n
 -- the address of the benchmark's caller
 abbrev pub nobody : Peer
 nobody = record { first = 0; second = 0; port = 0 }
+
+-- streams, by their subkey in four words
+
+abbrev pub subkeyIn : (a b c d : ℕ) → Subkey
+subkeyIn a b c d = record { a = a; b = b; c = c; d = d }
+
+-- before the first piece
+abbrev pub firstSender : ℕ → Subkey → Sender
+firstSender method w = record { method = method; counter = 0; subkey = w }
+
+-- before the second piece, a payload of n bytes
+abbrev pub payloadReceiver : ℕ → ℕ → Subkey → Receiver
+payloadReceiver method n w = record { method = method; turn = Payload n; counter = 1; subkey = w }
+
+-- the number of bytes sealed, and 0 for a refusal
+abbrev pub chunkNumber : ChunkSealed → ℕ
+chunkNumber (Bytes n s) = n
+chunkNumber (ChunkRefused r) = 0
+
+-- 0 for an opened piece, and the refusal's number
+abbrev pub steppedNumber : Stepped → ℕ
+steppedNumber (StepOpened c) = 0
+steppedNumber (StepRefused r) = refusalNumber r

@@ -4,12 +4,18 @@ use datagram::Sender;
 use gcm::Opened;
 use ghash::Element;
 use session::Peer;
+use stream::Receiver;
+use stream::Stepped;
+use stream::Subkey;
+use stream::Turn;
 ghost use mathlib.Core.Path.{_≡_};
 ghost use mathlib.Core.Option.{none};
 ghost use lib.ListN.{length};
-ghost use Rattle.bench.specs.Answer.{answer, number, hashLawful, hashOut, subkeyLawful, subkeyOut, sealedNumber, openedNumber, nobody};
+ghost use Rattle.bench.specs.Answer.{answer, number, hashLawful, hashOut, subkeyLawful, subkeyOut, sealedNumber, openedNumber, nobody, subkeyIn, firstSender, payloadReceiver, chunkNumber, steppedNumber};
 ghost use Rattle.datagram.specs.Sealing as sealing;
 ghost use Rattle.datagram.specs.Deciding as deciding;
+ghost use Rattle.stream.specs.Sealing as streams;
+ghost use Rattle.stream.specs.Chunks as chunks;
 ghost use Rattle.gcm.specs.Keyed.{sealLawful, sealed, openAnswer, openOut};
 ghost use Rattle.aes.specs.Keyed.{lawful};
 ghost use Rattle.ctr.specs.Gctr.{aesCtr};
@@ -145,5 +151,69 @@ pub extern "C" fn bench_datagram_open(
     match datagram::open_server(method, key, clock, peer, s, table, out) {
         datagram::Opened::Datagram(_) => 0,
         datagram::Opened::Refused(refusal) => refusal.number(),
+    }
+}
+
+// Seals the first chunk of a stream, its subkey in four words: the number of bytes, or 0 and nothing written for a refusal.
+#[no_mangle]
+pub extern "C" fn bench_chunk_seal(
+    method: u64,
+    a: u64,
+    b: u64,
+    c: u64,
+    d: u64,
+    payload: &[u8],
+    out: &mut [u8],
+) -> usize
+    ensures { λ r. ⌜ r ≡ chunkNumber (streams.chunkAnswer (firstSender method (subkeyIn a b c d)) (length (now (payload .entry))) (length (now (out .entry)))) ⌝ }
+    ensures { λ r. ⌜ now (out .exit) ≡ streams.sealOut (streams.chunkAnswer (firstSender method (subkeyIn a b c d)) (length (now (payload .entry))) (length (now (out .entry)))) (streams.chunk (streams.senderKey (firstSender method (subkeyIn a b c d))) 0 (now (payload .entry))) (now (out .entry)) ⌝ }
+{
+    let sender = stream::Sender {
+        method: method,
+        counter: 0,
+        subkey: Subkey {
+            a: a,
+            b: b,
+            c: c,
+            d: d,
+        },
+    };
+    match stream::seal_chunk(sender, payload, out) {
+        stream::Sealed::Bytes(n, _) => n,
+        stream::Sealed::Refused(_) => 0,
+    }
+}
+
+// Opens the payload of a stream's first chunk, of n bytes: 0, or the refusal's number.
+#[no_mangle]
+pub extern "C" fn bench_chunk_open(
+    method: u64,
+    a: u64,
+    b: u64,
+    c: u64,
+    d: u64,
+    n: u16,
+    s: &[u8],
+    out: &mut [u8],
+) -> u64
+    ensures { λ r. ⌜ r ≡ steppedNumber (chunks.stepAnswer (payloadReceiver method n (subkeyIn a b c d)) (now (s .entry)) (length (now (out .entry)))) ⌝ }
+    ensures { λ r. ⌜ now (out .exit) ≡ chunks.stepOut (payloadReceiver method n (subkeyIn a b c d)) (now (s .entry)) (now (out .entry)) ⌝ }
+{
+    let receiver = Receiver {
+        method: method,
+        turn: Turn::Payload(n),
+        counter: 1,
+        subkey: Subkey {
+            a: a,
+            b: b,
+            c: c,
+            d: d,
+        },
+    };
+    let step = stream::open_chunk(receiver, s, out);
+    let answer = step.answer;
+    match answer {
+        Stepped::Opened(_) => 0,
+        Stepped::Refused(refusal) => refusal.number(),
     }
 }

@@ -6,6 +6,7 @@ use mathlib.Core.Option.{Option, none, some}
 use Prim.Native.Nat.{ℕ, zero, suc, _-_, _≤_, zero-le}
 use native.Mathlib.Omega.{arith}
 use lib.Dec.{leb, ltb, eqb}
+use Rattle.records.proofs.SearchLaws.{lowest-found, lowest-none}
 use Rattle.session.specs.Sizes.{capacity, window, alive}
 use Rattle.session.specs.Table.{Record, retention, newTable, recordAt, lowest, live, holds, bit, sessionPlace}
 use Rattle.book.specs.Call.{Call, Outcome, refused, Decision}
@@ -13,7 +14,7 @@ use Rattle.book.specs.Book.{Page, one, page, member, bookNext, bookOutco
 use Rattle.book.specs.Runs.{tableOutcomeBy, tableNextBy, tableOutcomes, tableAfter}
 use Rattle.book.specs.Demand3.{Each, Pairs, clocks, PortFits, lastOf, lastReading, View, viewOfPage, viewOfRecord, mapOption, bookSession, tableSession, OneRecordEach, FollowsBook}
 use Rattle.book.proofs.Tests.{T→true, leb-le, leb-lt, some≢none}
-use Rattle.book.proofs.Search.{tally, lowest-found, lowest-none}
+use Rattle.book.proofs.Search.{tally}
 use Rattle.book.proofs.Window.{Match}
 use Rattle.book.proofs.Words.{new-length, new-unused, lawful-table}
 use Rattle.book.proofs.Refine.{holds-live, holds-id}

@@ -1,4 +1,4 @@
--- The lowest number that passes a test, and how many pass. Assumes nothing.
+-- How many numbers pass a test. Assumes nothing.
 use mathlib.Core.Path.{_≡_, refl, sym, ap, ap₂, subst}
 use mathlib.Core.Logic.{_≢_}
 use mathlib.Core.Bool.{Bool, true, false, cond, not}
@@ -6,39 +6,14 @@ use mathlib.Core.Option.{none, some}
 use Prim.Native.Nat.{ℕ, zero, suc, _+_, _≤_, _<_, zero-le}
 use native.Mathlib.Omega.{arith}
 use lib.Dec.{eqb}
-use Rattle.session.specs.Table.{lowestFrom}
+use Rattle.records.specs.Records.{lowestFrom}
 use Rattle.book.specs.Book.{one}
-use Rattle.book.proofs.Tests.{some≢none, some-inj, eqb-eq, eqb-ne}
+use Rattle.book.proofs.Tests.{some≢none, eqb-eq, eqb-ne}
 
 -- how many of the numbers from, .., from + n - 1 pass
 abbrev pub tally : (ℕ → Bool) → (from n : ℕ) → ℕ
 tally f i zero = 0
 tally f i (suc n) = one (f i) + tally f (suc i) n
-
--- what the search finds
-pub lowest-found : (f : ℕ → Bool) (i n k : ℕ) → lowestFrom f i n ≡ some k → (i ≤ k) × (k < i + n) × (f k ≡ true)
-lowest-found f i zero k e = absurd (some≢none (sym e))
-lowest-found f i (suc n) k e = go (lowest-found f (suc i) n k) (f i) refl e
-  where
-    go : (lowestFrom f (suc i) n ≡ some k → (suc i ≤ k) × (k < suc i + n) × (f k ≡ true)) → (x : Bool) → f i ≡ x
-        → cond x (some i) (lowestFrom f (suc i) n) ≡ some k → (i ≤ k) × (k < i + suc n) × (f k ≡ true)
-    go ih true h e′ =
-        let s : i ≡ k = some-inj e′ in (omega arith, omega arith, subst (λ (m : ℕ). f m ≡ true) s h)
-    go ih false h e′ = let r = ih e′ in (omega (arith, r .0), omega (arith, r .1), r .2)
-
--- where it finds nothing, nothing passes
-pub lowest-none : (f : ℕ → Bool) (i n : ℕ) → lowestFrom f i n ≡ none → (k : ℕ) → i ≤ k → k < i + n → f k ≡ false
-lowest-none f i zero e k l h = absurd (omega arith)
-lowest-none f i (suc n) e k l h = go (lowest-none f (suc i) n) (f i) refl e
-  where
-    go : (lowestFrom f (suc i) n ≡ none → (k : ℕ) → suc i ≤ k → k < suc i + n → f k ≡ false) → (x : Bool) → f i ≡ x
-        → cond x (some i) (lowestFrom f (suc i) n) ≡ none → f k ≡ false
-    go ih true p e′ = absurd (some≢none e′)
-    go ih false p e′ = pick (eqb i k) refl
-      where
-        pick : (y : Bool) → eqb i k ≡ y → f k ≡ false
-        pick true q = subst (λ (m : ℕ). f m ≡ false) (eqb-eq {m = i} {n = k} q) p
-        pick false q = ih e′ k (omega (arith, eqb-ne {m = i} {n = k} q)) (omega arith)
 
 one-le : (x : Bool) → one x ≤ 1
 one-le true = omega arith

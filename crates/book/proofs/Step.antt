@@ -8,6 +8,7 @@ use Prim.Native.Nat.{ℕ, _^_, _≤_, _<_, zero-le}
 use native.Mathlib.Nat.{le-refl}
 use native.Mathlib.Omega.{arith}
 use lib.ListN.{length}
+use Rattle.records.proofs.SearchLaws.{lowest-found, lowest-none}
 use Rattle.session.specs.declared.Peer.{Peer}
 use Rattle.session.specs.Sizes.{capacity}
 use Rattle.session.specs.Table.{Record, tableWords, retention, recordAt, store, acceptIn, newRecord, lowest, live, holds, sessionPlace, freePlace, Entry, stores, meetBy, meet, keep}
@@ -19,7 +20,7 @@ use Rattle.session.specs.Table as W
 use Rattle.book.proofs.Tests.{leb-true, leb-false, and-true-left}
 use Rattle.book.proofs.Pages.{livingOf, page-alive}
 use Rattle.book.proofs.Swap.{accept-alive, new-alive}
-use Rattle.book.proofs.Search.{lowest-found, lowest-none, tally-all, tally-some}
+use Rattle.book.proofs.Search.{tally-all, tally-some}
 use Rattle.book.proofs.Window.{Match, fresh-same, match-accept, match-new, not-true}
 use Rattle.book.proofs.Words.{record-other, record-same, retention-store, length-store}
 use Rattle.book.proofs.Refine.{Found, Rel, inUse, alive-same, later, put, holds-live, holds-id, live-after, livingOf-none-later, livingOf-some-later}

@@ -2,37 +2,19 @@
 use mathlib.Core.Path.{_≡_, refl, sym, ap, ap₂, _∙_}
 use mathlib.Core.Logic.{_≢_}
 use mathlib.Core.Bool.{Bool, true, false, _&&_}
-use mathlib.Core.List.{List, [], _∷_}
-use Prim.Native.Nat.{ℕ, zero, suc, _+_, _*_, _/_, _%_, _^_, _≤_, _<_}
-use native.Mathlib.Nat.{mod-eq-of-lt, le-of-suc-le-suc, add-zero}
+use mathlib.Core.List.{List}
+use Prim.Native.Nat.{ℕ, suc, _+_, _*_, _/_, _%_, _^_, _≤_, _<_}
+use native.Mathlib.Nat.{mod-eq-of-lt, add-zero}
 use native.Mathlib.Numerals.{one-add}
 use native.Mathlib.Omega.{arith}
 use lib.Dec.{ltb}
-use lib.ListN.{length, getD, set, replicate, length-set, getD-replicate, List·getD-eq-default, length-replicate}
-use lib.Seq.{sets, length-sets, getD-set-same, getD-set-other}
+use lib.ListN.{length, getD, replicate, getD-replicate, List·getD-eq-default, length-replicate}
+use lib.Seq.{length-sets}
 use lib.Pow.{shr-lt}
+use Rattle.records.proofs.WordLaws.{sets-before, sets-after, sets-in}
 use Rattle.session.specs.Sizes.{capacity, window}
 use Rattle.session.specs.Table.{Record, recordWords, tableWords, start, retention, newTable, join4, recordAt, wordsOf, store, lawful}
 use Rattle.book.proofs.Tests.{eqb-true, leb-true, leb-le, leb-lt}
-
--- ---- a run of stores
-
-sets-before : (vs l : List ℕ) (i k : ℕ) → k < i → getD (sets l i vs) k 0 ≡ getD l k 0
-sets-before [] l i k h = refl
-sets-before (a ∷ vs) l i k h = sets-before vs (set l i a) (suc i) k (omega arith) ∙ getD-set-other l i k a 0 (omega arith)
-
-sets-after : (vs l : List ℕ) (i k : ℕ) → i + length vs ≤ k → getD (sets l i vs) k 0 ≡ getD l k 0
-sets-after [] l i k h = refl
-sets-after (a ∷ vs) l i k h = sets-after vs (set l i a) (suc i) k (omega arith) ∙ getD-set-other l i k a 0 (omega arith)
-
-sets-in : (vs l : List ℕ) (i k : ℕ) → k < length vs → i + length vs ≤ length l → getD (sets l i vs) (i + k) 0 ≡ getD vs k 0
-sets-in [] l i k h b = absurd (omega arith)
-sets-in (a ∷ vs) l i zero h b =
-    ap (λ (n : ℕ). getD (sets (set l i a) (suc i) vs) n 0) (add-zero i) ∙ sets-before vs (set l i a) (suc i) i (omega arith)
-    ∙ getD-set-same l i a 0 (omega arith)
-sets-in (a ∷ vs) l i (suc k) h b =
-    ap (λ (n : ℕ). getD (sets (set l i a) (suc i) vs) n 0) (let e : i + suc k ≡ suc i + k = omega arith in e)
-    ∙ sets-in vs (set l i a) (suc i) k (le-of-suc-le-suc h) (omega (arith, length-set l i a))
 
 -- ---- the other records
 

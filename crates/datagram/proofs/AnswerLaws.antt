@@ -13,8 +13,7 @@ use Rattle.octets.specs.Buffers.{both}
 use Rattle.aes.specs.Keyed.{pick, nkOf}
 use Rattle.protocol.specs.declared.Refusal.{Refusal}
 use Rattle.protocol.specs.declared.Refusal.the-variants.{Settings, Length, Room, Counter, Argument}
-use Rattle.protocol.specs.declared.Numbered.{Numbered}
-use Rattle.protocol.specs.Method.{methodOf}
+use Rattle.protocol.specs.Method.{keyFits}
 use Rattle.socks5.specs.Address.{isAddress}
 use Rattle.datagram.specs.declared.Side.{Side}
 use Rattle.datagram.specs.declared.Side.the-variants.{Client, Server}
@@ -23,15 +22,8 @@ use Rattle.datagram.specs.declared.Begun.the-variants.{Ready, Refused as
 use Rattle.datagram.specs.declared.Sealed.{Sealed}
 use Rattle.datagram.specs.declared.Sealed.the-variants.{Datagram, Refused}
 use Rattle.datagram.specs.Headers.{fixedLength}
-use Rattle.datagram.specs.Sealing.{maxDatagram, asks, keyFits, pickBegun, begun, differs, sealedLength, capped, pickSealed, lengthAnswer, argumentAnswer, sealAnswer, idsDiffer, packetsOf}
+use Rattle.datagram.specs.Sealing.{maxDatagram, pickBegun, begun, differs, sealedLength, capped, pickSealed, lengthAnswer, argumentAnswer, sealAnswer, idsDiffer, packetsOf}
 use Rattle.datagram.proofs.SubkeyLaws.{key-of-method}
-
--- ---- settings
-
--- the method that was found, and what it is
-pub key-law : (method k : ℕ) (p q : Numbered) → p ≡ methodOf method → p ≡ q → asks q k ≡ keyFits method k
-unfolding keyFits
-key-law method k p q e f = ap (λ (n : Numbered). asks n k) (sym f ∙ e)
 
 -- ---- beginning
 

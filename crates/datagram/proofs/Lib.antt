@@ -3,11 +3,5 @@ pub mod SubkeyLaws
 pub mod AnswerLaws
 pub mod WritingLaws
 pub mod OpeningLaws
-pub mod ReadBack
-pub mod Theorems
 pub mod ReadLaws
 pub mod CallLaws
-pub mod Demand3
-pub mod WayLaws
-pub mod Demands12
-pub mod Edges

@@ -22,6 +22,7 @@ use Rattle.gcm.specs.declared.Opened.{Opened as Answer}
 use Rattle.gcm.specs.declared.Opened.the-variants.{Text, Forged, Unlawful}
 use Rattle.gcm.proofs.GcmLaws.{length-opened}
 use Rattle.gcm.proofs.KeyedLaws.{open-lawful, open-decided, answer-text, answer-forged, answer-lawful}
+use Rattle.protocol.specs.Method.{keyFits}
 use Rattle.protocol.specs.declared.Refusal.{Refusal}
 use Rattle.protocol.specs.declared.Refusal.the-variants.{Settings, Length, Room, NotAuthentic, Malformed, WrongType, WrongTime, Binding}
 use Rattle.protocol.specs.Subkey.{sessionSubkey}
@@ -35,7 +36,7 @@ use Rattle.datagram.specs.declared.Side.the-variants.{Client, Server}
 use Rattle.datagram.specs.declared.Opened.{Opened}
 use Rattle.datagram.specs.declared.Opened.the-variants.{Datagram, Refused}
 use Rattle.datagram.specs.Headers.{separateHeader, nonce, typeOf, fixedLength}
-use Rattle.datagram.specs.Sealing.{maxDatagram, keyFits}
+use Rattle.datagram.specs.Sealing.{maxDatagram}
 use Rattle.datagram.specs.Opening.{separateOf, sessionOf, packetOf, bodyAuthentic, bodyText, pickOpened, timeOf, paddingOf, meant, headerWith, readAddress, readMain, lengthLawful, readBody, readAnswer, settled, bodyOut, readOut}
 use Rattle.datagram.proofs.LengthLaws.{length-nonce}
 use Rattle.datagram.proofs.SubkeyLaws.{length-session-subkey, subkey-front, header-nonce}

@@ -13,6 +13,7 @@ use Rattle.octets.proofs.BufferLaws.{put-again}
 use Rattle.aes.specs.KeyExpansion.{if}
 use Rattle.gcm.specs.Keyed.{ciphOf}
 use Rattle.gcm.proofs.GcmLaws.{length-opened}
+use Rattle.protocol.specs.Method.{keyFits}
 use Rattle.protocol.specs.declared.Refusal.{Refusal}
 use Rattle.protocol.specs.declared.Refusal.the-variants.{Settings, Length, Room, NotAuthentic, Malformed, WrongType, WrongTime, Binding}
 use Rattle.protocol.specs.Subkey.{sessionSubkey}
@@ -25,7 +26,6 @@ use Rattle.datagram.specs.declared.Header.{Header}
 use Rattle.datagram.specs.declared.Opened.{Opened}
 use Rattle.datagram.specs.declared.Opened.the-variants.{Datagram, Refused}
 use Rattle.datagram.specs.Headers.{nonce, typeOf, fixedLength}
-use Rattle.datagram.specs.Sealing.{keyFits}
 use Rattle.datagram.specs.Opening.{sessionOf, packetOf, bodyAuthentic, bodyText, pickOpened, timeOf, paddingOf, meant, headerWith, readAddress, readMain, lengthLawful, readBody, readAnswer, settled, bodyOut, readOut}
 
 -- ---- answers

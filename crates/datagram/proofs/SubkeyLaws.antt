@@ -1,46 +1,34 @@
 -- Keys of AES; the subkey of a session and the nonce of a datagram, as the sealer and the opener have them in their buffers.
 -- Assumes nothing.
-use mathlib.Core.Path.{_≡_, refl, sym, ap, ap₂, _∙_, subst}
-use mathlib.Core.Bool.{Bool, true, false}
+use mathlib.Core.Path.{_≡_, sym, ap, ap₂, _∙_, subst}
+use mathlib.Core.Bool.{true}
 use mathlib.Core.List.{List, _++_}
+use mathlib.Core.Logic.{⊎-elim}
 use Prim.Native.Nat.{ℕ, _<_, _≤_}
 use native.Mathlib.Nat.{zero-add}
 use native.Mathlib.Omega.{arith}
-use lib.Dec.{eqb, lit<}
+use lib.Dec.{lit<}
 use lib.ListN.{length, take, drop}
 use lib.Seq.{length-take-le}
-use borrow.Author.Tests.{eqb-true}
 use Rattle.octets.specs.Buffers.{put}
 use Rattle.octets.specs.Numbers.{toBe}
 use Rattle.octets.proofs.BufferLaws.{take-put}
 use Rattle.aes.specs.Keyed.{nkOf}
-use Rattle.aes.proofs.KeyedLaws.{key-length}
+use Rattle.aes.proofs.KeyedLaws.{key-most}
 use Rattle.blake3.specs.Derivation.{subkeyContext}
 use Rattle.blake3.proofs.DerivationLaws.{length-deriveKey}
-use Rattle.protocol.specs.declared.Numbered.the-variants.{Known, Unknown}
-use Rattle.protocol.specs.Method.{aes128, aes256, pickNumbered, methodOf}
+use Rattle.protocol.specs.Method.{keyFits}
+use Rattle.protocol.proofs.MethodLaws.{fits-sizes}
 use Rattle.protocol.specs.Subkey.{subkey, sessionSubkey}
 use Rattle.datagram.specs.Headers.{separateHeader, nonce}
-use Rattle.datagram.specs.Sealing.{asks, keyFits}
 
 -- a key that has its method's length is a key of AES
 pub key-of-method : (method k : ℕ) → keyFits method k ≡ true → 0 < nkOf k
-unfolding keyFits methodOf nkOf
-key-of-method method k = go (eqb method 1) (eqb method 2)
+unfolding nkOf
+key-of-method method k h = ⊎-elim (at 16 (lit< tt)) (at 32 (lit< tt)) (fits-sizes method k h .either)
   where
-    at : (a : ℕ) → 0 < nkOf a → eqb a k ≡ true → 0 < nkOf k
-    at a h e = subst (λ (n : ℕ). 0 < nkOf n) (eqb-true a k e) h
-
-    go : (a b : Bool) → asks (pickNumbered a (Known aes128) (pickNumbered b (Known aes256) Unknown)) k ≡ true → 0 < nkOf k
-    go true b e = at 16 (lit< tt) e
-    go false true e = at 32 (lit< tt) e
-    go false false e = absurd (let z : _≡_ {A = ℕ} 0 1 = cc in omega arith)
-
--- no key of AES is longer than 32 bytes
-pub key-most : (n : ℕ) → 0 < nkOf n → n ≤ 32
-key-most n h =
-    let k = key-length n (λ e. omega arith) in
-    omega (arith, k .words, k .most)
+    at : (a : ℕ) → 0 < nkOf a → k ≡ a → 0 < nkOf k
+    at a l e = subst (λ (n : ℕ). 0 < nkOf n) (sym e) l
 
 module _ (key : List ℕ) (id : ℕ) (least : 0 < nkOf (length key)) where
   -- the subkey is as long as the key

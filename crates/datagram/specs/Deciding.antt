@@ -12,6 +12,7 @@ use Rattle.session.specs.declared.Admitted.the-variants.{Accepted, Replay, Full
 use Rattle.session.specs.Table.{meet, admitted}
 use Rattle.book.specs.Call.{Call, Answer, refused, opened, Decision, early, reaches}
 use Rattle.book.specs.Runs.{tableOutcome, tableNext}
+use Rattle.protocol.specs.Method.{keyFits}
 use Rattle.protocol.specs.declared.Refusal.the-variants.{Replay as RefusedReplay, Full as RefusedFull}
 use Rattle.protocol.specs.Refusal.{refusalNumber}
 use Rattle.datagram.specs.declared.Side.{Side}
@@ -19,7 +20,6 @@ use Rattle.datagram.specs.declared.Side.the-variants.{Client, Server}
 use Rattle.datagram.specs.declared.Header.{Header}
 use Rattle.datagram.specs.declared.Opened.{Opened}
 use Rattle.datagram.specs.declared.Opened.the-variants.{Datagram, Refused}
-use Rattle.datagram.specs.Sealing.{keyFits}
 use Rattle.datagram.specs.Opening.{sessionOf, packetOf, bodyText, readAnswer, readOut}
 
 -- whose datagram a call expects: a server's call has no client session ID, and opens clients' datagrams

@@ -2,4 +2,3 @@ pub mod Headers
 pub mod Sealing
 pub mod Opening
 pub mod Deciding
-pub mod Demands

@@ -13,6 +13,7 @@ use Rattle.aes.specs.Keyed.{nkOf}
 use Rattle.aes_inverse.specs.InvCipher.{invAes}
 use Rattle.gcm.specs.Gcm as gcm
 use Rattle.gcm.specs.Keyed.{ciphOf, authentic}
+use Rattle.protocol.specs.Method.{keyFits}
 use Rattle.protocol.specs.declared.Refusal.the-variants.{Settings, Length, Room, NotAuthentic, Malformed, WrongType, WrongTime, Binding}
 use Rattle.protocol.specs.Subkey.{sessionSubkey}
 use Rattle.protocol.specs.Time.{timeValid}
@@ -25,7 +26,7 @@ use Rattle.datagram.specs.declared.Header.{Header}
 use Rattle.datagram.specs.declared.Opened.{Opened}
 use Rattle.datagram.specs.declared.Opened.the-variants.{Datagram, Refused}
 use Rattle.datagram.specs.Headers.{nonce, typeOf, fixedLength}
-use Rattle.datagram.specs.Sealing.{maxDatagram, keyFits}
+use Rattle.datagram.specs.Sealing.{maxDatagram}
 
 -- ---- the separate header
 

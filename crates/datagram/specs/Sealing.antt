@@ -11,9 +11,7 @@ use Rattle.gcm.specs.Gcm.{seal}
 use Rattle.gcm.specs.Keyed.{ciphOf}
 use Rattle.protocol.specs.declared.Refusal.{Refusal}
 use Rattle.protocol.specs.declared.Refusal.the-variants.{Settings, Length, Room, Counter, Argument}
-use Rattle.protocol.specs.declared.Numbered.{Numbered}
-use Rattle.protocol.specs.declared.Numbered.the-variants.{Known, Unknown}
-use Rattle.protocol.specs.Method.{methodOf}
+use Rattle.protocol.specs.Method.{keyFits}
 use Rattle.protocol.specs.Subkey.{sessionSubkey}
 use Rattle.socks5.specs.Address.{isAddress}
 use Rattle.datagram.specs.declared.Side.{Side}
@@ -28,14 +26,6 @@ use Rattle.datagram.specs.Headers.{separateHeader, nonce, fixedLength, p
 -- what UDP can carry over IPv4
 abbrev pub maxDatagram : ℕ
 maxDatagram = 65507
-
--- the method of a number asks for a key of its own length
-abbrev pub asks : Numbered → ℕ → Bool
-asks (Known m) k = eqb (m .key) k
-asks Unknown k = false
-
-unfoldable pub keyFits : ℕ → ℕ → Bool
-keyFits method k = asks (methodOf method) k
 
 -- ---- sending sessions begin at packet ID 0
 

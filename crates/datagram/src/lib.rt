@@ -1,12 +1,10 @@
 // Datagrams of SIP022, section 3.2: a separate header, one AES block under the shared key, and a body in AES-GCM under the
 // session's subkey. Sealing is in write.rt, opening in read.rt, as far as a datagram's own bytes decide it, and open.rt.
-use protocol::Method;
-use protocol::Numbered;
 use protocol::Refusal;
 use socks5::Target;
 ghost use mathlib.Core.Path.{_≡_};
 ghost use Rattle.datagram.specs.Headers.{separateHeader, fixedLength};
-ghost use Rattle.datagram.specs.Sealing.{keyFits, clientSender, begun};
+ghost use Rattle.datagram.specs.Sealing.{clientSender, begun};
 
 mod open;
 mod read;
@@ -97,16 +95,6 @@ impl Sender {
             id: id,
             packet: 0,
         })
-    }
-}
-
-// Whether there is a method of this number and the key has its length.
-fn key_fits(method: u64, key: usize) -> bool
-    ensures { λ r. ⌜ r ≡ keyFits method key ⌝ }
-{
-    match Method::numbered(method) {
-        Numbered::Known(m) => m.key == key,
-        Numbered::Unknown => false,
     }
 }
 

@@ -5,7 +5,6 @@ use super::Opened;
 use super::Separate;
 use super::Side;
 use super::fixed_length;
-use super::key_fits;
 use super::separate_header;
 use protocol::Refusal;
 use socks5::Parsed;
@@ -174,7 +173,7 @@ pub fn read_datagram(
     ensures { λ r. ⌜ r ≡ readAnswer method (now (key .entry)) side clock (now (s .entry)) (now (out .entry)) ⌝ }
     ensures { λ r. ⌜ now (out .exit) ≡ readOut method (now (key .entry)) side clock (now (s .entry)) (now (out .entry)) ⌝ }
 {
-    if key_fits(method, key.len()) {
+    if protocol::key_fits(method, key.len()) {
         if s.len() < 32 {
             return Opened::Refused(Refusal::Length);
         }

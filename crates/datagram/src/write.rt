@@ -5,7 +5,6 @@ use super::Sealing;
 use super::Sender;
 use super::Side;
 use super::fixed_length;
-use super::key_fits;
 use super::separate_header;
 use protocol::Refusal;
 ghost use mathlib.Core.Path.{_≡_};
@@ -100,7 +99,7 @@ fn seal_answer(
 ) -> Sealed
     ensures { λ r. ⌜ r ≡ sealAnswer method key sender (now (address .entry)) padding payload room ⌝ }
 {
-    if key_fits(method, key) {
+    if protocol::key_fits(method, key) {
         return argument_answer(sender, address, padding, payload, room);
     }
     Sealed::Refused(Refusal::Settings)

@@ -191,7 +191,7 @@ pub fn open_at(
 {
     let len = s.len() - 16;
     let tag = tag_of(t, sbox, w, rounds, n, &s[..len]);
-    let good = octets::equal_tags(&tag, &s[len..]);
+    let good = octets::equal(&tag, &s[len..]);
     if good {
         crypt_into(t, sbox, w, rounds, n, &s[..len], out);
     }

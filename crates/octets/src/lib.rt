@@ -73,13 +73,14 @@ pub fn xor_into(out: &mut [u8], with: &[u8])
     }
 }
 
-// Whether two tags are the same. Every byte is looked at, so that the time does not tell where they differ.
-pub fn equal_tags(a: &[u8], b: &[u8]) -> bool
-    requires { ⌜ (length (now a) ≡ 16) × (length (now b) ≡ 16) ⌝ }
+// Whether two strings of one length are the same. Every byte is looked at, so that the time does not tell where they
+// differ.
+pub fn equal(a: &[u8], b: &[u8]) -> bool
+    requires { ⌜ length (now a) ≡ length (now b) ⌝ }
     ensures { λ r. ⌜ r ≡ same (now (a .entry)) (now (b .entry)) ⌝ }
 {
     let mut differ: u8 = 0;
-    for i in 0..16 {
+    for i in 0..a.len() {
         differ = differ | (a[i] ^ b[i]);
     }
     differ == 0

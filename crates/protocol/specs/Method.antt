@@ -22,3 +22,28 @@ pickNumbered false a b = b
 -- the method of a number, compared as the whole number
 unfoldable pub methodOf : ℕ → Numbered
 methodOf n = pickNumbered (eqb n 1) (Known aes128) (pickNumbered (eqb n 2) (Known aes256) Unknown)
+
+-- ---- what the method of a number asks for
+
+-- a key of its own length
+abbrev pub asks : Numbered → ℕ → Bool
+asks (Known m) k = eqb (m .key) k
+asks Unknown k = false
+
+unfoldable pub keyFits : ℕ → ℕ → Bool
+keyFits method k = asks (methodOf method) k
+
+-- the lengths of its key and its salt; 0 where there is no such method
+abbrev pub keyIn : Numbered → ℕ
+keyIn (Known m) = m .key
+keyIn Unknown = 0
+
+unfoldable pub keyLength : ℕ → ℕ
+keyLength method = keyIn (methodOf method)
+
+abbrev pub saltIn : Numbered → ℕ
+saltIn (Known m) = m .salt
+saltIn Unknown = 0
+
+unfoldable pub saltLength : ℕ → ℕ
+saltLength method = saltIn (methodOf method)

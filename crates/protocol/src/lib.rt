@@ -1,6 +1,6 @@
 // What the layers of SIP022 share: methods, refusals, the time rule.
 ghost use mathlib.Core.Path.{_≡_};
-ghost use Rattle.protocol.specs.Method.{aes128, aes256, methodOf};
+ghost use Rattle.protocol.specs.Method.{aes128, aes256, methodOf, keyFits, keyLength, saltLength};
 ghost use Rattle.protocol.specs.Refusal.{refusalNumber, wantedBytes};
 ghost use Rattle.protocol.specs.Subkey.{subkey, sessionSubkey};
 ghost use Rattle.protocol.specs.Time.{timeValid};
@@ -61,6 +61,36 @@ impl Method {
             return Numbered::Known(Self::aes_256_gcm());
         }
         Numbered::Unknown
+    }
+}
+
+// Whether there is a method of this number and the key has its length.
+pub fn key_fits(method: u64, key: usize) -> bool
+    ensures { λ r. ⌜ r ≡ keyFits method key ⌝ }
+{
+    match Method::numbered(method) {
+        Numbered::Known(m) => m.key == key,
+        Numbered::Unknown => false,
+    }
+}
+
+// The length of a method's key; 0 where there is no such method.
+pub fn key_length(method: u64) -> usize
+    ensures { λ r. ⌜ r ≡ keyLength method ⌝ }
+{
+    match Method::numbered(method) {
+        Numbered::Known(m) => m.key,
+        Numbered::Unknown => 0,
+    }
+}
+
+// The length of a method's salt; 0 where there is no such method.
+pub fn salt_length(method: u64) -> usize
+    ensures { λ r. ⌜ r ≡ saltLength method ⌝ }
+{
+    match Method::numbered(method) {
+        Numbered::Known(m) => m.salt,
+        Numbered::Unknown => 0,
     }
 }
 

@@ -12,6 +12,7 @@ capacity = 64
 abbrev pub window : ℕ
 window = 256
 
--- a session is alive while the clock is not past its last time, or past it by no more than the retention R
+-- a session is alive while the clock is not past its last time, or past it by no more than the retention R; of a record that
+-- is in use, `current` says the same
 abbrev pub alive : (R clock last : ℕ) → Bool
 alive R clock last = leb clock (last + R)

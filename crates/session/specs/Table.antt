@@ -1,16 +1,17 @@
 -- The session table as words, and what a packet ID meets there. Any words have a meaning; past the end a word reads as 0.
-use Prim.Native.Nat.{ℕ, zero, suc, _+_, _-_, _*_, _/_, _%_, _^_, max}
+use Prim.Native.Nat.{ℕ, _+_, _-_, _*_, _/_, _%_, _^_, max}
 use mathlib.Core.Bool.{Bool, true, false, cond, not, _&&_, _||_}
 use mathlib.Core.List.{List, [], _∷_}
 use mathlib.Core.Option.{Option, none, some}
 use lib.Dec.{leb, ltb, eqb}
 use lib.ListN.{length, getD, replicate}
 use lib.Seq.{sets}
+use Rattle.records.specs.Records.{current, lowestFrom}
 use Rattle.session.specs.declared.Peer.{Peer}
 use Rattle.session.specs.declared.Session.{Session}
 use Rattle.session.specs.declared.Admitted.{Admitted}
 use Rattle.session.specs.declared.Admitted.the-variants.{Accepted, Replay, Full}
-use Rattle.session.specs.Sizes.{capacity, window, alive}
+use Rattle.session.specs.Sizes.{capacity, window}
 
 -- ---- the layout: R, then a record of `recordWords` words for each session
 
@@ -115,16 +116,11 @@ newRecord clock a id p = record { used = 1; id = id; h = p; last = clock; marks 
 
 -- ---- the search
 
--- the lowest i at least `from` and below `from + n` that passes the test
-abbrev pub lowestFrom : (ℕ → Bool) → (from n : ℕ) → Option ℕ
-lowestFrom f i zero = none
-lowestFrom f i (suc n) = let r = lowestFrom f (suc i) n in cond (f i) (some i) r
-
 abbrev pub lowest : (ℕ → Bool) → Option ℕ
 lowest f = lowestFrom f 0 capacity
 
 abbrev pub live : (R clock : ℕ) → Record → Bool
-live R clock r = not (eqb (r .used) 0) && alive R clock (r .last)
+live R clock r = current R clock (r .used) (r .last)
 
 abbrev pub holds : (R clock id : ℕ) → Record → Bool
 holds R clock id r = live R clock r && eqb (r .id) id

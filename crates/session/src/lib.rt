@@ -3,11 +3,10 @@
 ghost use mathlib.Core.Path.{_≡_};
 ghost use mathlib.Core.Bool.{true, false};
 ghost use mathlib.Core.Option.{none, some};
-ghost use Prim.Native.Nat.{_+_, _*_, _%_, _^_, _<_, _≤_, max};
-ghost use lib.ListN.{length, replicate};
-ghost use lib.Seq.{sets};
+ghost use Prim.Native.Nat.{_+_, _*_, _%_, _^_, _<_, max};
+ghost use lib.ListN.{length};
 ghost use Rattle.session.specs.Sizes.{capacity, window};
-ghost use Rattle.session.specs.Table.{recordWords, tableWords, retention, lawful, madeRetention, makeLawful, made, recordAt, recordOf, wordsOf, store as storeOf, bit, freshIn, acceptIn, newRecord, live, sessionPlace, freePlace, placeNumber, meetBy, meet, keep, admitted};
+ghost use Rattle.session.specs.Table.{tableWords, retention, lawful, madeRetention, makeLawful, made, recordAt, recordOf, wordsOf, store as storeOf, bit, freshIn, acceptIn, newRecord, live, sessionPlace, freePlace, placeNumber, meetBy, meet, keep, admitted};
 ghost use Rattle.session.specs.Words.{number, wordOf};
 
 pub const SESSIONS: usize = 64;
@@ -201,14 +200,7 @@ fn is_alive(table: &[u64], clock: u64, r: usize) -> bool
     ensures { λ b. ⌜ b ≡ live (retention (now (table .entry))) clock (recordAt (now (table .entry)) r) ⌝ }
 {
     let at = 1 + r * WORDS;
-    if table[at] == 0 {
-        return false;
-    }
-    let last = table[at + LAST];
-    if clock <= last {
-        return true;
-    }
-    clock - last <= table[0]
+    records::is_current(table[at], table[at + LAST], clock, table[0])
 }
 
 // The record that holds the session with this ID, or SESSIONS.
@@ -289,25 +281,13 @@ fn words_of(s: Session) -> [u64; WORDS]
     ]
 }
 
-// Writes the words from place at on. Every other word stays.
-fn write(table: &mut [u64], at: usize, ws: [u64; WORDS])
-    requires { ⌜ at + recordWords ≤ length (now table) ⌝ }
-    ensures { λ _. ⌜ now (table .exit) ≡ sets (now (table .entry)) at ws ⌝ }
-{
-    let mut k: usize = 0;
-    while k < WORDS {
-        table[at + k] = ws[k];
-        k += 1;
-    }
-}
-
 // Writes the session into record r. Every other word stays.
 fn store(table: &mut [u64], r: usize, s: Session)
     requires { ⌜ (length (now table) ≡ tableWords) × (r < capacity) ⌝ }
     ensures { λ _. ⌜ now (table .exit) ≡ storeOf (now (table .entry)) r (recordOf s) ⌝ }
 {
     let ws = words_of(s);
-    write(table, 1 + r * WORDS, ws);
+    records::write(table, 1 + r * WORDS, &ws);
 }
 
 pub fn is_lawful(table: &[u64]) -> bool
@@ -378,14 +358,6 @@ fn made_retention(retention: u64) -> u64
     retention
 }
 
-fn clear(table: &mut [u64])
-    ensures { λ _. ⌜ now (table .exit) ≡ replicate (length (now (table .entry))) 0 ⌝ }
-{
-    for i in 0..table.len() {
-        table[i] = 0;
-    }
-}
-
 // Makes a table of the lent words: the retention, 60 for 0, and zeros. False, and nothing written, where the length is wrong
 // or the retention is neither 0 nor 60 to 3,600.
 pub fn make(retention: u64, table: &mut [u64]) -> bool
@@ -402,7 +374,7 @@ pub fn make(retention: u64, table: &mut [u64]) -> bool
     if 3600 < keep {
         return false;
     }
-    clear(table);
+    records::clear(table);
     table[0] = keep;
     true
 }

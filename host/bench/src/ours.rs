@@ -64,6 +64,29 @@ extern "C" {
         out: *mut u8,
         out_len: usize,
     ) -> u64;
+    fn bench_chunk_seal(
+        method: u64,
+        a: u64,
+        b: u64,
+        c: u64,
+        d: u64,
+        payload: *const u8,
+        payload_len: usize,
+        out: *mut u8,
+        out_len: usize,
+    ) -> usize;
+    fn bench_chunk_open(
+        method: u64,
+        a: u64,
+        b: u64,
+        c: u64,
+        d: u64,
+        length: u16,
+        sealed: *const u8,
+        sealed_len: usize,
+        out: *mut u8,
+        out_len: usize,
+    ) -> u64;
     fn bench_subkey(
         key: *const u8,
         key_len: usize,
@@ -247,6 +270,63 @@ pub fn datagram_open(
             datagram.len(),
             table.as_mut_ptr(),
             table.len(),
+            out.as_mut_ptr(),
+            out.len(),
+        )
+    }
+}
+
+/// The words of a stream's subkey, its bytes big-endian.
+fn subkey_words(subkey: &[u8]) -> [u64; 4] {
+    let mut bytes = [0; 32];
+    bytes[..subkey.len()].copy_from_slice(subkey);
+    std::array::from_fn(|index| {
+        let word = &bytes[8 * index..8 * index + 8];
+        u64::from_be_bytes(word.try_into().expect("eight bytes"))
+    })
+}
+
+/// Seals the first chunk of a stream, a length with its payload, to the front of
+/// `out` and answers how many bytes it has.
+///
+/// # Panics
+///
+/// If it is refused.
+pub fn chunk_seal(method: u64, subkey: &[u8], payload: &[u8], out: &mut [u8]) -> usize {
+    let [a, b, c, d] = subkey_words(subkey);
+    // SAFETY: as in `aes_ctr`, with `out` the one that is borrowed mutably.
+    let length = unsafe {
+        bench_chunk_seal(
+            method,
+            a,
+            b,
+            c,
+            d,
+            payload.as_ptr(),
+            payload.len(),
+            out.as_mut_ptr(),
+            out.len(),
+        )
+    };
+    assert_ne!(length, 0, "bench_chunk_seal refused");
+    length
+}
+
+/// Opens the payload, of `length` bytes, of a stream's first chunk: 0, or the
+/// refusal's number.
+pub fn chunk_open(method: u64, subkey: &[u8], length: u16, sealed: &[u8], out: &mut [u8]) -> u64 {
+    let [a, b, c, d] = subkey_words(subkey);
+    // SAFETY: as in `aes_ctr`, with `out` the one that is borrowed mutably.
+    unsafe {
+        bench_chunk_open(
+            method,
+            a,
+            b,
+            c,
+            d,
+            length,
+            sealed.as_ptr(),
+            sealed.len(),
             out.as_mut_ptr(),
             out.len(),
         )

@@ -85,6 +85,12 @@ const WHOLE_BLOCKS: usize = 65_504;
 /// Whole datagrams, to the longest that UDP carries.
 const DATAGRAMS: [usize; 4] = [64, 1_400, 9_000, 65_507];
 
+/// The payloads of chunks: one that fits an Ethernet frame, and the longest.
+const CHUNKS: [u16; 2] = [1_400, 65_535];
+
+/// A chunk's length in GCM.
+const SEALED_LENGTH: usize = 2 + openssl::TAG_LENGTH;
+
 /// What a client's datagram has beside its address and payload: both headers, no
 /// padding, and the tag.
 const DATAGRAM_OVERHEAD: usize = 16 + 11 + 16;
@@ -146,6 +152,10 @@ pub fn all() -> Vec<Row> {
         rows.extend(DATAGRAMS.map(|size| datagram_seal(method, key_length, size)));
         rows.extend(DATAGRAMS.map(|size| datagram_open(method, key_length, size)));
         rows.extend(FORGED_BODIES.map(|size| datagram_forged(method, key_length, size)));
+    }
+    for (method, key_length) in [(1, 16), (2, 32)] {
+        rows.extend(CHUNKS.map(|length| chunk_seal(method, key_length, length)));
+        rows.extend(CHUNKS.map(|length| chunk_open(method, key_length, length)));
     }
     // A stream's subkey of the longest method, a session's of the shortest.
     rows.push(subkey(32, SALT.len()));
@@ -338,6 +348,66 @@ fn datagram_forged(method: u64, key_length: usize, size: usize) -> Row {
             assert_eq!(refused, NOT_AUTHENTIC, "forged datagram taken");
         })],
     }
+}
+
+/// A stream's first chunk is sealed: its length and its payload, with nonces that
+/// count from 0.
+fn chunk_seal(method: u64, key_length: usize, length: u16) -> Row {
+    let key = &KEY[..key_length];
+    let context = openssl::AesGcm::new(key_length);
+    let size = usize::from(length);
+    Row {
+        name: format!("chunk seal, {method}"),
+        size,
+        input: text(size),
+        buffer: SEALED_LENGTH + size + openssl::TAG_LENGTH,
+        timed: true,
+        contestants: vec![
+            Contestant::new(Library::Ours, move |payload, out| {
+                ours::chunk_seal(method, key, payload, out);
+            }),
+            Contestant::new(Library::OpenSsl, move |payload, out| {
+                let (front, rest) = out.split_at_mut(SEALED_LENGTH);
+                context.seal(key, &chunk_nonce(0), &length.to_be_bytes(), front);
+                context.seal(key, &chunk_nonce(1), payload, rest);
+            }),
+        ],
+    }
+}
+
+/// The payload of a stream's first chunk is opened.
+fn chunk_open(method: u64, key_length: usize, length: u16) -> Row {
+    let key = &KEY[..key_length];
+    let context = openssl::AesGcm::new(key_length);
+    let size = usize::from(length);
+    let mut sealed = vec![0; size + openssl::TAG_LENGTH];
+    context.seal(key, &chunk_nonce(1), &text(size), &mut sealed);
+    Row {
+        name: format!("chunk open, {method}"),
+        size,
+        input: sealed,
+        buffer: size,
+        timed: true,
+        contestants: vec![
+            Contestant::new(Library::Ours, move |sealed, out| {
+                let refused = ours::chunk_open(method, key, length, sealed, out);
+                assert_eq!(refused, 0, "sealed chunk refused");
+            }),
+            Contestant::new(Library::OpenSsl, move |sealed, out| {
+                assert!(
+                    context.open(key, &chunk_nonce(1), sealed, out),
+                    "sealed chunk refused"
+                );
+            }),
+        ],
+    }
+}
+
+/// The counter in 12 bytes, little-endian.
+fn chunk_nonce(counter: u64) -> [u8; 12] {
+    let mut nonce = [0; 12];
+    nonce[..8].copy_from_slice(&counter.to_le_bytes());
+    nonce
 }
 
 fn new_table() -> Vec<u64> {

@@ -44,8 +44,8 @@ returns c =
     let a = t .before .before .before .before .args in
     let ciph = ciphAt (a .rounds) (a .w .now) in
     let n = nonceBytes (a .n) in
-    let good : e .equal-tags .result ≡ true = p .before .before .before .if1 .taken in (
-      authentic-law ciph n (a .s .now) _ _ (t .tag-of .ensures) (e .equal-tags .ensures),
+    let good : e .equal .result ≡ true = p .before .before .before .if1 .taken in (
+      authentic-law ciph n (a .s .now) _ _ (t .tag-of .ensures) (e .equal .ensures),
       p .crypt-into .ensures
           ∙ ap (λ (b : Bool). if b (put (a .out .now) 0 (opened ciph n (a .s .now))) (a .out .now)) (sym good),
     )
@@ -57,7 +57,7 @@ returns-2 c =
     let a = t .before .before .before .before .args in
     let ciph = ciphAt (a .rounds) (a .w .now) in
     let n = nonceBytes (a .n) in (
-      authentic-law ciph n (a .s .now) _ _ (t .tag-of .ensures) (e .equal-tags .ensures),
+      authentic-law ciph n (a .s .now) _ _ (t .tag-of .ensures) (e .equal .ensures),
       ap (λ (b : Bool). if b (put (a .out .now) 0 (opened ciph n (a .s .now))) (a .out .now)) (sym (c .if1 .left)),
     )
 

@@ -9,10 +9,18 @@ use Rattle.session.proofs.store.Tie as tie
 returns : tie.Need-returns
 returns c =
     let d = c .before .before in
-    let a = d .before .before .before .before .args in
-    d .write .ensures ∙ ap (sets (a .table .now) (start (a .r))) (d .before .before .words-of .ensures)
+    let w = d .before .before .before in
+    let a = w .before .before .args in
+    d .write .ensures ∙ ap (sets (a .table .now) (start (a .r))) (w .words-of .ensures)
 
 pub store-spec : {M : Type 1} → statement M
 store-spec =
     tie.close
-    (tie.spec (λ c κs. search needs) (λ c. search needs) (λ c. search needs) (λ c κs. search needs) (λ c. search needs) returns)
+    (tie.spec
+    (λ c κs. search needs)
+    (λ c. search needs)
+    (λ c. search needs)
+    (λ c. search needs)
+    (λ c κs. search needs)
+    (λ c. search needs)
+    returns)

@@ -4,7 +4,7 @@ use borrow.Author.Needs.{needs}
 use lib.Dec.{lit≤}
 use lib.ListN.{replicate}
 use lib.Seq.{length-take-le}
-use Rattle.datagram.proofs.SubkeyLaws.{key-most}
+use Rattle.aes.proofs.KeyedLaws.{key-most}
 use Rattle.datagram.proofs.OpeningLaws.{BodyOpened, body-opened, body-text, body-forged, body-lawful}
 use Rattle.datagram.proofs.read.open_body.Statement.{statement}
 use Rattle.datagram.proofs.read.open_body.Tie as tie

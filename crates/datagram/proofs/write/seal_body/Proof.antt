@@ -4,7 +4,8 @@ use borrow.Author.Needs.{needs}
 use lib.Dec.{lit≤}
 use lib.ListN.{replicate}
 use lib.Seq.{length-take-le}
-use Rattle.datagram.proofs.SubkeyLaws.{key-most, subkey-front, header-nonce}
+use Rattle.aes.proofs.KeyedLaws.{key-most}
+use Rattle.datagram.proofs.SubkeyLaws.{subkey-front, header-nonce}
 use Rattle.datagram.proofs.WritingLaws.{body-law}
 use Rattle.datagram.proofs.write.seal_body.Statement.{statement}
 use Rattle.datagram.proofs.write.seal_body.Tie as tie

@@ -1,0 +1,368 @@
+-- Demands 1 and 2 for opened datagrams.
+-- Assumes nothing.
+use mathlib.Core.Path.{_≡_, refl, sym, ap, ap₂, _∙_, subst}
+use mathlib.Core.Bool.{Bool, true, false}
+use mathlib.Core.List.{List}
+use mathlib.Core.Option.{Option}
+use Prim.Native.Nat.{ℕ, _+_, _-_, _≤_}
+use native.Mathlib.Nat.{zero-add}
+use native.Mathlib.Omega.{arith}
+use lib.Dec.{leb}
+use lib.ListN.{length, getD, drop, replicate, length-replicate}
+use borrow.Author.Tests.{leb-true, leb-false, le-leb, lt-leb, eqb-true, eq-eqb}
+use Rattle.octets.specs.Buffers.{both, put}
+use Rattle.octets.proofs.BufferLaws.{length-put, drop-put}
+use Rattle.session.specs.declared.Peer.{Peer}
+use Rattle.session.specs.Table.{lawful}
+use Rattle.book.specs.Call.{Answer, refused, opened}
+use Rattle.protocol.specs.Method.{keyFits}
+use Rattle.protocol.specs.declared.Refusal.the-variants.{Settings, Malformed}
+use Rattle.protocol.specs.Refusal.{refusalNumber}
+use Rattle.protocol.specs.Time.{timeValid}
+use Rattle.socks5.specs.declared.Parsed.{Parsed}
+use Rattle.socks5.specs.declared.Parsed.the-variants.{Found, Malformed as NoAddress}
+use Rattle.socks5.specs.Address.{parseAt}
+use Rattle.datagram.specs.declared.Side.{Side}
+use Rattle.datagram.specs.declared.Header.{Header}
+use Rattle.datagram.specs.declared.Opened.the-variants.{Datagram, Refused}
+use Rattle.datagram.specs.Headers.{typeOf, fixedLength}
+use Rattle.datagram.specs.Sealing.{maxDatagram, sealAnswer, datagram}
+use Rattle.datagram.specs.Opening.{sessionOf, packetOf, timeOf, paddingOf, meant, headerWith, readAddress, lengthLawful, readAnswer, readOut}
+use Rattle.datagram.specs.Deciding.{expected, openerOf, plainOf, openAnswer, openOut, openTable}
+use Rattle.demands.specs.Datagrams.{Answered, accepts, refuses, tagGood, Lawful, BeforeTag, unlawful-table, other-key, too-short, too-long, no-room, forged, Stage, before, after, Keeps, Demand1, ValidHeader, Enters, Acceptable, AcceptedExactlyWhen, SealedAccepted, Demand2}
+use Rattle.demands.proofs.DatagramReadBack.{payload-back}
+use Rattle.demands.proofs.DatagramSealing.{one-target, sealed-opens}
+use Rattle.datagram.proofs.ReadLaws.{Reads, Opens, answer-given, opened-out, length-plain, unlawful-out, forged-out, cleared-out}
+use Rattle.datagram.proofs.CallLaws.{expected-opener}
+use Rattle.demands.proofs.DatagramWays.{contrary, opened-same, not-both, read-same, not-read, among, among-answer, Way, unlawful, early, late, taken, way as way-of}
+
+-- ---- the tests of the arguments
+
+both-false : (b : Bool) → both b false ≡ false
+both-false true = refl
+both-false false = refl
+
+module _ (method : ℕ) (key s t out : List ℕ) where
+  abbrev settings : Bool
+  settings = both (keyFits method (length key)) (both (lengthLawful s) (leb (length s - 32) (length out)))
+
+  abbrev sizes : Bool
+  sizes = both (leb 32 (length s)) (leb (length s) maxDatagram)
+
+  -- a reason to refuse before the tag, other than the table's, is one of two tests that fails
+  data Stops : Type 0 where
+    by-settings : settings ≡ false → Stops
+    by-tag : tagGood key s ≡ false → Stops
+
+  stops : lawful t ≡ true → BeforeTag method key s t out → Stops
+  unfolding lengthLawful
+  stops l (unlawful-table e) = absurd (contrary (lawful t) l e)
+  stops l (other-key e) = by-settings (ap (λ (b : Bool). both b (both sizes (leb (length s - 32) (length out)))) e)
+  stops l (too-short e) =
+      by-settings
+      (ap (λ (b : Bool). both (keyFits method (length key)) (both (both b (leb (length s) maxDatagram)) (leb (length s - 32) (length out))))
+      (lt-leb 32 (length s) e)
+      ∙ both-false (keyFits method (length key)))
+  stops l (too-long e) =
+      by-settings
+      (ap (λ (b : Bool). both (keyFits method (length key)) (both b (leb (length s - 32) (length out))))
+      (ap (both (leb 32 (length s))) (lt-leb (length s) maxDatagram e) ∙ both-false (leb 32 (length s)))
+      ∙ both-false (keyFits method (length key)))
+  stops l (no-room e) =
+      by-settings
+      (ap (λ (b : Bool). both (keyFits method (length key)) (both sizes b)) (lt-leb (length s - 32) (length out) e)
+      ∙ ap (both (keyFits method (length key))) (both-false sizes) ∙ both-false (keyFits method (length key)))
+  stops l (forged e) = by-tag e
+
+  lawful-settings : Lawful method key s t out → settings ≡ true
+  unfolding lengthLawful
+  lawful-settings w =
+      let e₁ = le-leb 32 (length s) (w .shortest) in
+      let e₂ = le-leb (length s) maxDatagram (w .longest) in
+      let e₃ = le-leb (length s - 32) (length out) (w .room) in
+      (λ i. both (w .key-fits i) (both (both (e₁ i) (e₂ i)) (e₃ i)))
+
+  lawful-size : Lawful method key s t out → lengthLawful s ≡ true
+  unfolding lengthLawful
+  lawful-size w = ap₂ both (le-leb 32 (length s) (w .shortest)) (le-leb (length s) maxDatagram (w .longest))
+
+  stage : Stage method key s t out
+  stage =
+      go (lawful t) (keyFits method (length key)) (leb 32 (length s)) (leb (length s) maxDatagram) (leb (length s - 32) (length out)) (tagGood key s)
+      refl refl refl refl refl refl
+    where
+      go : (a b c d e f : Bool) → lawful t ≡ a → keyFits method (length key) ≡ b → leb 32 (length s) ≡ c → leb (length s) maxDatagram ≡ d
+          → leb (length s - 32) (length out) ≡ e → tagGood key s ≡ f → Stage method key s t out
+      go false b c d e f ea eb ec ed ee ef = before (unlawful-table ea)
+      go true false c d e f ea eb ec ed ee ef = before (other-key eb)
+      go true true false d e f ea eb ec ed ee ef = before (too-short (leb-false 32 (length s) ec))
+      go true true true false e f ea eb ec ed ee ef = before (too-long (leb-false (length s) maxDatagram ed))
+      go true true true true false f ea eb ec ed ee ef = before (no-room (leb-false (length s - 32) (length out) ee))
+      go true true true true true false ea eb ec ed ee ef = before (forged ef)
+      go true true true true true true ea eb ec ed ee ef =
+          after
+          (record {
+            table = ea;
+            key-fits = eb;
+            shortest = leb-true 32 (length s) ec;
+            longest = leb-true (length s) maxDatagram ed;
+            room = leb-true (length s - 32) (length out) ee;
+          }) ef
+
+-- ---- demand 1
+
+module _ (method : ℕ) (key : List ℕ) (client : Option ℕ) (clock : ℕ) (peer : Peer) (s t out : List ℕ) where
+  abbrev side : Side
+  side = expected client
+
+  abbrev answer : Answer Header
+  answer = openAnswer method key client clock peer s t out
+
+  abbrev buffer : List ℕ
+  buffer = openOut method key client clock peer s t out
+
+  abbrev table : List ℕ
+  table = openTable method key client clock peer s t out
+
+  abbrev zeros : List ℕ
+  zeros = replicate (length s - 32) 0
+
+  abbrev Ways : Type 0
+  Ways = Way method key client clock peer s t out
+
+  way : Ways
+  way = way-of method key client clock peer s t out
+
+  not-stopped : (h : Header) → Opens method key side clock s out h → Stops method key s t out → ⊥
+  not-stopped h d (by-settings e) = contrary (settings method key s t out) (λ i. both (d .fits i) (both (d .size i) (d .room i))) e
+  not-stopped h d (by-tag e) = contrary (tagGood key s) (d .authentic) e
+
+  answered : Answered answer
+  answered = go way
+    where
+      go : Ways → Answered answer
+      go (unlawful l ea eb et) = refuses Settings refl ea
+      go (early l r er ea eb et) = refuses r (ap among (sym er) ∙ among-answer method key side clock s out) ea
+      go (late l h d n r o ea eb et) = refuses r o ea
+      go (taken l h d n ea eb) = accepts h ea
+
+  refused-keeps-table : (n : ℕ) → answer ≡ refused n → table ≡ t
+  refused-keeps-table n e = go way
+    where
+      go : Ways → table ≡ t
+      go (unlawful l ea eb et) = et
+      go (early l r er ea eb et) = et
+      go (late l h d x r o ea eb et) = et
+      go (taken l h d x ea eb) = absurd (not-both n h answer e ea)
+
+  untouched-before-tag : BeforeTag method key s t out → buffer ≡ out
+  untouched-before-tag b = go way
+    where
+      read-out : Stops method key s t out → readOut method key side clock s out ≡ out
+      read-out (by-settings e) = unlawful-out method key side clock s out e
+      read-out (by-tag e) = forged-out method key side clock s out e
+
+      go : Ways → buffer ≡ out
+      go (unlawful l ea eb et) = eb
+      go (early l r er ea eb et) = eb ∙ read-out (stops method key s t out l b)
+      go (late l h d x r o ea eb et) = absurd (not-stopped h d (stops method key s t out l b))
+      go (taken l h d x ea eb) = absurd (not-stopped h d (stops method key s t out l b))
+
+  refused-before-tag : BeforeTag method key s t out → (h : Header) → answer ≡ opened h → ⊥
+  refused-before-tag b h e = go way
+    where
+      go : Ways → ⊥
+      go (unlawful l ea eb et) = not-both 1 h answer ea e
+      go (early l r er ea eb et) = not-both (refusalNumber r) h answer ea e
+      go (late l g d x r o ea eb et) = not-both (refusalNumber r) h answer ea e
+      go (taken l g d x ea eb) = not-stopped g d (stops method key s t out l b)
+
+  cleared-after-tag : Lawful method key s t out → tagGood key s ≡ true → (n : ℕ) → answer ≡ refused n → buffer ≡ put out 0 zeros
+  cleared-after-tag w a n e = go way
+    where
+      go : Ways → buffer ≡ put out 0 zeros
+      go (unlawful l ea eb et) = absurd (contrary (lawful t) (w .table) l)
+      go (early l r er ea eb et) = eb ∙ cleared-out method key side clock s out (lawful-settings method key s t out w) a r er (w .room)
+      go (late l h d x r o ea eb et) = eb
+      go (taken l h d x ea eb) = absurd (not-both n h answer e ea)
+
+  -- what the buffer can hold: what it held, or as many bytes as are due at its front
+  data Left : Type 0 where
+    as-was : buffer ≡ out → Left
+    written : (b : List ℕ) → length b ≡ length s - 32 → length s - 32 ≤ length out → buffer ≡ put out 0 b → Left
+
+  left : Left
+  left = go (stage method key s t out) answered
+    where
+      go : Stage method key s t out → Answered answer → Left
+      go (before b) a = as-was (untouched-before-tag b)
+      go (after w a) (refuses r o e) =
+          written zeros (length-replicate (length s - 32) 0) (w .room) (cleared-after-tag w a (refusalNumber r) e)
+      go (after w a) (accepts h e) = plain way
+        where
+          plain : Ways → Left
+          plain (unlawful l ea eb et) = absurd (not-both 1 h answer ea e)
+          plain (early l r er ea eb et) = absurd (not-both (refusalNumber r) h answer ea e)
+          plain (late l g d x r o ea eb et) = absurd (not-both (refusalNumber r) h answer ea e)
+          plain (taken l g d x ea eb) = written (plainOf key s) (length-plain method key side clock s out) (w .room) eb
+
+  past-due-kept : drop (length s - 32) buffer ≡ drop (length s - 32) out
+  past-due-kept = go left
+    where
+      go : Left → drop (length s - 32) buffer ≡ drop (length s - 32) out
+      go (as-was e) = ap (drop (length s - 32)) e
+      go (written b lb room e) =
+          let n : 0 + length b ≡ length s - 32 = zero-add (length b) ∙ lb in
+          ap (drop (length s - 32)) e ∙ ap (λ (k : ℕ). drop k (put out 0 b)) (sym n) ∙ drop-put out 0 b (omega (arith, n, room))
+          ∙ ap (λ (k : ℕ). drop k out) n
+
+  length-kept : length buffer ≡ length out
+  length-kept = go left
+    where
+      go : Left → length buffer ≡ length out
+      go (as-was e) = ap length e
+      go (written b lb room e) = ap length e ∙ length-put out 0 b (omega (arith, lb, room))
+
+  keeps : Keeps method key client clock peer s t out
+  keeps =
+      record {
+        answered = answered;
+        stage = stage method key s t out;
+        refused-keeps-table = refused-keeps-table;
+        untouched-before-tag = untouched-before-tag;
+        refused-before-tag = refused-before-tag;
+        cleared-after-tag = cleared-after-tag;
+        past-due-kept = past-due-kept;
+        length-kept = length-kept;
+      }
+
+pub demand1 : Demand1
+demand1 method key client clock peer s t out = keeps method key client clock peer s t out
+
+-- ---- demand 2
+
+-- the main header, told by its tests and told plainly
+module _ (side : Side) (clock id packet : ℕ) (plain : List ℕ) (h : Header) where
+  valid-header : Reads side clock id packet plain h → ValidHeader side id packet plain h
+  unfolding readAddress
+  valid-header d = go (parseAt plain (fixedLength side + paddingOf side plain)) refl (d .address)
+    where
+      go : (p : Parsed) → parseAt plain (fixedLength side + paddingOf side plain) ≡ p
+          → headerWith id packet (timeOf plain) (paddingOf side plain) p ≡ Datagram h → ValidHeader side id packet plain h
+      go (Found a) ep e =
+          record {
+            long-enough = leb-true (fixedLength side) (length plain) (d .long);
+            right-type = eqb-true (getD plain 0 0) (typeOf side) (d .kind);
+            address = a;
+            address-found = ep;
+            says = sym (read-same _ h e);
+          }
+      go NoAddress ep e = absurd (not-read Malformed h (Refused Malformed) refl e)
+
+  header-reads : ValidHeader side id packet plain h → meant side plain ≡ true → timeValid (h .time) clock ≡ true → Reads side clock id packet plain h
+  unfolding readAddress
+  header-reads v ours timely =
+      record {
+        long = le-leb (fixedLength side) (length plain) (v .long-enough);
+        kind = eq-eqb (getD plain 0 0) (typeOf side) (v .right-type);
+        timely = ap (λ (g : Header). timeValid (g .time) clock) (sym (v .says)) ∙ timely;
+        ours = ours;
+        address = ap (headerWith id packet (timeOf plain) (paddingOf side plain)) (v .address-found) ∙ ap Datagram (sym (v .says));
+      }
+
+module _ (method : ℕ) (key : List ℕ) (client : Option ℕ) (clock : ℕ) (peer : Peer) (s t out : List ℕ) where
+  -- a header that was read is accepted where its packet ID enters
+  pub enters-accepted : lawful t ≡ true → (h : Header) → readAnswer method key (expected client) clock s out ≡ Datagram h
+      → Enters t clock (h .session) (h .packet)
+      → (openAnswer method key client clock peer s t out ≡ opened h)
+      × (openOut method key client clock peer s t out ≡ readOut method key (expected client) clock s out)
+  enters-accepted l h e n = go (way method key client clock peer s t out)
+    where
+      same : (g : Header) → Opens method key (expected client) clock s out g → g ≡ h
+      same g d = read-same g h (sym (answer-given method key (expected client) clock s out g d) ∙ e)
+
+      go : Way method key client clock peer s t out
+          → (openAnswer method key client clock peer s t out ≡ opened h)
+          × (openOut method key client clock peer s t out ≡ readOut method key (expected client) clock s out)
+      go (unlawful f ea eb et) = absurd (contrary (lawful t) l f)
+      go (early l r er ea eb et) = absurd (not-read r h (readAnswer method key (expected client) clock s out) er e)
+      go (late l g d x r o ea eb et) =
+          absurd (x (subst (λ (y : Header). Enters t clock (y .session) (y .packet)) (sym (same g d)) n))
+      go (taken l g d x ea eb) = (ea ∙ ap opened (same g d), eb ∙ sym (opened-out method key (expected client) clock s out g d))
+
+  module _ (w : Lawful method key s t out) (h : Header) where
+    only-when : openAnswer method key client clock peer s t out ≡ opened h → Acceptable key client clock s t h
+    only-when e = go (way method key client clock peer s t out)
+      where
+        given : (g : Header) → Opens method key (expected client) clock s out g → Enters t clock (g .session) (g .packet) → Acceptable key client clock s t g
+        given g d n =
+            let v = valid-header (expected client) clock (sessionOf key s) (packetOf key s) (plainOf key s) g (d .main) in
+            record {
+              authentic = d .authentic;
+              header-valid = v;
+              for-us = d .main .ours;
+              time-valid = ap (λ (y : Header). timeValid (y .time) clock) (v .says) ∙ d .main .timely;
+              enters = n;
+            }
+
+        go : Way method key client clock peer s t out → Acceptable key client clock s t h
+        go (unlawful f ea eb et) = absurd (not-both 1 h _ ea e)
+        go (early l r er ea eb et) = absurd (not-both (refusalNumber r) h _ ea e)
+        go (late l g d x r o ea eb et) = absurd (not-both (refusalNumber r) h _ ea e)
+        go (taken l g d x ea eb) = subst (Acceptable key client clock s t) (opened-same g h (sym ea ∙ e)) (given g d x)
+
+    always-when : Acceptable key client clock s t h → openAnswer method key client clock peer s t out ≡ opened h
+    always-when a =
+        enters-accepted (w .table) h
+        (answer-given method key (expected client) clock s out h
+        (record {
+          fits = w .key-fits;
+          size = lawful-size method key s t out w;
+          room = le-leb (length s - 32) (length out) (w .room);
+          authentic = a .authentic;
+          main =
+              header-reads (expected client) clock (sessionOf key s) (packetOf key s) (plainOf key s) h (a .header-valid) (a .for-us) (a .time-valid);
+        })) (a .enters)
+        .0
+
+    opened-text : openAnswer method key client clock peer s t out ≡ opened h → openOut method key client clock peer s t out ≡ put out 0 (plainOf key s)
+    opened-text e = go (way method key client clock peer s t out)
+      where
+        go : Way method key client clock peer s t out → openOut method key client clock peer s t out ≡ put out 0 (plainOf key s)
+        go (unlawful f ea eb et) = absurd (not-both 1 h _ ea e)
+        go (early l r er ea eb et) = absurd (not-both (refusalNumber r) h _ ea e)
+        go (late l g d x r o ea eb et) = absurd (not-both (refusalNumber r) h _ ea e)
+        go (taken l g d x ea eb) = eb
+
+pub accepted-exactly-when : AcceptedExactlyWhen
+accepted-exactly-when method key client clock peer s t out w h =
+    record {
+      only-when = only-when method key client clock peer s t out w h;
+      always-when = always-when method key client clock peer s t out w h;
+      opened-text = opened-text method key client clock peer s t out w h;
+    }
+
+pub sealed-accepted : SealedAccepted
+sealed-accepted method key sender time address padding payload space n sealed fit later valid peer t out l enters room =
+    let buffer = replicate {A = ℕ} space 0 in
+    let sent = datagram key sender time address padding payload in
+    let side = sender .side in
+    let answered-there =
+    ap (λ (k : ℕ). sealAnswer method (length key) sender address padding (length payload) k) (length-replicate {A = ℕ} space 0) ∙ sealed in
+    let one = one-target method key sender time address padding payload buffer n answered-there in
+    let read =
+    sealed-opens method key sender time address padding payload buffer n answered-there (fit .key-bytes) (fit .id-fits) (fit .packet-fits)
+    (fit .client-fits) (fit .time-fits) (one .address) (one .found) later valid out room in
+    let here =
+    enters-accepted method key (openerOf side) later peer sent t out l _
+    (ap (λ (x : Side). readAnswer method key x later sent out) (expected-opener side) ∙ read .0) enters in
+    record {
+      target = one .address;
+      target-sealed = one .found;
+      fields = here .0;
+      text = here .1 ∙ ap (λ (x : Side). readOut method key x later sent out) (expected-opener side) ∙ read .1;
+      payload-there = payload-back side time padding address payload;
+    }
+
+pub demand2 : Demand2
+demand2 = record { exactly = accepted-exactly-when; given-back = sealed-accepted }

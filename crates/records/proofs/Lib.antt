@@ -1,0 +1,4 @@
+-- Laws of the records' definitions.
+pub mod CurrentLaws
+pub mod SearchLaws
+pub mod WordLaws

@@ -1,0 +1,9 @@
+-- Laws of the definitions of streams.
+pub mod LengthLaws
+pub mod KeyLaws
+pub mod PieceLaws
+pub mod SealAnswerLaws
+pub mod SealWriteLaws
+pub mod HeadLaws
+pub mod RequestLaws
+pub mod ChunkLaws
