@@ -15,6 +15,7 @@ vectors:
 	python3 tools/blake3-vectors.py
 	python3 tools/datagram-vectors.py
 	python3 tools/session-vectors.py
+	python3 tools/stream-vectors.py
 
 # The table of speeds. libssl-dev has the libcrypto.so that the linker asks for.
 bench:

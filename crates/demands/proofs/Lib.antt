@@ -4,3 +4,11 @@ pub mod DatagramWays
 pub mod DatagramDemands
 pub mod Demand3
 pub mod Edges
+pub mod StreamReadBack
+pub mod RequestReadBack
+pub mod ResponseReadBack
+pub mod StreamTells
+pub mod HeadTells
+pub mod WholeStreams
+pub mod SaltsOnce
+pub mod StreamDemands

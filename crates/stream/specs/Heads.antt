@@ -76,9 +76,7 @@ boundOf method w key clock n requestSalt s =
     boundAs method w (frontLength n n) (same (bindingOf n (openAt key 0 s)) requestSalt) (openFixed key 1 clock s)
 
 unfoldable pub responseAt : ℕ → Subkey → List ℕ → (clock n : ℕ) → List ℕ → List ℕ → ResponseOpened
-responseAt method w key clock n requestSalt s =
-    boundAs method w (frontLength n n) (same (bindingOf n (openAt key 0 (fixedOf n n s))) requestSalt)
-    (openFixed key 1 clock (fixedOf n n s))
+responseAt method w key clock n requestSalt s = boundOf method w key clock n requestSalt (fixedOf n n s)
 
 module _ (method : ℕ) (key : List ℕ) (clock : ℕ) (requestSalt s : List ℕ) where
   abbrev n : ℕ

@@ -108,19 +108,22 @@ pub struct Step {
     pub stream: Receiver,
 }
 
+// What the parts of a head's opening hand on to each other. They are public for the theorems about heads, which stand in
+// another crate; no function that is public takes or gives one.
+
 // The fixed header of a head: its time, and the length of the piece behind it.
-struct Fixed {
-    time: u64,
-    length: u16,
+pub struct Fixed {
+    pub time: u64,
+    pub length: u16,
 }
 
-enum FixedRead {
+pub enum FixedRead {
     Read(Fixed),
     Refused(Refusal),
 }
 
 // A request's header before its stream.
-enum RequestRead {
+pub enum RequestRead {
     Header(Request),
     Refused(Refusal),
 }
