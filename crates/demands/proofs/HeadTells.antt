@@ -44,7 +44,8 @@ use Rattle.stream.specs.Pieces.{authenticAt, openAt, subkeyWords}
 use Rattle.stream.specs.Sealing.{maxPadding}
 use Rattle.stream.specs.Heads.{frontLength, fixedOf, receiver, pickFixed, fieldsOf, readFixed, openFixed, pickResponse, bindingOf, boundAs, boundOf, responseAt, openedResponse}
 use Rattle.stream.specs.Requests.{pickRead, paddingAt, paddingFits, headerWith, readVariable, headLength, variableOf, openVariable, settled, variableOut, openedAs, fixedAs, readHead, fixedOut, headOut, storedIn, headPool, pickRequest, settings, openedRequest, requestOut, requestPool}
-use Rattle.demands.specs.Streams.{FixedOpens, ValidVariable, variableAt, HeadOpens, saltOf, RequestOpens, RequestExactlyWhen, ResponseOpens, ResponseExactlyWhen, ofRequest, ofFront, ofResponse, dueOf, ResponseAnswered, accepted-response, refused-response}
+use Rattle.demands.specs.StreamsKeep.{saltOf, ofRequest, ofFront, ofResponse, dueOf, ResponseAnswered, accepted-response, refused-response}
+use Rattle.demands.specs.StreamsOpen.{FixedOpens, ValidVariable, variableAt, HeadOpens, RequestOpens, RequestExactlyWhen, ResponseOpens, ResponseExactlyWhen}
 use Rattle.stream.proofs.LengthLaws.{length-openAt}
 use Rattle.demands.proofs.StreamReadBack.{test-true, both-left, both-right}
 

@@ -39,7 +39,7 @@ use Rattle.stream.specs.Pieces.{sealAt, authenticAt, openAt, subkeyWords}
 use Rattle.stream.specs.Sealing.{maxChunk, maxPadding, front, variablePart, variableLength, requestAt, request, begun, sizesFit, paddingLawful, requestAnswer}
 use Rattle.stream.specs.Heads.{frontLength, fixedOf, receiver, openFixed}
 use Rattle.stream.specs.Requests.{pickRead, paddingAt, paddingFits, headerWith, readVariable, headLength, variableOf, openVariable, settled, variableOut, openedAs, fixedAs, readHead, fixedOut, headOut, storedIn, headPool, pickRequest, settings, openedRequest, requestOut, requestPool}
-use Rattle.demands.specs.Streams.{partner, requestHeader, RequestBack, RequestsGivenBack}
+use Rattle.demands.specs.StreamsBack.{partner, requestHeader, RequestBack, RequestsGivenBack}
 use Rattle.stream.proofs.LengthLaws.{length-sealAt, length-front, length-variablePart, length-requestAt}
 use Rattle.demands.proofs.StreamReadBack.{piece-back, both-left, both-right, answers, Sized, sized, salt-back, front-whole, behind-front, fixed-back}
 

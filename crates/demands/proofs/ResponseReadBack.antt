@@ -26,7 +26,7 @@ use Rattle.stream.specs.Pieces.{sealAt, openAt, subkeyWords, keyOf}
 use Rattle.stream.specs.Sealing.{lastCounter, front, responseOf, response, begun, sizesFit, responseAnswer}
 use Rattle.stream.specs.Heads.{frontLength, fixedOf, receiver, openFixed, pickResponse, bindingOf, boundAs, boundOf, responseAt, openedResponse}
 use Rattle.stream.specs.Chunks.{stepAnswer, stepOut}
-use Rattle.demands.specs.Streams.{ResponseBack, ResponsesGivenBack}
+use Rattle.demands.specs.StreamsBack.{ResponseBack, ResponsesGivenBack}
 use Rattle.stream.proofs.LengthLaws.{length-responseOf}
 use Rattle.demands.proofs.StreamReadBack.{test-true, both-left, both-right, answers, Sized, sized, sent-behind, payload-step, payload-out, salt-back, front-whole, behind-front, binding-back, fixed-back, stream-key}
 

@@ -27,7 +27,8 @@ use Rattle.stream.specs.declared.RequestOpened.the-variants.{Accepted, Refused}
 use Rattle.stream.specs.Pieces.{subkeyWords}
 use Rattle.stream.specs.Heads.{frontLength, fixedOf, openFixed}
 use Rattle.stream.specs.Requests.{openedAs, settings, requestPool}
-use Rattle.demands.specs.Streams.{ofFront, saltOf, HeadCall, headAnswer, poolAfter, ForwardCalls, ReplayOrEarlier, replayed, front-missing, front-refused, NoSaltTwice}
+use Rattle.demands.specs.StreamsKeep.{ofFront, saltOf}
+use Rattle.demands.specs.SaltsOnce.{HeadCall, headAnswer, poolAfter, ForwardCalls, ReplayOrEarlier, replayed, front-missing, front-refused, NoSaltTwice}
 use Rattle.demands.proofs.StreamReadBack.{both-left, both-right}
 use Rattle.demands.proofs.HeadTells.{ofFixed, not-read, fixed-given, fixed-refusals, read-by, not-accepted, answer-by, Way, refused, zeroed, accepted, way, request-tells}
 

@@ -34,7 +34,9 @@ use Rattle.stream.specs.Pieces.{authenticAt, openAt}
 use Rattle.stream.specs.Sealing.{maxChunk, lastCounter, variableLength, request, response, chunk, begun, moved, senderKey, pickSealed, sizeAnswer, sizesFit, paddingLawful, requestAnswer, responseAnswer, chunkAnswer, sealOut}
 use Rattle.stream.specs.Requests.{variableOf, openedRequest, requestOut, requestPool}
 use Rattle.stream.specs.Chunks.{pickStepped, streamKey, pieceAnswer, lengthRead, turnAnswer, writtenBy, payloadPiece, stepAnswer, stepOut, ended, pickReceiver, stepNext}
-use Rattle.demands.specs.Streams.{TurnOpens, turnText, saltOf, ofStep, ofSealer, dueOf, RequestAnswered, accepted-request, refused-request, RequestKeeps, StepAnswered, opened-step, refused-step, dueAt, StepKeeps, SealAnswered, sealed-text, refused-text, SealKeeps, SealersKeep, StreamsDemand1, StreamsDemand2}
+use Rattle.demands.specs.StreamsKeep.{saltOf, ofStep, ofSealer, dueOf, RequestAnswered, accepted-request, refused-request, RequestKeeps, StepAnswered, opened-step, refused-step, dueAt, StepKeeps, SealAnswered, sealed-text, refused-text, SealKeeps, SealersKeep, StreamsDemand1}
+use Rattle.demands.specs.StreamsOpen.{TurnOpens, turnText}
+use Rattle.demands.specs.StreamsBack.{StreamsDemand2}
 use Rattle.stream.proofs.LengthLaws.{length-openAt, length-requestAt, length-responseOf, length-chunk}
 use Rattle.demands.proofs.StreamReadBack.{Sized, chunkable, chunk-back}
 use Rattle.demands.proofs.ResponseReadBack.{responds, response-back}

@@ -38,7 +38,7 @@ use Rattle.stream.specs.Pieces.{nonce, sealAt, authenticAt, openAt, subkeyWords
 use Rattle.stream.specs.Sealing.{maxChunk, lastCounter, fixedPart, front, chunk, senderKey, moved, pickSealed, sizeAnswer, chunkAnswer}
 use Rattle.stream.specs.Heads.{frontLength, fixedOf, receiver, pickFixed, fieldsOf, readFixed, openFixed, bindingOf}
 use Rattle.stream.specs.Chunks.{pickStepped, pieceAnswer, lengthRead, turnAnswer, writtenBy, stepAnswer, stepOut}
-use Rattle.demands.specs.Streams.{partner, midway, ChunkBack, ChunksGivenBack}
+use Rattle.demands.specs.StreamsBack.{partner, midway, ChunkBack, ChunksGivenBack}
 use Rattle.stream.proofs.LengthLaws.{length-sealAt, length-fixedPart, length-front, length-chunk}
 use Rattle.stream.proofs.KeyLaws.{length-subkey, octets-subkey, subkey-back}
 

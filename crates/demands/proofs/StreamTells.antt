@@ -23,7 +23,8 @@ use Rattle.stream.specs.declared.Stepped.the-variants.{Opened, Refused}
 use Rattle.stream.specs.Pieces.{nonce, authenticAt, openAt}
 use Rattle.stream.specs.Sealing.{lastCounter}
 use Rattle.stream.specs.Chunks.{pickStepped, streamKey, pieceAnswer, lengthRead, turnAnswer, writtenBy, payloadPiece, stepAnswer, stepOut, stepNext}
-use Rattle.demands.specs.Streams.{PieceOpens, TurnOpens, turnText, StepOpens, StepExactlyWhen, Flow, answerTo, writtenIn, stepped, after, AllOpened, OwnNonces, NoncesDiffer}
+use Rattle.demands.specs.StreamsOpen.{PieceOpens, TurnOpens, turnText, StepOpens, StepExactlyWhen}
+use Rattle.demands.specs.StreamsBack.{Flow, answerTo, writtenIn, stepped, after, AllOpened, OwnNonces, NoncesDiffer}
 
 -- ---- answers
 

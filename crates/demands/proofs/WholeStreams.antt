@@ -17,7 +17,7 @@ use Rattle.stream.specs.declared.Stepped.the-variants.{Opened}
 use Rattle.stream.specs.Sealing.{response, chunk, senderKey, chunkAnswer}
 use Rattle.stream.specs.Heads.{receiver}
 use Rattle.stream.specs.Chunks.{stepNext}
-use Rattle.demands.specs.Streams.{partner, midway, ChunkBack, Flow, answerTo, writtenIn, usedBy, stepped, after, gives, received, AllOpened, sentBy, leaves, sentAll, senderAfter, AllSealed, Fit, StreamBack, StreamsGivenBack, SendersCount, RequestStreamsGivenBack, ResponseStreamsGivenBack}
+use Rattle.demands.specs.StreamsBack.{partner, midway, ChunkBack, Flow, answerTo, writtenIn, usedBy, stepped, after, gives, received, AllOpened, sentBy, leaves, sentAll, senderAfter, AllSealed, Fit, StreamBack, StreamsGivenBack, SendersCount, RequestStreamsGivenBack, ResponseStreamsGivenBack}
 use Rattle.demands.proofs.StreamReadBack.{chunkable, chunk-back}
 use Rattle.demands.proofs.RequestReadBack.{request-back}
 use Rattle.demands.proofs.ResponseReadBack.{response-back}

@@ -1,2 +1,5 @@
 pub mod Datagrams
-pub mod Streams
+pub mod StreamsKeep
+pub mod StreamsOpen
+pub mod StreamsBack
+pub mod SaltsOnce

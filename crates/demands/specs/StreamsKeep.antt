@@ -1,0 +1,156 @@
+-- Demand 1 for streams: every call ends with an answer or a refusal, and what a refusal leaves.
+-- Assumes nothing.
+use mathlib.Core.Path.{_≡_}
+use mathlib.Core.Bool.{Bool, true, false, _||_}
+use mathlib.Core.List.{List, [], _∷_}
+use Prim.Native.Nat.{ℕ, _-_, _≤_}
+use lib.ListN.{length, take, drop, replicate}
+use Rattle.octets.specs.Buffers.{put}
+use Rattle.octets.specs.Numbers.{be}
+use Rattle.protocol.specs.declared.Refusal.{Refusal}
+use Rattle.protocol.specs.declared.Refusal.the-variants.{NotAuthentic, Malformed}
+use Rattle.protocol.specs.Refusal.{refusalNumber}
+use Rattle.protocol.specs.Subkey.{subkey}
+use Rattle.protocol.specs.Method.{keyLength, saltLength}
+use Rattle.stream.specs.declared.Turn.{Turn}
+use Rattle.stream.specs.declared.Turn.the-variants.{Length, Payload, Ended}
+use Rattle.stream.specs.declared.Sender.{Sender}
+use Rattle.stream.specs.declared.Receiver.{Receiver}
+use Rattle.stream.specs.declared.Sealed.{Sealed}
+use Rattle.stream.specs.declared.Sealed.the-variants.{Bytes, Refused as Unsealed}
+use Rattle.stream.specs.declared.Chunk.{Chunk}
+use Rattle.stream.specs.declared.Stepped.{Stepped}
+use Rattle.stream.specs.declared.Stepped.the-variants.{Opened, Refused as Unopened}
+use Rattle.stream.specs.declared.Response.{Response}
+use Rattle.stream.specs.declared.ResponseOpened.{ResponseOpened}
+use Rattle.stream.specs.declared.ResponseOpened.the-variants.{Accepted as Answered, Refused as Unanswered}
+use Rattle.stream.specs.declared.Request.{Request}
+use Rattle.stream.specs.declared.RequestOpened.{RequestOpened}
+use Rattle.stream.specs.declared.RequestOpened.the-variants.{Accepted, Refused as Unaccepted}
+use Rattle.stream.specs.Pieces.{openAt}
+use Rattle.stream.specs.Sealing.{request, response, chunk, senderKey, requestAnswer, responseAnswer, chunkAnswer, sealOut}
+use Rattle.stream.specs.Heads.{fixedOf, openedResponse}
+use Rattle.stream.specs.Requests.{openedRequest, requestOut, requestPool}
+use Rattle.stream.specs.Chunks.{stepAnswer, stepOut, ended, stepNext}
+use lib.Dec.{eqb}
+
+-- ---- which refusals are given, by their numbers
+
+abbrev pub among : List ℕ → ℕ → Bool
+among [] n = false
+among (k ∷ ks) n = eqb n k || among ks n
+
+-- by a request's head
+abbrev pub ofRequest : Refusal → Bool
+ofRequest r = among (1 ∷ 3 ∷ 4 ∷ 5 ∷ 6 ∷ 7 ∷ 8 ∷ 9 ∷ 10 ∷ []) (refusalNumber r)
+
+-- by the fixed header of a head
+abbrev pub ofFront : Refusal → Bool
+ofFront r = among (4 ∷ 6 ∷ 7 ∷ []) (refusalNumber r)
+
+-- by a response's head
+abbrev pub ofResponse : Refusal → Bool
+ofResponse r = among (1 ∷ 4 ∷ 6 ∷ 7 ∷ 10 ∷ 13 ∷ []) (refusalNumber r)
+
+-- by a step
+abbrev pub ofStep : Refusal → Bool
+ofStep r = among (1 ∷ 3 ∷ 4 ∷ 10 ∷ 11 ∷ []) (refusalNumber r)
+
+-- by a sealer
+abbrev pub ofSealer : Refusal → Bool
+ofSealer r = among (1 ∷ 2 ∷ 3 ∷ 11 ∷ 12 ∷ []) (refusalNumber r)
+
+-- ---- a request's head
+
+-- the salt that a head begins with
+abbrev pub saltOf : ℕ → List ℕ → List ℕ
+saltOf method s = take (saltLength method) s
+
+-- the time of a fixed header, and the length of the piece behind it, which is its last two bytes
+abbrev pub timeIn : List ℕ → ℕ
+timeIn plain = be 8 (drop 1 plain)
+
+abbrev pub lengthIn : List ℕ → ℕ
+lengthIn plain = be 2 (drop (length plain - 2) plain)
+
+-- the bytes due: the length that the fixed header gives
+abbrev pub dueOf : ℕ → List ℕ → List ℕ → ℕ
+dueOf method key s = lengthIn (openAt (subkey key (saltOf method s)) 0 (fixedOf (saltLength method) 0 s))
+
+pub data RequestAnswered (a : RequestOpened) : Type 0 where
+  accepted-request : (h : Request) (st : Receiver) → a ≡ Accepted h st → RequestAnswered a
+  refused-request : (r : Refusal) → ofRequest r ≡ true → a ≡ Unaccepted r → RequestAnswered a
+
+pub record RequestKeeps (method : ℕ) (key : List ℕ) (clock : ℕ) (s pool out : List ℕ) : Type 0 where
+  pub answered : RequestAnswered (openedRequest method key clock s pool out)
+  -- no refusal changes the pool
+  pub refused-keeps-pool : (r : Refusal) → openedRequest method key clock s pool out ≡ Unaccepted r → requestPool method key clock s pool out ≡ pool
+  -- none but 5 touches the buffer
+  pub untouched : (r : Refusal) → openedRequest method key clock s pool out ≡ Unaccepted r → (refusalNumber r ≡ 5 → ⊥)
+      → requestOut method key clock s pool out ≡ out
+  -- and 5 sets the bytes due to zero
+  pub cleared : openedRequest method key clock s pool out ≡ Unaccepted Malformed
+      → (dueOf method key s ≤ length out) × (requestOut method key clock s pool out ≡ put out 0 (replicate (dueOf method key s) 0))
+  -- the bytes past them never change, whatever is answered
+  pub past-due-kept : drop (dueOf method key s) (requestOut method key clock s pool out) ≡ drop (dueOf method key s) out
+  pub length-kept : length (requestOut method key clock s pool out) ≡ length out
+
+-- ---- a response's head, which writes nothing
+
+pub data ResponseAnswered (a : ResponseOpened) : Type 0 where
+  accepted-response : (h : Response) (st : Receiver) → a ≡ Answered h st → ResponseAnswered a
+  refused-response : (r : Refusal) → ofResponse r ≡ true → a ≡ Unanswered r → ResponseAnswered a
+
+-- ---- a step
+
+pub data StepAnswered (a : Stepped) : Type 0 where
+  opened-step : (c : Chunk) → a ≡ Opened c → StepAnswered a
+  refused-step : (r : Refusal) → ofStep r ≡ true → a ≡ Unopened r → StepAnswered a
+
+-- the bytes due: a payload's
+abbrev pub dueAt : Turn → ℕ
+dueAt Length = 0
+dueAt (Payload n) = n
+dueAt Ended = 0
+
+pub record StepKeeps (st : Receiver) (s out : List ℕ) : Type 0 where
+  pub answered : StepAnswered (stepAnswer st s (length out))
+  pub refused-keeps-out : (r : Refusal) → stepAnswer st s (length out) ≡ Unopened r → stepOut st s out ≡ out
+  -- 4 ends the stream, and no other refusal moves it
+  pub refused-keeps-state : (r : Refusal) → stepAnswer st s (length out) ≡ Unopened r → (refusalNumber r ≡ 4 → ⊥)
+      → stepNext st (stepAnswer st s (length out)) ≡ st
+  pub forged-ends : stepAnswer st s (length out) ≡ Unopened NotAuthentic → stepNext st (stepAnswer st s (length out)) ≡ ended st
+  -- a stream that has ended opens nothing any more
+  pub ended-refuses : (keyLength (st .method) ≡ 0 → ⊥) → (bytes : List ℕ) (room : ℕ) → stepAnswer (ended st) bytes room ≡ Unopened NotAuthentic
+  pub past-due-kept : drop (dueAt (st .turn)) (stepOut st s out) ≡ drop (dueAt (st .turn)) out
+  pub length-kept : length (stepOut st s out) ≡ length out
+
+-- ---- sealing
+
+pub data SealAnswered (a : Sealed) : Type 0 where
+  sealed-text : (n : ℕ) (next : Sender) → a ≡ Bytes n next → SealAnswered a
+  refused-text : (r : Refusal) → ofSealer r ≡ true → a ≡ Unsealed r → SealAnswered a
+
+-- the text that is written, where the sealer answers `a`
+pub record SealKeeps (a : Sealed) (text out : List ℕ) : Type 0 where
+  pub answered : SealAnswered a
+  pub refused-writes-nothing : (r : Refusal) → a ≡ Unsealed r → sealOut a text out ≡ out
+  pub sealed-length : (n : ℕ) (next : Sender) → a ≡ Bytes n next → (length text ≡ n) × (n ≤ length out)
+  pub past-length-kept : (n : ℕ) (next : Sender) → a ≡ Bytes n next → drop n (sealOut a text out) ≡ drop n out
+  pub length-kept : length (sealOut a text out) ≡ length out
+
+pub record SealersKeep : Type 0 where
+  pub requests : (method : ℕ) (key salt : List ℕ) (time : ℕ) (address : List ℕ) (padding : ℕ) (payload out : List ℕ)
+      → SealKeeps (requestAnswer method key salt address padding (length payload) (length out)) (request key salt time address padding payload) out
+  pub responses : (method : ℕ) (key salt binding : List ℕ) (time : ℕ) (payload out : List ℕ)
+      → SealKeeps (responseAnswer method key salt binding (length payload) (length out)) (response key salt binding time payload) out
+  pub chunks : (s : Sender) (payload out : List ℕ)
+      → SealKeeps (chunkAnswer s (length payload) (length out)) (chunk (senderKey s) (s .counter) payload) out
+
+-- ---- demand 1
+
+pub record StreamsDemand1 : Type 0 where
+  pub requests : (method : ℕ) (key : List ℕ) (clock : ℕ) (s pool out : List ℕ) → RequestKeeps method key clock s pool out
+  pub responses : (method : ℕ) (key : List ℕ) (clock : ℕ) (requestSalt s : List ℕ) → ResponseAnswered (openedResponse method key clock requestSalt s)
+  pub steps : (st : Receiver) (s out : List ℕ) → StepKeeps st s out
+  pub sealing : SealersKeep

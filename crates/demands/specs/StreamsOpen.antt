@@ -1,0 +1,156 @@
+-- Demand 2 for streams: when exactly a head is accepted, and a piece opened.
+-- Assumes nothing.
+use mathlib.Core.Path.{_≡_}
+use mathlib.Core.Bool.{true}
+use mathlib.Core.List.{List}
+use Prim.Native.Nat.{ℕ, _+_, _≤_, _<_}
+use lib.ListN.{length, getD, take, drop}
+use Rattle.octets.specs.Buffers.{put}
+use Rattle.octets.specs.Numbers.{be}
+use Rattle.protocol.specs.Subkey.{subkey}
+use Rattle.protocol.specs.Method.{keyFits, keyLength, saltLength}
+use Rattle.protocol.specs.Time.{timeValid}
+use Rattle.socks5.specs.declared.Address.{Address}
+use Rattle.socks5.specs.declared.Parsed.the-variants.{Found}
+use Rattle.socks5.specs.Address.{parseAt}
+use Rattle.pool.specs.declared.Met.the-variants.{Room as Free}
+use Rattle.pool.specs.Pool.{meet, store}
+use Rattle.stream.specs.declared.Turn.{Turn}
+use Rattle.stream.specs.declared.Turn.the-variants.{Length, Payload, Ended}
+use Rattle.stream.specs.declared.Receiver.{Receiver}
+use Rattle.stream.specs.declared.Chunk.{Chunk}
+use Rattle.stream.specs.declared.Stepped.the-variants.{Opened}
+use Rattle.stream.specs.declared.Response.{Response}
+use Rattle.stream.specs.declared.ResponseOpened.the-variants.{Accepted as Answered}
+use Rattle.stream.specs.declared.Request.{Request}
+use Rattle.stream.specs.declared.RequestOpened.the-variants.{Accepted}
+use Rattle.stream.specs.Pieces.{authenticAt, openAt, subkeyWords}
+use Rattle.stream.specs.Sealing.{maxPadding, lastCounter}
+use Rattle.stream.specs.Heads.{frontLength, fixedOf, receiver, bindingOf, openedResponse}
+use Rattle.stream.specs.Requests.{paddingAt, settings, openedRequest, requestOut, requestPool}
+use Rattle.stream.specs.Chunks.{streamKey, stepAnswer, stepOut}
+use Rattle.demands.specs.StreamsKeep.{saltOf, timeIn, lengthIn}
+
+-- ---- a head is accepted exactly when
+
+-- a sealed fixed header: its tag is good, it is of its type and of a valid time; and what it says
+pub record FixedOpens (key : List ℕ) (kind clock : ℕ) (s : List ℕ) (time size : ℕ) : Type 0 where
+  pub authentic : authenticAt key 0 s ≡ true
+  pub right-type : getD (openAt key 0 s) 0 0 ≡ kind
+  pub time-valid : timeValid time clock ≡ true
+  pub says-time : time ≡ timeIn (openAt key 0 s)
+  pub says-length : size ≡ lengthIn (openAt key 0 s)
+
+-- a variable header: an address at its start, and behind it a padding of at most 900 bytes, or a payload, or both; h is what it
+-- says
+pub record ValidVariable (time size used : ℕ) (plain : List ℕ) (h : Request) : Type 0 where
+  pub address : Address
+  pub address-found : parseAt plain 0 ≡ Found address
+  pub length-there : address .end + 2 ≤ length plain
+  pub padding-short : paddingAt (address .end) plain ≤ maxPadding
+  pub padding-there : address .end + 2 + paddingAt (address .end) plain ≤ length plain
+  pub not-bare : address .end + 2 < length plain
+  pub says : h
+      ≡ record {
+        target = address .target;
+        port = address .port;
+        time = time;
+        padding = paddingAt (address .end) plain;
+        payload = address .end + 2 + paddingAt (address .end) plain;
+        length = size;
+        used = used;
+      }
+
+-- a head with a variable header of so many bytes: how long it is, and its last piece
+abbrev pub headSize : (n size : ℕ) → ℕ
+headSize n size = frontLength n 0 + size + 16
+
+abbrev pub variableAt : (n size : ℕ) → List ℕ → List ℕ
+variableAt n size s = take (size + 16) (drop (frontLength n 0) s)
+
+-- a request's head behind its front of n + 27 bytes, under the stream's key k
+pub record HeadOpens (k : List ℕ) (clock n : ℕ) (s pool : List ℕ) (room : ℕ) (h : Request) : Type 0 where
+  pub time : ℕ
+  pub size : ℕ
+  pub fixed-opens : FixedOpens k 0 clock (fixedOf n 0 s) time size
+  pub place : ℕ
+  pub new-salt : meet pool clock (take n s) ≡ Free place
+  pub whole : headSize n size ≤ length s
+  pub has-room : size ≤ room
+  pub authentic : authenticAt k 1 (variableAt n size s) ≡ true
+  pub variable-valid : ValidVariable time size (headSize n size) (openAt k 1 (variableAt n size s)) h
+
+pub record RequestOpens (method : ℕ) (key : List ℕ) (clock : ℕ) (s pool : List ℕ) (room : ℕ) (h : Request) (st : Receiver) : Type 0 where
+  pub front-whole : frontLength (saltLength method) 0 ≤ length s
+  pub head : HeadOpens (subkey key (saltOf method s)) clock (saltLength method) s pool room h
+  -- the stream goes on with a length, with counter 2
+  pub stream : st ≡ receiver method Length 2 (subkeyWords (subkey key (saltOf method s)))
+
+pub record RequestExactly (method : ℕ) (key : List ℕ) (clock : ℕ) (s pool out : List ℕ) (h : Request) (st : Receiver) : Type 0 where
+  pub only-when : openedRequest method key clock s pool out ≡ Accepted h st → RequestOpens method key clock s pool (length out) h st
+  pub always-when : RequestOpens method key clock s pool (length out) h st → openedRequest method key clock s pool out ≡ Accepted h st
+  -- the variable header's plaintext is in the buffer, and the salt in the pool
+  pub opened-text : (d : RequestOpens method key clock s pool (length out) h st) → requestOut method key clock s pool out
+      ≡ put out 0 (openAt (subkey key (saltOf method s)) 1 (variableAt (saltLength method) (d .head .size) s))
+  pub salt-stored : (d : RequestOpens method key clock s pool (length out) h st)
+      → requestPool method key clock s pool out ≡ store pool (d .head .place) clock (saltOf method s)
+
+abbrev pub RequestExactlyWhen : Type 0
+RequestExactlyWhen =
+    (method : ℕ) (key : List ℕ) (clock : ℕ) (s pool out : List ℕ) → settings method (length key) pool ≡ true
+    → (h : Request) (st : Receiver) → RequestExactly method key clock s pool out h st
+
+pub record ResponseOpens (method : ℕ) (key : List ℕ) (clock : ℕ) (requestSalt s : List ℕ) (h : Response) (st : Receiver) : Type 0 where
+  pub front-whole : frontLength (saltLength method) (saltLength method) ≤ length s
+  pub time : ℕ
+  pub size : ℕ
+  pub fixed-opens : FixedOpens (subkey key (saltOf method s)) 1 clock (fixedOf (saltLength method) (saltLength method) s) time size
+  pub for-us : bindingOf (saltLength method)
+      (openAt (subkey key (saltOf method s)) 0 (fixedOf (saltLength method) (saltLength method) s))
+      ≡ requestSalt
+  pub says : h ≡ record { time = time; length = size; used = frontLength (saltLength method) (saltLength method) }
+  -- the stream goes on with the payload, with counter 1
+  pub stream : st ≡ receiver method (Payload size) 1 (subkeyWords (subkey key (saltOf method s)))
+
+pub record ResponseExactly (method : ℕ) (key : List ℕ) (clock : ℕ) (requestSalt s : List ℕ) (h : Response) (st : Receiver) : Type 0 where
+  pub only-when : openedResponse method key clock requestSalt s ≡ Answered h st → ResponseOpens method key clock requestSalt s h st
+  pub always-when : ResponseOpens method key clock requestSalt s h st → openedResponse method key clock requestSalt s ≡ Answered h st
+
+abbrev pub ResponseExactlyWhen : Type 0
+ResponseExactlyWhen =
+    (method : ℕ) (key : List ℕ) (clock : ℕ) (requestSalt s : List ℕ) → keyFits method (length key) ≡ true
+    → length requestSalt ≡ saltLength method → (h : Response) (st : Receiver) → ResponseExactly method key clock requestSalt s h st
+
+-- ---- a step is accepted exactly when
+
+-- a piece of n bytes of plaintext can be opened under a key and a counter, into room for as many bytes as are asked
+pub record PieceOpens (key : List ℕ) (counter n : ℕ) (s : List ℕ) (asked room : ℕ) : Type 0 where
+  pub usable : counter ≡ lastCounter → ⊥
+  pub whole : n + 16 ≤ length s
+  pub has-room : asked ≤ room
+  pub authentic : authenticAt key counter (take (n + 16) s) ≡ true
+
+-- by turns: a length is what the piece says; a payload is as long as the length before it said
+abbrev pub TurnOpens : (key : List ℕ) (counter : ℕ) → Turn → List ℕ → (room : ℕ) → Chunk → Type 0
+TurnOpens key counter Length s room c =
+    PieceOpens key counter 2 s 0 room × (c ≡ record { used = 18; length = be 2 (openAt key counter (take 18 s)) })
+TurnOpens key counter (Payload n) s room c = PieceOpens key counter n s n room × (c ≡ record { used = n + 16; length = n })
+TurnOpens key counter Ended s room c = ⊥
+
+-- what the buffer holds then
+abbrev pub turnText : (key : List ℕ) (counter : ℕ) → Turn → List ℕ → List ℕ → List ℕ
+turnText key counter Length s out = out
+turnText key counter (Payload n) s out = put out 0 (openAt key counter (take (n + 16) s))
+turnText key counter Ended s out = out
+
+pub record StepOpens (st : Receiver) (s : List ℕ) (room : ℕ) (c : Chunk) : Type 0 where
+  pub known : keyLength (st .method) ≡ 0 → ⊥
+  pub opens : TurnOpens (streamKey st) (st .counter) (st .turn) s room c
+
+pub record StepExactly (st : Receiver) (s out : List ℕ) (c : Chunk) : Type 0 where
+  pub only-when : stepAnswer st s (length out) ≡ Opened c → StepOpens st s (length out) c
+  pub always-when : StepOpens st s (length out) c → stepAnswer st s (length out) ≡ Opened c
+  pub opened-text : stepAnswer st s (length out) ≡ Opened c → stepOut st s out ≡ turnText (streamKey st) (st .counter) (st .turn) s out
+
+abbrev pub StepExactlyWhen : Type 0
+StepExactlyWhen = (st : Receiver) (s out : List ℕ) (c : Chunk) → StepExactly st s out c
