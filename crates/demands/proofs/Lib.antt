@@ -12,3 +12,4 @@ pub mod HeadTells
 pub mod WholeStreams
 pub mod SaltsOnce
 pub mod StreamDemands
+pub mod BeyondUnread

@@ -154,3 +154,22 @@ pub record StepExactly (st : Receiver) (s out : List ℕ) (c : Chunk) : Type 0 w
 
 abbrev pub StepExactlyWhen : Type 0
 StepExactlyWhen = (st : Receiver) (s out : List ℕ) (c : Chunk) → StepExactly st s out c
+
+-- ---- the bytes behind those used are not read
+
+-- t begins with the first n bytes of s
+abbrev pub Begins : (n : ℕ) → List ℕ → List ℕ → Type 0
+Begins n s t = take n t ≡ take n s
+
+-- what an accepted call answers and leaves, it answers and leaves for every string that begins with the bytes used
+pub record BeyondUnread : Type 0 where
+  pub requests : (method : ℕ) (key : List ℕ) (clock : ℕ) (s t pool out : List ℕ) (h : Request) (st : Receiver) → settings method (length key) pool ≡ true
+      → openedRequest method key clock s pool out ≡ Accepted h st → Begins (h .used) s t
+      → (openedRequest method key clock t pool out ≡ Accepted h st)
+      × ((requestOut method key clock t pool out ≡ requestOut method key clock s pool out)
+      × (requestPool method key clock t pool out ≡ requestPool method key clock s pool out))
+  pub responses : (method : ℕ) (key : List ℕ) (clock : ℕ) (requestSalt s t : List ℕ) (h : Response) (st : Receiver) → keyFits method (length key) ≡ true
+      → length requestSalt ≡ saltLength method → openedResponse method key clock requestSalt s ≡ Answered h st → Begins (h .used) s t
+      → openedResponse method key clock requestSalt t ≡ Answered h st
+  pub steps : (st : Receiver) (s t out : List ℕ) (c : Chunk) → stepAnswer st s (length out) ≡ Opened c → Begins (c .used) s t
+      → (stepAnswer st t (length out) ≡ Opened c) × (stepOut st t out ≡ stepOut st s out)

@@ -1,0 +1,182 @@
+-- An accepted call reads no byte behind those that it used: its conditions speak of these alone.
+-- Assumes nothing.
+use mathlib.Core.Path.{_≡_, refl, sym, ap, _∙_, subst}
+use mathlib.Core.Bool.{true}
+use mathlib.Core.List.{List, [], _∷_}
+use Prim.Native.Nat.{ℕ, zero, suc, _+_, _≤_, min}
+use native.Mathlib.Omega.{arith}
+use lib.ListN.{length, take, drop, length-take}
+use lib.Seq.{take-take, length-take-le}
+use Rattle.octets.specs.Buffers.{put}
+use Rattle.octets.specs.Numbers.{be}
+use Rattle.protocol.specs.Subkey.{subkey}
+use Rattle.protocol.specs.Method.{keyFits, saltLength}
+use Rattle.pool.specs.declared.Met.the-variants.{Room as Free}
+use Rattle.pool.specs.Pool.{meet, store}
+use Rattle.stream.specs.declared.Turn.{Turn}
+use Rattle.stream.specs.declared.Turn.the-variants.{Length, Payload, Ended}
+use Rattle.stream.specs.declared.Receiver.{Receiver}
+use Rattle.stream.specs.declared.Chunk.{Chunk}
+use Rattle.stream.specs.declared.Request.{Request}
+use Rattle.stream.specs.declared.Response.{Response}
+use Rattle.stream.specs.Pieces.{authenticAt, openAt, subkeyWords}
+use Rattle.stream.specs.Heads.{frontLength, fixedOf, bindingOf, receiver}
+use Rattle.stream.specs.Chunks.{streamKey}
+use Rattle.demands.specs.StreamsKeep.{saltOf}
+use Rattle.demands.specs.StreamsOpen.{FixedOpens, ValidVariable, variableAt, HeadOpens, RequestOpens, ResponseOpens, PieceOpens, TurnOpens, turnText, StepOpens, Begins, BeyondUnread}
+use Rattle.demands.proofs.HeadTells.{request-exactly-when, response-exactly-when}
+use Rattle.demands.proofs.StreamTells.{step-exactly-when}
+
+-- ---- a part within the first n bytes
+
+-- a part is the end of a beginning
+part-end : (m k j : ℕ) (l : List ℕ) → j ≡ m + k → take k (drop m l) ≡ drop m (take j l)
+part-end zero k j l e = let f : k ≡ j = omega arith in ap (λ (i : ℕ). take i l) f
+part-end (suc m) k zero l e = absurd (omega arith)
+part-end (suc m) zero (suc j) [] e = refl
+part-end (suc m) (suc k) (suc j) [] e = refl
+part-end (suc m) k (suc j) (x ∷ l) e = let f : j ≡ m + k = omega arith in part-end m k j l f
+
+module _ (n : ℕ) (s t : List ℕ) (e : Begins n s t) where
+  beginning : (m : ℕ) → m ≤ n → take m t ≡ take m s
+  beginning m h = sym (take-take m n t h) ∙ ap (take m) e ∙ take-take m n s h
+
+  part : (m k : ℕ) → m + k ≤ n → take k (drop m t) ≡ take k (drop m s)
+  part m k h = part-end m k (m + k) t refl ∙ ap (drop m) (beginning (m + k) h) ∙ sym (part-end m k (m + k) s refl)
+
+  -- and is as long
+  long : n ≤ length s → n ≤ length t
+  long h = let m : n ≡ min n (length t) = sym (length-take-le n s h) ∙ sym (ap length e) ∙ length-take n t in omega arith
+
+-- ---- heads
+
+module _ (method : ℕ) (key : List ℕ) (clock : ℕ) (s t : List ℕ) where
+  -- the same salt gives the same key
+  key-kept : saltOf method t ≡ saltOf method s → subkey key (saltOf method s) ≡ subkey key (saltOf method t)
+  key-kept e = ap (subkey key) (sym e)
+
+  fixed-kept : (kind b time size : ℕ) → saltOf method t ≡ saltOf method s → fixedOf (saltLength method) b t ≡ fixedOf (saltLength method) b s
+      → FixedOpens (subkey key (saltOf method s)) kind clock (fixedOf (saltLength method) b s) time size
+      → FixedOpens (subkey key (saltOf method t)) kind clock (fixedOf (saltLength method) b t) time size
+  fixed-kept kind b time size es ef d =
+      subst (λ (k : List ℕ). FixedOpens k kind clock (fixedOf (saltLength method) b t) time size) (key-kept es)
+      (subst (λ (f : List ℕ). FixedOpens (subkey key (saltOf method s)) kind clock f time size) (sym ef) d)
+
+  module _ (pool out : List ℕ) (h : Request) (st : Receiver) (d : RequestOpens method key clock s pool (length out) h st) (e : Begins (h .used) s t) where
+    abbrev size : ℕ
+    size = d .head .size
+
+    used : h .used ≡ frontLength (saltLength method) 0 + size + 16
+    used = ap (λ (x : Request). x .used) (d .head .variable-valid .says)
+
+    salt-kept : saltOf method t ≡ saltOf method s
+    salt-kept = beginning (h .used) s t e (saltLength method) (omega (arith, used))
+
+    front-kept : fixedOf (saltLength method) 0 t ≡ fixedOf (saltLength method) 0 s
+    front-kept = part (h .used) s t e (saltLength method) (27 + 0) (omega (arith, used))
+
+    variable-kept : variableAt (saltLength method) size t ≡ variableAt (saltLength method) size s
+    variable-kept = part (h .used) s t e (frontLength (saltLength method) 0) (size + 16) (omega (arith, used))
+
+    whole : h .used ≤ length t
+    whole = long (h .used) s t e (omega (arith, used, d .head .whole))
+
+    text-kept : openAt (subkey key (saltOf method t)) 1 (variableAt (saltLength method) size t)
+        ≡ openAt (subkey key (saltOf method s)) 1 (variableAt (saltLength method) size s)
+    text-kept = λ i. openAt (subkey key (salt-kept i)) 1 (variable-kept i)
+
+    request-kept : RequestOpens method key clock t pool (length out) h st
+    request-kept =
+        record {
+          front-whole = omega (arith, used, whole);
+          head =
+              record {
+                time = d .head .time;
+                size = size;
+                fixed-opens = fixed-kept 0 0 (d .head .time) size salt-kept front-kept (d .head .fixed-opens);
+                place = d .head .place;
+                new-salt = ap (meet pool clock) salt-kept ∙ d .head .new-salt;
+                whole = omega (arith, used, whole);
+                has-room = d .head .has-room;
+                authentic = (λ i. authenticAt (subkey key (salt-kept i)) 1 (variable-kept i)) ∙ d .head .authentic;
+                variable-valid =
+                    subst (λ (x : List ℕ). ValidVariable (d .head .time) size (frontLength (saltLength method) 0 + size + 16) x h) (sym text-kept)
+                    (d .head .variable-valid);
+              };
+          stream = d .stream ∙ ap (λ (x : List ℕ). receiver method Length 2 (subkeyWords (subkey key x))) (sym salt-kept);
+        }
+
+  module _ (requestSalt : List ℕ) (h : Response) (st : Receiver) (d : ResponseOpens method key clock requestSalt s h st) (e : Begins (h .used) s t) where
+    response-used : h .used ≡ frontLength (saltLength method) (saltLength method)
+    response-used = ap (λ (x : Response). x .used) (d .says)
+
+    response-salt : saltOf method t ≡ saltOf method s
+    response-salt = beginning (h .used) s t e (saltLength method) (omega (arith, response-used))
+
+    response-front : fixedOf (saltLength method) (saltLength method) t ≡ fixedOf (saltLength method) (saltLength method) s
+    response-front = part (h .used) s t e (saltLength method) (27 + saltLength method) (omega (arith, response-used))
+
+    response-whole : h .used ≤ length t
+    response-whole = long (h .used) s t e (omega (arith, response-used, d .front-whole))
+
+    response-kept : ResponseOpens method key clock requestSalt t h st
+    response-kept =
+        record {
+          front-whole = omega (arith, response-used, response-whole);
+          time = d .time;
+          size = d .size;
+          fixed-opens = fixed-kept 1 (saltLength method) (d .time) (d .size) response-salt response-front (d .fixed-opens);
+          for-us = (λ i. bindingOf (saltLength method) (openAt (subkey key (response-salt i)) 0 (response-front i))) ∙ d .for-us;
+          says = d .says;
+          stream =
+              d .stream ∙ ap (λ (x : List ℕ). receiver method (Payload (d .size)) 1 (subkeyWords (subkey key x))) (sym response-salt);
+        }
+
+-- ---- steps
+
+module _ (key : List ℕ) (counter m : ℕ) (s t : List ℕ) (e : Begins (m + 16) s t) where
+  piece-kept : (asked room : ℕ) → PieceOpens key counter m s asked room → PieceOpens key counter m t asked room
+  piece-kept asked room d =
+      record { usable = d .usable; whole = long (m + 16) s t e (d .whole); has-room = d .has-room; authentic = ap (authenticAt key counter) e ∙ d .authentic }
+
+turn-kept : (key : List ℕ) (counter : ℕ) (turn : Turn) (s t out : List ℕ) (c : Chunk) → TurnOpens key counter turn s (length out) c → Begins (c .used) s t
+    → TurnOpens key counter turn t (length out) c × (turnText key counter turn t out ≡ turnText key counter turn s out)
+turn-kept key counter Length s t out c d e =
+    let u : Begins 18 s t = subst (λ (n : ℕ). Begins n s t) (ap (λ (x : Chunk). x .used) (d .1)) e in (
+      (piece-kept key counter 2 s t u 0 (length out) (d .0), d .1 ∙ ap (λ (x : List ℕ). record { used = 18; length = be 2 (openAt key counter x) }) (sym u)),
+      refl,
+    )
+turn-kept key counter (Payload n) s t out c d e =
+    let u : Begins (n + 16) s t = subst (λ (k : ℕ). Begins k s t) (ap (λ (x : Chunk). x .used) (d .1)) e in
+    ((piece-kept key counter n s t u n (length out) (d .0), d .1), ap (λ (x : List ℕ). put out 0 (openAt key counter x)) u)
+turn-kept key counter Ended s t out c d e = absurd d
+
+-- ---- the whole
+
+pub beyond-unread : BeyondUnread
+unfolding request-kept
+beyond-unread =
+    record {
+      requests = λ method key clock s t pool out h st lawful a e.
+          let x = request-exactly-when method key clock s pool out lawful h st in
+          let y = request-exactly-when method key clock t pool out lawful h st in
+          let d = x .only-when a in
+          let k = request-kept method key clock s t pool out h st d e in (
+            y .always-when k,
+            (
+              y .opened-text k ∙ ap (put out 0) (text-kept method key clock s t pool out h st d e) ∙ sym (x .opened-text d),
+              y .salt-stored k ∙ ap (store pool (d .head .place) clock) (salt-kept method key clock s t pool out h st d e) ∙ sym (x .salt-stored d),
+            ),
+          );
+      responses = λ method key clock requestSalt s t h st fits size a e.
+          let x = response-exactly-when method key clock requestSalt s fits size h st in
+          let y = response-exactly-when method key clock requestSalt t fits size h st in
+          y .always-when (response-kept method key clock s t requestSalt h st (x .only-when a) e);
+      steps = λ st s t out c a e.
+          let x = step-exactly-when st s out c in
+          let y = step-exactly-when st t out c in
+          let d = x .only-when a in
+          let k = turn-kept (streamKey st) (st .counter) (st .turn) s t out c (d .opens) e in
+          let b = y .always-when (record { known = d .known; opens = k .0 }) in
+          (b, y .opened-text b ∙ k .1 ∙ sym (x .opened-text a));
+    }
