@@ -13,7 +13,7 @@ ghost use mathlib.Core.Option.{none};
 ghost use lib.ListN.{length};
 ghost use Rattle.bench.specs.Answer.{answer, number, hashLawful, hashOut, subkeyLawful, subkeyOut, sealedNumber, openedNumber, nobody, subkeyIn, firstSender, payloadReceiver, chunkNumber, steppedNumber};
 ghost use Rattle.datagram.specs.Sealing as sealing;
-ghost use Rattle.datagram.specs.Deciding as deciding;
+ghost use Rattle.datagram_open.specs.Deciding as deciding;
 ghost use Rattle.stream.specs.Sealing as streams;
 ghost use Rattle.stream.specs.Chunks as chunks;
 ghost use Rattle.gcm.specs.Keyed.{sealLawful, sealed, openAnswer, openOut};
@@ -148,9 +148,9 @@ pub extern "C" fn bench_datagram_open(
         second: 0,
         port: 0,
     };
-    match datagram::open_server(method, key, clock, peer, s, table, out) {
-        datagram::Opened::Datagram(_) => 0,
-        datagram::Opened::Refused(refusal) => refusal.number(),
+    match datagram_open::open_server(method, key, clock, peer, s, table, out) {
+        datagram_open::Opened::Datagram(_) => 0,
+        datagram_open::Opened::Refused(refusal) => refusal.number(),
     }
 }
 

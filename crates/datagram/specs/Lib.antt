@@ -1,4 +1,2 @@
 pub mod Headers
 pub mod Sealing
-pub mod Opening
-pub mod Deciding

@@ -1,22 +1,16 @@
 // Datagrams of SIP022, section 3.2: a separate header, one AES block under the shared key, and a body in AES-GCM under the
-// session's subkey. Sealing is in write.rt, opening in read.rt, as far as a datagram's own bytes decide it, and open.rt.
+// session's subkey. Here are the headers in the clear, sending sessions, and sealing (write.rt); the crate datagram_open opens.
 use protocol::Refusal;
-use socks5::Target;
 ghost use mathlib.Core.Path.{_≡_};
 ghost use Rattle.datagram.specs.Headers.{separateHeader, fixedLength};
 ghost use Rattle.datagram.specs.Sealing.{clientSender, begun};
 
-mod open;
-mod read;
 mod write;
 
-pub use open::open_client;
-pub use open::open_server;
-pub use open::payload;
 pub use write::seal;
 
 // The longest datagram: what UDP can carry over IPv4.
-const MAX_DATAGRAM: usize = 65507;
+pub const MAX_DATAGRAM: usize = 65507;
 
 // Whose datagram it is: a client's, or a server's in reply to the client session of an ID.
 pub enum Side {
@@ -48,29 +42,6 @@ pub struct Sealing {
     pub sender: Sender,
 }
 
-// What an opened datagram says. A name's place and the payload's are places in the plaintext.
-pub struct Header {
-    pub target: Target,
-    pub port: u16,
-    pub session: u64,
-    pub packet: u64,
-    pub time: u64,
-    pub padding: u16,
-    pub payload: usize,
-}
-
-// What opening answers.
-pub enum Opened {
-    Datagram(Header),
-    Refused(Refusal),
-}
-
-// The separate header's two numbers.
-struct Separate {
-    session: u64,
-    packet: u64,
-}
-
 impl Sender {
     // A client's sending session.
     pub fn client(id: u64) -> Self
@@ -99,7 +70,7 @@ impl Sender {
 }
 
 // The length of the main header before its padding.
-fn fixed_length(side: Side) -> usize
+pub fn fixed_length(side: Side) -> usize
     ensures { λ r. ⌜ r ≡ fixedLength side ⌝ }
 {
     match side {
@@ -109,7 +80,7 @@ fn fixed_length(side: Side) -> usize
 }
 
 // The separate header in the clear.
-fn separate_header(id: u64, packet: u64) -> [u8; 16]
+pub fn separate_header(id: u64, packet: u64) -> [u8; 16]
     ensures { λ r. ⌜ r ≡ separateHeader id packet ⌝ }
 {
     let mut header = [0u8; 16];

@@ -29,10 +29,10 @@ use Rattle.book.specs.Book.{Page, pageAlive, fresh, accept, newPage, outcomeBy}
 use Rattle.book.specs.Runs.{tableOutcomeBy}
 use Rattle.book.specs.Demand3.{viewOfPage, viewOfRecord}
 use Rattle.datagram.specs.declared.Side.the-variants.{Client}
-use Rattle.datagram.specs.declared.Opened.{Opened}
-use Rattle.datagram.specs.declared.Opened.the-variants.{Datagram, Refused}
 use Rattle.datagram.specs.Headers.{fixedPart, plaintext}
-use Rattle.datagram.specs.Opening.{readAddress, readMain}
+use Rattle.datagram_open.specs.declared.Opened.{Opened}
+use Rattle.datagram_open.specs.declared.Opened.the-variants.{Datagram, Refused}
+use Rattle.datagram_open.specs.Opening.{readAddress, readMain}
 
 pub record Row : Type 0 where
   pub edge : ℕ

@@ -22,12 +22,12 @@ use Rattle.socks5.specs.Address.{parseAt, moved}
 use Rattle.datagram.specs.declared.Side.{Side}
 use Rattle.datagram.specs.declared.Side.the-variants.{Client, Server}
 use Rattle.datagram.specs.declared.Sender.{Sender}
-use Rattle.datagram.specs.declared.Header.{Header}
 use Rattle.datagram.specs.declared.Sealed.the-variants.{Datagram as Written}
 use Rattle.datagram.specs.Headers.{typeOf, fixedLength, plaintext}
 use Rattle.datagram.specs.Sealing.{maxDatagram, sealAnswer, datagram}
-use Rattle.datagram.specs.Opening.{sessionOf, packetOf, bodyAuthentic, timeOf, paddingOf, meant}
-use Rattle.datagram.specs.Deciding.{expected, plainOf, openerOf, openAnswer, openOut, openTable}
+use Rattle.datagram_open.specs.declared.Header.{Header}
+use Rattle.datagram_open.specs.Opening.{sessionOf, packetOf, bodyAuthentic, timeOf, paddingOf, meant}
+use Rattle.datagram_open.specs.Deciding.{expected, plainOf, openerOf, openAnswer, openOut, openTable}
 
 -- ---- answers
 

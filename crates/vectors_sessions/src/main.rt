@@ -1,8 +1,8 @@
 // Runs the vectors of session tables, all from the independent reference: calls that open datagrams on a table, calls that are
 // refused, and tables that are made. tools/session-vectors.py describes the files and makes them. After each call the whole lent
 // output and the whole table are compared. For each group it prints how many calls were compared and how many differ.
-use datagram::Header;
-use datagram::Opened;
+use datagram_open::Header;
+use datagram_open::Opened;
 use libc::STDOUT_FILENO;
 use session::Peer;
 use socks5::Target;
@@ -329,10 +329,10 @@ fn open(s: &[u8], at: usize, key: &[u8], packet: &[u8], table: &mut [u64], out: 
     let clock = octets::read_u64_be(s, at + 16);
     let peer = peer_at(s, at + 32);
     if octets::byte_or_zero(s, at + 1) == 0 {
-        return datagram::open_server(method, key, clock, peer, packet, table, out);
+        return datagram_open::open_server(method, key, clock, peer, packet, table, out);
     }
     let client = octets::read_u64_be(s, at + 24);
-    datagram::open_client(method, key, clock, client, peer, packet, table, out)
+    datagram_open::open_client(method, key, clock, client, peer, packet, table, out)
 }
 
 // Whether the call at a place is answered as it must be and leaves the output so. The buffers are as long as its datagram, the

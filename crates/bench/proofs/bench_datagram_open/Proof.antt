@@ -1,6 +1,6 @@
 use mathlib.Core.Path.{sym, ap, _∙_}
 use borrow.Author.Needs.{needs}
-use Rattle.datagram.specs.Deciding.{answerOf}
+use Rattle.datagram_open.specs.Deciding.{answerOf}
 use Rattle.bench.specs.Answer.{openedNumber}
 use Rattle.bench.proofs.bench_datagram_open.Statement.{statement}
 use Rattle.bench.proofs.bench_datagram_open.Tie as tie

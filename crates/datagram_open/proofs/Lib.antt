@@ -1,0 +1,3 @@
+pub mod OpeningLaws
+pub mod ReadLaws
+pub mod CallLaws

@@ -1,0 +1,127 @@
+// Opening datagrams on a session table.
+use super::Header;
+use super::Opened;
+use super::read::read_datagram;
+use super::read::settle;
+use datagram::Side;
+use protocol::Refusal;
+use session::Admitted;
+use session::Peer;
+ghost use mathlib.Core.Path.{_≡_};
+ghost use mathlib.Core.Option.{none, some};
+ghost use Prim.Native.Nat.{_≤_};
+ghost use lib.ListN.{length, drop};
+ghost use Rattle.session.specs.Table.{tableWords, meet, keep};
+ghost use Rattle.datagram_open.specs.Opening.{settled};
+ghost use Rattle.datagram_open.specs.Deciding.{openerOf, answerOf, admittedAs, entered, openAnswer, openOut, openTable};
+
+fn admitted_as(header: Header, met: Admitted) -> Opened
+    ensures { λ r. ⌜ r ≡ admittedAs header met ⌝ }
+{
+    match met {
+        Admitted::Accepted => Opened::Datagram(header),
+        Admitted::Replay => Opened::Refused(Refusal::Replay),
+        Admitted::Full => Opened::Refused(Refusal::Full),
+    }
+}
+
+// Takes a header that was read to its session. Refusals 8 and 9 clear the plaintext and leave the table as it was.
+fn enter(
+    header: Header,
+    clock: u64,
+    peer: Peer,
+    due: usize,
+    table: &mut [u64],
+    out: &mut [u8],
+) -> Opened
+    requires { ⌜ length (now table) ≡ tableWords ⌝ }
+    requires { ⌜ due ≤ length (now out) ⌝ }
+    ensures { λ r. ⌜ r ≡ entered header (now (table .entry)) clock peer ⌝ }
+    ensures { λ r. ⌜ now (table .exit) ≡ keep (meet (now (table .entry)) clock peer (header .session) (header .packet)) (now (table .entry)) ⌝ }
+    ensures { λ r. ⌜ now (out .exit) ≡ settled (entered header (now (table .entry)) clock peer) due (now (out .entry)) ⌝ }
+{
+    let met = session::admit(table, clock, header.session, header.packet, peer);
+    let answer = admitted_as(header, met);
+    settle(answer, due, out);
+    answer
+}
+
+fn open(
+    method: u64,
+    key: &[u8],
+    side: Side,
+    clock: u64,
+    peer: Peer,
+    s: &[u8],
+    table: &mut [u64],
+    out: &mut [u8],
+) -> Opened
+    ensures { λ r. ⌜ answerOf r ≡ openAnswer method (now (key .entry)) (openerOf side) clock peer (now (s .entry)) (now (table .entry)) (now (out .entry)) ⌝ }
+    ensures { λ r. ⌜ now (out .exit) ≡ openOut method (now (key .entry)) (openerOf side) clock peer (now (s .entry)) (now (table .entry)) (now (out .entry)) ⌝ }
+    ensures { λ r. ⌜ now (table .exit) ≡ openTable method (now (key .entry)) (openerOf side) clock peer (now (s .entry)) (now (table .entry)) (now (out .entry)) ⌝ }
+{
+    if session::is_lawful(table) {
+        let read = read_datagram(method, key, side, clock, s, out);
+        return match read {
+            Opened::Refused(_) => read,
+            Opened::Datagram(header) => enter(header, clock, peer, s.len() - 32, table, out),
+        };
+    }
+    Opened::Refused(Refusal::Settings)
+}
+
+// Opens a client's datagram, for a server, into the lent buffer: its header, or a refusal in the order 1, 2, 3, 4, 5, 6, 7, 5,
+// 8, 9. Nothing is written before the tag is good, and a refusal after that clears what the plaintext has filled. No
+// refusal changes the table.
+pub fn open_server(
+    method: u64,
+    key: &[u8],
+    clock: u64,
+    peer: Peer,
+    s: &[u8],
+    table: &mut [u64],
+    out: &mut [u8],
+) -> Opened
+    ensures { λ r. ⌜ answerOf r ≡ openAnswer method (now (key .entry)) none clock peer (now (s .entry)) (now (table .entry)) (now (out .entry)) ⌝ }
+    ensures { λ r. ⌜ now (out .exit) ≡ openOut method (now (key .entry)) none clock peer (now (s .entry)) (now (table .entry)) (now (out .entry)) ⌝ }
+    ensures { λ r. ⌜ now (table .exit) ≡ openTable method (now (key .entry)) none clock peer (now (s .entry)) (now (table .entry)) (now (out .entry)) ⌝ }
+{
+    open(method, key, Side::Client, clock, peer, s, table, out)
+}
+
+// Opens a server's datagram, for the client of a session ID, with refusal 13 behind 7 for another client's.
+pub fn open_client(
+    method: u64,
+    key: &[u8],
+    clock: u64,
+    client: u64,
+    peer: Peer,
+    s: &[u8],
+    table: &mut [u64],
+    out: &mut [u8],
+) -> Opened
+    ensures { λ r. ⌜ answerOf r ≡ openAnswer method (now (key .entry)) (some client) clock peer (now (s .entry)) (now (table .entry)) (now (out .entry)) ⌝ }
+    ensures { λ r. ⌜ now (out .exit) ≡ openOut method (now (key .entry)) (some client) clock peer (now (s .entry)) (now (table .entry)) (now (out .entry)) ⌝ }
+    ensures { λ r. ⌜ now (table .exit) ≡ openTable method (now (key .entry)) (some client) clock peer (now (s .entry)) (now (table .entry)) (now (out .entry)) ⌝ }
+{
+    open(
+        method,
+        key,
+        Side::Server(client),
+        clock,
+        peer,
+        s,
+        table,
+        out,
+    )
+}
+
+// The payload of an opened datagram: the plaintext from its place to its end. Past the end it is empty.
+pub fn payload(plain: &[u8], place: usize) -> &[u8]
+    ensures { λ r. ⌜ now r ≡ drop place (now (plain .entry)) ⌝ }
+{
+    if plain.len() < place {
+        return &plain[plain.len()..];
+    }
+    &plain[place..]
+}
