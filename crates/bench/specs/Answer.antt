@@ -17,12 +17,12 @@ use Rattle.datagram_open.specs.declared.Header.{Header}
 use Rattle.protocol.specs.Refusal.{refusalNumber}
 use Rattle.stream.specs.declared.Subkey.{Subkey}
 use Rattle.stream.specs.declared.Sender.{Sender}
-use Rattle.stream.specs.declared.Turn.the-variants.{Payload}
-use Rattle.stream.specs.declared.Receiver.{Receiver}
 use Rattle.stream.specs.declared.Sealed.{Sealed as ChunkSealed}
 use Rattle.stream.specs.declared.Sealed.the-variants.{Bytes, Refused as ChunkRefused}
-use Rattle.stream.specs.declared.Stepped.{Stepped}
-use Rattle.stream.specs.declared.Stepped.the-variants.{Opened as StepOpened, Refused as StepRefused}
+use Rattle.stream_open.specs.declared.Turn.the-variants.{Payload}
+use Rattle.stream_open.specs.declared.Receiver.{Receiver}
+use Rattle.stream_open.specs.declared.Stepped.{Stepped}
+use Rattle.stream_open.specs.declared.Stepped.the-variants.{Opened as StepOpened, Refused as StepRefused}
 use Rattle.gcm.specs.declared.Opened.{Opened}
 use Rattle.gcm.specs.declared.Opened.the-variants.{Text, Forged, Unlawful}
 

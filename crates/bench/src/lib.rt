@@ -4,10 +4,10 @@ use datagram::Sender;
 use gcm::Opened;
 use ghash::Element;
 use session::Peer;
-use stream::Receiver;
-use stream::Stepped;
 use stream::Subkey;
-use stream::Turn;
+use stream_open::Receiver;
+use stream_open::Stepped;
+use stream_open::Turn;
 ghost use mathlib.Core.Path.{_≡_};
 ghost use mathlib.Core.Option.{none};
 ghost use lib.ListN.{length};
@@ -15,7 +15,7 @@ ghost use Rattle.bench.specs.Answer.{answer, number, hashLawful, hashOut
 ghost use Rattle.datagram.specs.Sealing as sealing;
 ghost use Rattle.datagram_open.specs.Deciding as deciding;
 ghost use Rattle.stream.specs.Sealing as streams;
-ghost use Rattle.stream.specs.Chunks as chunks;
+ghost use Rattle.stream_open.specs.Chunks as chunks;
 ghost use Rattle.gcm.specs.Keyed.{sealLawful, sealed, openAnswer, openOut};
 ghost use Rattle.aes.specs.Keyed.{lawful};
 ghost use Rattle.ctr.specs.Gctr.{aesCtr};
@@ -210,7 +210,7 @@ pub extern "C" fn bench_chunk_open(
             d: d,
         },
     };
-    let step = stream::open_chunk(receiver, s, out);
+    let step = stream_open::open_chunk(receiver, s, out);
     let answer = step.answer;
     match answer {
         Stepped::Opened(_) => 0,

@@ -13,15 +13,15 @@ use Rattle.protocol.specs.Subkey.{subkey}
 use Rattle.protocol.specs.Method.{keyFits, saltLength}
 use Rattle.pool.specs.declared.Met.the-variants.{Room as Free}
 use Rattle.pool.specs.Pool.{meet, store}
-use Rattle.stream.specs.declared.Turn.{Turn}
-use Rattle.stream.specs.declared.Turn.the-variants.{Length, Payload, Ended}
-use Rattle.stream.specs.declared.Receiver.{Receiver}
-use Rattle.stream.specs.declared.Chunk.{Chunk}
-use Rattle.stream.specs.declared.Request.{Request}
-use Rattle.stream.specs.declared.Response.{Response}
 use Rattle.stream.specs.Pieces.{authenticAt, openAt, subkeyWords}
-use Rattle.stream.specs.Heads.{frontLength, fixedOf, bindingOf, receiver}
-use Rattle.stream.specs.Chunks.{streamKey}
+use Rattle.stream_open.specs.declared.Turn.{Turn}
+use Rattle.stream_open.specs.declared.Turn.the-variants.{Length, Payload, Ended}
+use Rattle.stream_open.specs.declared.Receiver.{Receiver}
+use Rattle.stream_open.specs.declared.Chunk.{Chunk}
+use Rattle.stream_open.specs.declared.Request.{Request}
+use Rattle.stream_open.specs.declared.Response.{Response}
+use Rattle.stream_open.specs.Heads.{frontLength, fixedOf, bindingOf, receiver}
+use Rattle.stream_open.specs.Chunks.{streamKey}
 use Rattle.demands.specs.StreamsKeep.{saltOf}
 use Rattle.demands.specs.StreamsOpen.{FixedOpens, ValidVariable, variableAt, HeadOpens, RequestOpens, ResponseOpens, PieceOpens, TurnOpens, turnText, StepOpens, Begins, BeyondUnread}
 use Rattle.demands.proofs.HeadTells.{request-exactly-when, response-exactly-when}

@@ -18,22 +18,22 @@ use Rattle.protocol.specs.Refusal.{refusalNumber}
 use Rattle.protocol.specs.Method.{keyLength, saltLength}
 use Rattle.protocol.specs.Subkey.{subkey}
 use Rattle.socks5.specs.Address.{isAddress}
-use Rattle.stream.specs.declared.Turn.{Turn}
-use Rattle.stream.specs.declared.Turn.the-variants.{Length, Payload, Ended}
 use Rattle.stream.specs.declared.Sender.{Sender}
-use Rattle.stream.specs.declared.Receiver.{Receiver}
-use Rattle.stream.specs.declared.Fixed.{Fixed}
 use Rattle.stream.specs.declared.Sealed.{Sealed}
 use Rattle.stream.specs.declared.Sealed.the-variants.{Bytes, Refused as Unsealed}
-use Rattle.stream.specs.declared.Chunk.{Chunk}
-use Rattle.stream.specs.declared.Stepped.{Stepped}
-use Rattle.stream.specs.declared.Stepped.the-variants.{Opened, Refused as Unopened}
-use Rattle.stream.specs.declared.RequestOpened.{RequestOpened}
-use Rattle.stream.specs.declared.RequestOpened.the-variants.{Accepted, Refused}
 use Rattle.stream.specs.Pieces.{authenticAt, openAt}
 use Rattle.stream.specs.Sealing.{maxChunk, lastCounter, variableLength, request, response, chunk, begun, moved, senderKey, pickSealed, sizeAnswer, sizesFit, paddingLawful, requestAnswer, responseAnswer, chunkAnswer, sealOut}
-use Rattle.stream.specs.Requests.{variableOf, openedRequest, requestOut, requestPool}
-use Rattle.stream.specs.Chunks.{pickStepped, streamKey, pieceAnswer, lengthRead, turnAnswer, writtenBy, payloadPiece, stepAnswer, stepOut, ended, pickReceiver, stepNext}
+use Rattle.stream_open.specs.declared.Turn.{Turn}
+use Rattle.stream_open.specs.declared.Turn.the-variants.{Length, Payload, Ended}
+use Rattle.stream_open.specs.declared.Receiver.{Receiver}
+use Rattle.stream_open.specs.declared.Fixed.{Fixed}
+use Rattle.stream_open.specs.declared.Chunk.{Chunk}
+use Rattle.stream_open.specs.declared.Stepped.{Stepped}
+use Rattle.stream_open.specs.declared.Stepped.the-variants.{Opened, Refused as Unopened}
+use Rattle.stream_open.specs.declared.RequestOpened.{RequestOpened}
+use Rattle.stream_open.specs.declared.RequestOpened.the-variants.{Accepted, Refused}
+use Rattle.stream_open.specs.Requests.{variableOf, openedRequest, requestOut, requestPool}
+use Rattle.stream_open.specs.Chunks.{pickStepped, streamKey, pieceAnswer, lengthRead, turnAnswer, writtenBy, payloadPiece, stepAnswer, stepOut, ended, pickReceiver, stepNext}
 use Rattle.demands.specs.StreamsKeep.{saltOf, ofStep, ofSealer, dueOf, RequestAnswered, accepted-request, refused-request, RequestKeeps, StepAnswered, opened-step, refused-step, dueAt, StepKeeps, SealAnswered, sealed-text, refused-text, SealKeeps, SealersKeep, StreamsDemand1}
 use Rattle.demands.specs.StreamsOpen.{TurnOpens, turnText}
 use Rattle.demands.specs.StreamsBack.{StreamsDemand2}

@@ -14,15 +14,15 @@ use Rattle.octets.proofs.NumberLaws.{le-toLe}
 use Rattle.protocol.specs.Method.{keyLength}
 use Rattle.protocol.specs.declared.Refusal.{Refusal}
 use Rattle.protocol.specs.declared.Refusal.the-variants.{Settings, Room, NotAuthentic, More, Counter}
-use Rattle.stream.specs.declared.Turn.{Turn}
-use Rattle.stream.specs.declared.Turn.the-variants.{Length, Payload, Ended}
-use Rattle.stream.specs.declared.Receiver.{Receiver}
-use Rattle.stream.specs.declared.Chunk.{Chunk}
-use Rattle.stream.specs.declared.Stepped.{Stepped}
-use Rattle.stream.specs.declared.Stepped.the-variants.{Opened, Refused}
 use Rattle.stream.specs.Pieces.{nonce, authenticAt, openAt}
 use Rattle.stream.specs.Sealing.{lastCounter}
-use Rattle.stream.specs.Chunks.{pickStepped, streamKey, pieceAnswer, lengthRead, turnAnswer, writtenBy, payloadPiece, stepAnswer, stepOut, stepNext}
+use Rattle.stream_open.specs.declared.Turn.{Turn}
+use Rattle.stream_open.specs.declared.Turn.the-variants.{Length, Payload, Ended}
+use Rattle.stream_open.specs.declared.Receiver.{Receiver}
+use Rattle.stream_open.specs.declared.Chunk.{Chunk}
+use Rattle.stream_open.specs.declared.Stepped.{Stepped}
+use Rattle.stream_open.specs.declared.Stepped.the-variants.{Opened, Refused}
+use Rattle.stream_open.specs.Chunks.{pickStepped, streamKey, pieceAnswer, lengthRead, turnAnswer, writtenBy, payloadPiece, stepAnswer, stepOut, stepNext}
 use Rattle.demands.specs.StreamsOpen.{PieceOpens, TurnOpens, turnText, StepOpens, StepExactlyWhen}
 use Rattle.demands.specs.StreamsBack.{Flow, answerTo, writtenIn, stepped, after, AllOpened, OwnNonces, NoncesDiffer}
 

@@ -9,12 +9,12 @@ use Rattle.protocol.specs.declared.Refusal.{Refusal}
 use Rattle.protocol.specs.declared.Refusal.the-variants.{Replay, More}
 use Rattle.protocol.specs.Subkey.{subkey}
 use Rattle.protocol.specs.Method.{saltLength}
-use Rattle.stream.specs.declared.Receiver.{Receiver}
-use Rattle.stream.specs.declared.Request.{Request}
-use Rattle.stream.specs.declared.RequestOpened.{RequestOpened}
-use Rattle.stream.specs.declared.RequestOpened.the-variants.{Accepted, Refused as Unaccepted}
-use Rattle.stream.specs.Heads.{frontLength, fixedOf}
-use Rattle.stream.specs.Requests.{openedRequest, requestPool}
+use Rattle.stream_open.specs.declared.Receiver.{Receiver}
+use Rattle.stream_open.specs.declared.Request.{Request}
+use Rattle.stream_open.specs.declared.RequestOpened.{RequestOpened}
+use Rattle.stream_open.specs.declared.RequestOpened.the-variants.{Accepted, Refused as Unaccepted}
+use Rattle.stream_open.specs.Heads.{frontLength, fixedOf}
+use Rattle.stream_open.specs.Requests.{openedRequest, requestPool}
 use Rattle.demands.specs.StreamsKeep.{ofFront, saltOf}
 use Rattle.demands.specs.StreamsOpen.{FixedOpens}
 

@@ -13,23 +13,23 @@ use Rattle.socks5.specs.declared.Parsed.the-variants.{Found}
 use Rattle.socks5.specs.Address.{parseAt}
 use Rattle.pool.specs.declared.Met.the-variants.{Room as Free}
 use Rattle.pool.specs.Pool.{lawful, meet, store}
-use Rattle.stream.specs.declared.Turn.{Turn}
-use Rattle.stream.specs.declared.Turn.the-variants.{Length, Payload, Ended}
 use Rattle.stream.specs.declared.Sender.{Sender}
-use Rattle.stream.specs.declared.Receiver.{Receiver}
 use Rattle.stream.specs.declared.Sealed.{Sealed}
 use Rattle.stream.specs.declared.Sealed.the-variants.{Bytes, Refused as Unsealed}
-use Rattle.stream.specs.declared.Chunk.{Chunk}
-use Rattle.stream.specs.declared.Stepped.{Stepped}
-use Rattle.stream.specs.declared.Stepped.the-variants.{Opened, Refused as Unopened}
-use Rattle.stream.specs.declared.ResponseOpened.the-variants.{Accepted as Answered}
-use Rattle.stream.specs.declared.Request.{Request}
-use Rattle.stream.specs.declared.RequestOpened.the-variants.{Accepted}
 use Rattle.stream.specs.Pieces.{nonce}
 use Rattle.stream.specs.Sealing.{variablePart, variableLength, request, response, chunk, senderKey, requestAnswer, responseAnswer, chunkAnswer}
-use Rattle.stream.specs.Heads.{receiver, openedResponse}
-use Rattle.stream.specs.Requests.{openedRequest, requestOut, requestPool}
-use Rattle.stream.specs.Chunks.{streamKey, stepAnswer, stepOut, stepNext}
+use Rattle.stream_open.specs.declared.Turn.{Turn}
+use Rattle.stream_open.specs.declared.Turn.the-variants.{Length, Payload, Ended}
+use Rattle.stream_open.specs.declared.Receiver.{Receiver}
+use Rattle.stream_open.specs.declared.Chunk.{Chunk}
+use Rattle.stream_open.specs.declared.Stepped.{Stepped}
+use Rattle.stream_open.specs.declared.Stepped.the-variants.{Opened, Refused as Unopened}
+use Rattle.stream_open.specs.declared.ResponseOpened.the-variants.{Accepted as Answered}
+use Rattle.stream_open.specs.declared.Request.{Request}
+use Rattle.stream_open.specs.declared.RequestOpened.the-variants.{Accepted}
+use Rattle.stream_open.specs.Heads.{receiver, openedResponse}
+use Rattle.stream_open.specs.Requests.{openedRequest, requestOut, requestPool}
+use Rattle.stream_open.specs.Chunks.{streamKey, stepAnswer, stepOut, stepNext}
 use Rattle.demands.specs.StreamsOpen.{RequestExactlyWhen, ResponseExactlyWhen, TurnOpens, turnText, StepExactlyWhen}
 
 -- ---- one chunk

@@ -12,26 +12,26 @@ use Rattle.protocol.specs.declared.Refusal.the-variants.{NotAuthentic, Malforme
 use Rattle.protocol.specs.Refusal.{refusalNumber}
 use Rattle.protocol.specs.Subkey.{subkey}
 use Rattle.protocol.specs.Method.{keyLength, saltLength}
-use Rattle.stream.specs.declared.Turn.{Turn}
-use Rattle.stream.specs.declared.Turn.the-variants.{Length, Payload, Ended}
 use Rattle.stream.specs.declared.Sender.{Sender}
-use Rattle.stream.specs.declared.Receiver.{Receiver}
 use Rattle.stream.specs.declared.Sealed.{Sealed}
 use Rattle.stream.specs.declared.Sealed.the-variants.{Bytes, Refused as Unsealed}
-use Rattle.stream.specs.declared.Chunk.{Chunk}
-use Rattle.stream.specs.declared.Stepped.{Stepped}
-use Rattle.stream.specs.declared.Stepped.the-variants.{Opened, Refused as Unopened}
-use Rattle.stream.specs.declared.Response.{Response}
-use Rattle.stream.specs.declared.ResponseOpened.{ResponseOpened}
-use Rattle.stream.specs.declared.ResponseOpened.the-variants.{Accepted as Answered, Refused as Unanswered}
-use Rattle.stream.specs.declared.Request.{Request}
-use Rattle.stream.specs.declared.RequestOpened.{RequestOpened}
-use Rattle.stream.specs.declared.RequestOpened.the-variants.{Accepted, Refused as Unaccepted}
 use Rattle.stream.specs.Pieces.{openAt}
 use Rattle.stream.specs.Sealing.{request, response, chunk, senderKey, requestAnswer, responseAnswer, chunkAnswer, sealOut}
-use Rattle.stream.specs.Heads.{fixedOf, openedResponse}
-use Rattle.stream.specs.Requests.{openedRequest, requestOut, requestPool}
-use Rattle.stream.specs.Chunks.{stepAnswer, stepOut, ended, stepNext}
+use Rattle.stream_open.specs.declared.Turn.{Turn}
+use Rattle.stream_open.specs.declared.Turn.the-variants.{Length, Payload, Ended}
+use Rattle.stream_open.specs.declared.Receiver.{Receiver}
+use Rattle.stream_open.specs.declared.Chunk.{Chunk}
+use Rattle.stream_open.specs.declared.Stepped.{Stepped}
+use Rattle.stream_open.specs.declared.Stepped.the-variants.{Opened, Refused as Unopened}
+use Rattle.stream_open.specs.declared.Response.{Response}
+use Rattle.stream_open.specs.declared.ResponseOpened.{ResponseOpened}
+use Rattle.stream_open.specs.declared.ResponseOpened.the-variants.{Accepted as Answered, Refused as Unanswered}
+use Rattle.stream_open.specs.declared.Request.{Request}
+use Rattle.stream_open.specs.declared.RequestOpened.{RequestOpened}
+use Rattle.stream_open.specs.declared.RequestOpened.the-variants.{Accepted, Refused as Unaccepted}
+use Rattle.stream_open.specs.Heads.{fixedOf, openedResponse}
+use Rattle.stream_open.specs.Requests.{openedRequest, requestOut, requestPool}
+use Rattle.stream_open.specs.Chunks.{stepAnswer, stepOut, ended, stepNext}
 use lib.Dec.{eqb}
 
 -- ---- which refusals are given, by their numbers

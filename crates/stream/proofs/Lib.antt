@@ -4,6 +4,3 @@ pub mod KeyLaws
 pub mod PieceLaws
 pub mod SealAnswerLaws
 pub mod SealWriteLaws
-pub mod HeadLaws
-pub mod RequestLaws
-pub mod ChunkLaws

@@ -1,5 +1,2 @@
 pub mod Pieces
 pub mod Sealing
-pub mod Heads
-pub mod Requests
-pub mod Chunks

@@ -5,17 +5,17 @@
 use libc::STDOUT_FILENO;
 use protocol::Refusal;
 use socks5::Target;
-use stream::Chunk;
-use stream::Receiver;
-use stream::Request;
-use stream::RequestOpened;
-use stream::Response;
-use stream::ResponseOpened;
 use stream::Sealed;
 use stream::Sender;
-use stream::Stepped;
 use stream::Subkey;
-use stream::Turn;
+use stream_open::Chunk;
+use stream_open::Receiver;
+use stream_open::Request;
+use stream_open::RequestOpened;
+use stream_open::Response;
+use stream_open::ResponseOpened;
+use stream_open::Stepped;
+use stream_open::Turn;
 ghost use mathlib.Core.Path.{_≡_};
 ghost use Prim.Native.Nat.{_+_, _*_, _<_, _≤_};
 ghost use lib.ListN.{length};
@@ -551,7 +551,7 @@ fn opens_request(
     }
     let method = octets::read_u64_be(s, at + 8);
     let clock = octets::read_u64_be(s, at + 16);
-    let opened = stream::open_request(method, key, clock, bytes, &mut words[..lent], out);
+    let opened = stream_open::open_request(method, key, clock, bytes, &mut words[..lent], out);
     opened_request(s, at, opened, words)
 }
 
@@ -567,7 +567,7 @@ fn opens_response(
 {
     let method = octets::read_u64_be(s, at + 8);
     let clock = octets::read_u64_be(s, at + 16);
-    match stream::open_response(method, key, clock, salt, bytes) {
+    match stream_open::open_response(method, key, clock, salt, bytes) {
         ResponseOpened::Accepted(h, r) => {
             write_receiver(words, stream_place(s, at), r);
             if accepted(s, at, h.used) {
@@ -583,7 +583,7 @@ fn opens_chunk(s: &[u8], at: usize, bytes: &[u8], words: &mut [u64], out: &mut [
     requires { ⌜ at + 98 ≤ length (now s) ⌝ }
 {
     let place = stream_place(s, at);
-    let step = stream::open_chunk(receiver_at(words, place), bytes, out);
+    let step = stream_open::open_chunk(receiver_at(words, place), bytes, out);
     let next = step.stream;
     let answer = step.answer;
     write_receiver(words, place, next);

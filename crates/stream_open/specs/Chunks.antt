@@ -1,0 +1,93 @@
+-- Opening a stream behind its head, one piece a step: a length and its payload by turns (SIP022, section 3.1).
+use mathlib.Core.Bool.{Bool, true, false}
+use mathlib.Core.List.{List}
+use Prim.Native.Nat.{ℕ, _+_}
+use lib.Dec.{eqb, leb}
+use lib.ListN.{length, take}
+use Rattle.octets.specs.Buffers.{both, put}
+use Rattle.octets.specs.Numbers.{be}
+use Rattle.aes.specs.KeyExpansion.{if}
+use Rattle.protocol.specs.declared.Refusal.{Refusal}
+use Rattle.protocol.specs.declared.Refusal.the-variants.{Settings, Room, NotAuthentic, More, Counter}
+use Rattle.protocol.specs.Method.{keyLength}
+use Rattle.protocol.specs.Refusal.{refusalNumber}
+use Rattle.stream.specs.Pieces.{authenticAt, openAt, keyOf}
+use Rattle.stream.specs.Sealing.{lastCounter}
+use Rattle.stream_open.specs.declared.Turn.{Turn}
+use Rattle.stream_open.specs.declared.Turn.the-variants.{Length, Payload, Ended}
+use Rattle.stream_open.specs.declared.Receiver.{Receiver}
+use Rattle.stream_open.specs.declared.Chunk.{Chunk}
+use Rattle.stream_open.specs.declared.Stepped.{Stepped}
+use Rattle.stream_open.specs.declared.Stepped.the-variants.{Opened, Refused}
+
+abbrev pub pickStepped : Bool → Stepped → Stepped → Stepped
+pickStepped true a b = a
+pickStepped false a b = b
+
+-- the key of a stream, by its method
+abbrev pub streamKey : Receiver → List ℕ
+streamKey st = keyOf (st .subkey) (keyLength (st .method))
+
+-- ---- one piece of n bytes of plaintext: 11, 10, 3, 4; a length asks for no room
+
+unfoldable pub pieceAnswer : Receiver → (n : ℕ) → List ℕ → (asked room : ℕ) → Stepped → Stepped
+pieceAnswer st n s asked room good =
+    pickStepped (eqb (st .counter) lastCounter) (Refused Counter)
+    (pickStepped (leb (n + 16) (length s))
+    (pickStepped (leb asked room)
+    (pickStepped (authenticAt (streamKey st) (st .counter) (take (n + 16) s)) good (Refused NotAuthentic)) (Refused Room))
+    (Refused (More (n + 16))))
+
+-- what was read as a length
+unfoldable pub lengthRead : Receiver → List ℕ → ℕ
+lengthRead st s = be 2 (openAt (streamKey st) (st .counter) (take 18 s))
+
+abbrev pub turnAnswer : Turn → Receiver → List ℕ → ℕ → Stepped
+turnAnswer Length st s room = pieceAnswer st 2 s 0 room (Opened (record { used = 18; length = lengthRead st s }))
+turnAnswer (Payload n) st s room = pieceAnswer st n s n room (Opened (record { used = n + 16; length = n }))
+turnAnswer Ended st s room = Refused NotAuthentic
+
+-- 1, 4 of a stream that has ended, and the piece's
+unfoldable pub stepAnswer : Receiver → List ℕ → ℕ → Stepped
+stepAnswer st s room = pickStepped (eqb (keyLength (st .method)) 0) (Refused Settings) (turnAnswer (st .turn) st s room)
+
+-- ---- what is written: a payload, to the front of the buffer
+
+abbrev pub writtenBy : Stepped → Turn → List ℕ → List ℕ → List ℕ
+writtenBy (Opened c) (Payload n) plain out = put out 0 plain
+writtenBy (Opened c) Length plain out = out
+writtenBy (Opened c) Ended plain out = out
+writtenBy (Refused r) turn plain out = out
+
+abbrev pub payloadPiece : Turn → List ℕ → List ℕ
+payloadPiece (Payload n) s = take (n + 16) s
+payloadPiece Length s = s
+payloadPiece Ended s = s
+
+unfoldable pub stepOut : Receiver → List ℕ → List ℕ → List ℕ
+stepOut st s out =
+    writtenBy (stepAnswer st s (length out)) (st .turn) (openAt (streamKey st) (st .counter) (payloadPiece (st .turn) s)) out
+
+-- ---- the state behind a step: one counter further, at the other turn; refusal 4 ends the stream, and no other moves it
+
+abbrev pub turnAfter : Turn → ℕ → Turn
+turnAfter Length n = Payload n
+turnAfter (Payload m) n = Length
+turnAfter Ended n = Ended
+
+abbrev pub ended : Receiver → Receiver
+ended st = record { method = st .method; turn = Ended; counter = st .counter; subkey = st .subkey }
+
+abbrev pub pickReceiver : Bool → Receiver → Receiver → Receiver
+pickReceiver true a b = a
+pickReceiver false a b = b
+
+abbrev pub refusedNext : Refusal → Receiver → Receiver
+refusedNext r st = pickReceiver (eqb (refusalNumber r) 4) (ended st) st
+
+abbrev pub advances : Receiver → ℕ → Receiver
+advances st n = record { method = st .method; turn = turnAfter (st .turn) n; counter = st .counter + 1; subkey = st .subkey }
+
+abbrev pub stepNext : Receiver → Stepped → Receiver
+stepNext st (Opened c) = advances st (c .length)
+stepNext st (Refused r) = refusedNext r st

@@ -1,0 +1,148 @@
+// Opening a stream behind its head: one piece a step, a length and its payload by turns.
+use super::Chunk;
+use super::Receiver;
+use super::Step;
+use super::Stepped;
+use super::Turn;
+use super::wide;
+use protocol::Refusal;
+use stream::LAST_COUNTER;
+use stream::open_piece;
+ghost use mathlib.Core.Path.{_≡_};
+ghost use Prim.Native.Nat.{_+_, _<_};
+ghost use lib.ListN.{length, take};
+ghost use Rattle.aes.specs.Keyed.{nkOf};
+ghost use Rattle.protocol.specs.Method.{keyLength};
+ghost use Rattle.stream.specs.Pieces.{openAt};
+ghost use Rattle.stream.specs.Sealing.{lastCounter};
+ghost use Rattle.stream_open.specs.declared.Turn.the-variants.{Length, Payload};
+ghost use Rattle.stream_open.specs.Chunks.{streamKey, turnAnswer, writtenBy, stepAnswer, stepOut, turnAfter, advances, refusedNext, stepNext};
+
+// A length: refusals 11, 10 and 4, in this order, or what it says. Nothing is written.
+fn open_length(stream: Receiver, k: usize, s: &[u8], room: usize) -> Stepped
+    requires { ⌜ 0 < nkOf k ⌝ }
+    requires { ⌜ k ≡ keyLength (stream .method) ⌝ }
+    ensures { λ r. ⌜ r ≡ turnAnswer Length stream (now (s .entry)) room ⌝ }
+{
+    if stream.counter == LAST_COUNTER {
+        return Stepped::Refused(Refusal::Counter);
+    }
+    if s.len() < 18 {
+        return Stepped::Refused(Refusal::More(18));
+    }
+    let mut text = [0u8; 2];
+    let w = stream.subkey;
+    if open_piece(w, k, stream.counter, &s[..18], &mut text) {
+        return Stepped::Opened(Chunk {
+            used: 18,
+            length: octets::read_u16_be(&text, 0),
+        });
+    }
+    Stepped::Refused(Refusal::NotAuthentic)
+}
+
+// A payload of n bytes: refusals 11, 10, 3 and 4, in this order, or it is in the buffer.
+fn open_payload(stream: Receiver, k: usize, n: u16, s: &[u8], out: &mut [u8]) -> Stepped
+    requires { ⌜ 0 < nkOf k ⌝ }
+    requires { ⌜ k ≡ keyLength (stream .method) ⌝ }
+    ensures { λ r. ⌜ r ≡ turnAnswer (Payload n) stream (now (s .entry)) (length (now (out .entry))) ⌝ }
+    ensures { λ r. ⌜ now (out .exit) ≡ writtenBy r (Payload n) (openAt (streamKey stream) (stream .counter) (take (n + 16) (now (s .entry)))) (now (out .entry)) ⌝ }
+{
+    let due = wide(n);
+    if stream.counter == LAST_COUNTER {
+        return Stepped::Refused(Refusal::Counter);
+    }
+    if s.len() < due + 16 {
+        return Stepped::Refused(Refusal::More((due + 16) as u64));
+    }
+    if out.len() < due {
+        return Stepped::Refused(Refusal::Room);
+    }
+    let w = stream.subkey;
+    if open_piece(w, k, stream.counter, &s[..due + 16], out) {
+        return Stepped::Opened(Chunk {
+            used: due + 16,
+            length: n,
+        });
+    }
+    Stepped::Refused(Refusal::NotAuthentic)
+}
+
+fn open_turn(stream: Receiver, s: &[u8], out: &mut [u8]) -> Stepped
+    ensures { λ r. ⌜ r ≡ stepAnswer stream (now (s .entry)) (length (now (out .entry))) ⌝ }
+    ensures { λ r. ⌜ now (out .exit) ≡ stepOut stream (now (s .entry)) (now (out .entry)) ⌝ }
+{
+    let k = protocol::key_length(stream.method);
+    if k == 0 {
+        return Stepped::Refused(Refusal::Settings);
+    }
+    let turn = stream.turn;
+    match turn {
+        Turn::Length => open_length(stream, k, s, out.len()),
+        Turn::Payload(n) => open_payload(stream, k, n, s, out),
+        Turn::Ended => Stepped::Refused(Refusal::NotAuthentic),
+    }
+}
+
+// ---- the state behind a step
+
+fn turn_after(turn: Turn, n: u16) -> Turn
+    ensures { λ r. ⌜ r ≡ turnAfter turn n ⌝ }
+{
+    match turn {
+        Turn::Length => Turn::Payload(n),
+        Turn::Payload(_) => Turn::Length,
+        Turn::Ended => Turn::Ended,
+    }
+}
+
+// One counter further, at the other turn.
+fn advanced(stream: Receiver, n: u16) -> Receiver
+    requires { ⌜ (stream .counter ≡ lastCounter → ⊥) ⌝ }
+    ensures { λ r. ⌜ r ≡ advances stream n ⌝ }
+{
+    let turn = stream.turn;
+    let w = stream.subkey;
+    Receiver {
+        method: stream.method,
+        turn: turn_after(turn, n),
+        counter: stream.counter + 1,
+        subkey: w,
+    }
+}
+
+// Refusal 4 ends a stream, and no other moves it.
+fn refused_next(stream: Receiver, refusal: Refusal) -> Receiver
+    ensures { λ r. ⌜ r ≡ refusedNext refusal stream ⌝ }
+{
+    if refusal.number() == 4 {
+        let w = stream.subkey;
+        return Receiver {
+            method: stream.method,
+            turn: Turn::Ended,
+            counter: stream.counter,
+            subkey: w,
+        };
+    }
+    stream
+}
+
+// Opens the next piece of a stream: a length, or a payload to the front of the lent buffer. Refusals 1, 4 (of a stream that
+// has ended), 11, 10, 3 and 4, in this order; they write nothing, and only 4 moves the stream: it ends it.
+pub fn open_chunk(stream: Receiver, s: &[u8], out: &mut [u8]) -> Step
+    ensures { λ r. ⌜ r .answer ≡ stepAnswer stream (now (s .entry)) (length (now (out .entry))) ⌝ }
+    ensures { λ r. ⌜ r .stream ≡ stepNext stream (r .answer) ⌝ }
+    ensures { λ r. ⌜ now (out .exit) ≡ stepOut stream (now (s .entry)) (now (out .entry)) ⌝ }
+{
+    let answer = open_turn(stream, s, out);
+    match answer {
+        Stepped::Opened(c) => Step {
+            answer: answer,
+            stream: advanced(stream, c.length),
+        },
+        Stepped::Refused(r) => Step {
+            answer: answer,
+            stream: refused_next(stream, r),
+        },
+    }
+}
