@@ -10,7 +10,7 @@ use lib.Arith.{mod-mul}
 use lib.Pow.{shr-shr, pow-pos}
 use lib.Bits.{block-half, block-odd, shifted-half, shifted-even}
 use lib.Dec.{eqb}
-use Rattle.session.specs.Table.{bit}
+use Rattle.window.specs.Window.{bit}
 use Rattle.book.proofs.Tests.{eqb-true, eqb-ne}
 
 pub bit-zero : (m : ℕ) → bit m 0 ≡ eqb (m % 2) 1

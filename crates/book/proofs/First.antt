@@ -7,8 +7,9 @@ use Prim.Native.Nat.{ℕ, zero, suc, _-_, _≤_, zero-le}
 use native.Mathlib.Omega.{arith}
 use lib.Dec.{leb, ltb, eqb}
 use Rattle.records.proofs.SearchLaws.{lowest-found, lowest-none}
-use Rattle.session.specs.Sizes.{capacity, window, alive}
-use Rattle.session.specs.Table.{Record, retention, newTable, recordAt, lowest, live, holds, bit, sessionPlace}
+use Rattle.window.specs.Window.{window, bit}
+use Rattle.session.specs.Sizes.{capacity, alive}
+use Rattle.session.specs.Table.{Record, retention, newTable, recordAt, lowest, live, holds, sessionPlace}
 use Rattle.book.specs.Call.{Call, Outcome, refused, Decision}
 use Rattle.book.specs.Book.{Page, one, page, member, bookNext, bookOutcomes, bookAfter}
 use Rattle.book.specs.Runs.{tableOutcomeBy, tableNextBy, tableOutcomes, tableAfter}

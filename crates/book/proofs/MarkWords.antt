@@ -4,7 +4,7 @@ use Prim.Native.Nat.{ℕ, zero, suc, _+_, _*_, _/_, _%_, _^_, _<_}
 use native.Mathlib.Nat.{pow-suc, le-of-suc-le-suc, zero-add, suc-add}
 use native.Mathlib.Omega.{arith}
 use lib.Dec.{eqb}
-use Rattle.session.specs.Table.{bit, join4}
+use Rattle.window.specs.Window.{bit, join4}
 use Rattle.book.proofs.Bits.{bit-zero, bit-suc}
 
 half : (n lo hi : ℕ) → (lo + 2 ^ suc n * hi) / 2 ≡ lo / 2 + 2 ^ n * hi

@@ -9,8 +9,8 @@ use native.Mathlib.Omega.{arith}
 use lib.Dec.{ltb, eqb, lit<}
 use lib.Pow.{pow-pos}
 use Rattle.session.specs.declared.Peer.{Peer}
-use Rattle.session.specs.Sizes.{window}
-use Rattle.session.specs.Table.{Record, bit, freshIn, markedWith, acceptIn, newRecord}
+use Rattle.window.specs.Window.{window, bit}
+use Rattle.session.specs.Table.{Record, freshIn, markedWith, acceptIn, newRecord}
 use Rattle.book.specs.Book.{Page, member, fresh, accept, newPage}
 use Rattle.book.proofs.Tests.{eqb-true, eqb-false, eqb-eq, eqb-ne, leb-le, leb-lt}
 use Rattle.book.proofs.Bits.{bit-zero, bit-suc, moved-zero, moved-low, moved-high, bit-cut, set-same, set-other, set-fits}

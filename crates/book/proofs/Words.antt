@@ -12,8 +12,9 @@ use lib.ListN.{length, getD, replicate, getD-replicate, List·getD-eq-default, l
 use lib.Seq.{length-sets}
 use lib.Pow.{shr-lt}
 use Rattle.records.proofs.WordLaws.{sets-before, sets-after, sets-in}
-use Rattle.session.specs.Sizes.{capacity, window}
-use Rattle.session.specs.Table.{Record, recordWords, tableWords, start, retention, newTable, join4, recordAt, wordsOf, store, lawful}
+use Rattle.window.specs.Window.{window, join4}
+use Rattle.session.specs.Sizes.{capacity}
+use Rattle.session.specs.Table.{Record, recordWords, tableWords, start, retention, newTable, recordAt, wordsOf, store, lawful}
 use Rattle.book.proofs.Tests.{eqb-true, leb-true, leb-le, leb-lt}
 
 -- ---- the other records

@@ -6,7 +6,8 @@ use mathlib.Core.List.{List, [], _∷_}
 use mathlib.Core.Option.{Option, none, some}
 use lib.Dec.{leb, ltb, eqb}
 use Rattle.session.specs.declared.Peer.{Peer}
-use Rattle.session.specs.Sizes.{capacity, window}
+use Rattle.window.specs.Window.{window}
+use Rattle.session.specs.Sizes.{capacity}
 use Rattle.book.specs.Call.{Call, Outcome, refused, Decision, early, reaches, openedOutcome, refusedOutcome}
 
 pub record Page : Type 0 where

@@ -10,8 +10,9 @@ use Prim.Native.Nat.{ℕ, _+_, _-_, _^_, _≤_, _<_}
 use lib.Dec.{T, leb, ltb, eqb}
 use lib.ListN.{length, getD}
 use Rattle.session.specs.declared.Peer.{Peer}
-use Rattle.session.specs.Sizes.{capacity, window}
-use Rattle.session.specs.Table.{Record, recordAt, retention, newTable, holds, sessionPlace, bit}
+use Rattle.window.specs.Window.{window, bit}
+use Rattle.session.specs.Sizes.{capacity}
+use Rattle.session.specs.Table.{Record, recordAt, retention, newTable, holds, sessionPlace}
 use Rattle.book.specs.Call.{Call, noCall, refused, Outcome, Decision, reaches}
 use Rattle.book.specs.Book.{Page, page, member, one, bookOutcomes, bookAfter}
 use Rattle.book.specs.Runs.{tableOutcomes, tableAfter}

@@ -6,8 +6,8 @@ use mathlib.Core.Path.{_≡_, refl, sym, ap, _∙_}
 use lib.Dec.{ltb}
 use borrow.Author.Tests.{lt-ltb, le-ltb, ltb-true}
 use Rattle.session.specs.declared.Peer.{Peer}
-use Rattle.session.specs.Sizes.{window}
-use Rattle.session.specs.Table.{Record, bit, freshIn, markedWith, acceptIn}
+use Rattle.window.specs.Window.{window, bit}
+use Rattle.session.specs.Table.{Record, freshIn, markedWith, acceptIn}
 
 both : (a b : Bool) → (a && not b) ≡ true → (a ≡ true) × (b ≡ false)
 both true false e = (refl, refl)

@@ -1,5 +1,5 @@
--- What the session table and the plain book have in common: how many sessions there are, how wide the window is, and when a
--- session is alive.
+-- What the session table and the plain book have in common, beside the window's width: how many sessions there are, and when
+-- a session is alive.
 use mathlib.Core.Bool.{Bool}
 use Prim.Native.Nat.{ℕ, _+_}
 use lib.Dec.{leb}
@@ -7,10 +7,6 @@ use lib.Dec.{leb}
 -- the most sessions that are alive at a time
 abbrev pub capacity : ℕ
 capacity = 64
-
--- the width of the window
-abbrev pub window : ℕ
-window = 256
 
 -- a session is alive while the clock is not past its last time, or past it by no more than the retention R; of a record that
 -- is in use, `current` says the same

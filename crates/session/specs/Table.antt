@@ -7,11 +7,12 @@ use lib.Dec.{leb, ltb, eqb}
 use lib.ListN.{length, getD, replicate}
 use lib.Seq.{sets}
 use Rattle.records.specs.Records.{current, lowestFrom}
+use Rattle.window.specs.Window.{window, bit, join4}
 use Rattle.session.specs.declared.Peer.{Peer}
 use Rattle.session.specs.declared.Session.{Session}
 use Rattle.session.specs.declared.Admitted.{Admitted}
 use Rattle.session.specs.declared.Admitted.the-variants.{Accepted, Replay, Full}
-use Rattle.session.specs.Sizes.{capacity, window}
+use Rattle.session.specs.Sizes.{capacity}
 
 -- ---- the layout: R, then a record of `recordWords` words for each session
 
@@ -57,9 +58,6 @@ pub record Record : Type 0 where
   pub marks : ℕ
   pub peer : Peer
 
-abbrev pub join4 : ℕ → ℕ → ℕ → ℕ → ℕ
-join4 w0 w1 w2 w3 = w0 + 2 ^ 64 * (w1 + 2 ^ 64 * (w2 + 2 ^ 64 * w3))
-
 abbrev pub recordAt : List ℕ → ℕ → Record
 recordAt t i =
     record {
@@ -94,10 +92,6 @@ recordOf s =
     }
 
 -- ---- the window
-
--- is packet ID h - d marked
-abbrev pub bit : ℕ → ℕ → Bool
-bit marks d = eqb (marks / 2 ^ d % 2) 1
 
 abbrev pub freshIn : Record → ℕ → Bool
 freshIn r p = ltb (r .h) p || ltb (r .h - p) window && not (bit (r .marks) (r .h - p))

@@ -1,21 +1,22 @@
 // The session table: lent words, one record for each session behind the retention. Any words have a meaning, so nothing here
 // assumes an invariant of the table.
+use window::WINDOW;
+use window::is_marked;
+use window::moved;
+use window::with_mark;
 ghost use mathlib.Core.Path.{_≡_};
-ghost use mathlib.Core.Bool.{true, false};
+ghost use mathlib.Core.Bool.{true};
 ghost use mathlib.Core.Option.{none, some};
-ghost use Prim.Native.Nat.{_+_, _*_, _%_, _^_, _<_, max};
+ghost use Prim.Native.Nat.{_<_, max};
 ghost use lib.ListN.{length};
-ghost use Rattle.session.specs.Sizes.{capacity, window};
-ghost use Rattle.session.specs.Table.{tableWords, retention, lawful, madeRetention, makeLawful, made, recordAt, recordOf, wordsOf, store as storeOf, bit, freshIn, acceptIn, newRecord, live, sessionPlace, freePlace, placeNumber, meetBy, meet, keep, admitted};
-ghost use Rattle.session.specs.Words.{number, wordOf};
+ghost use Rattle.session.specs.Sizes.{capacity};
+ghost use Rattle.session.specs.Table.{tableWords, retention, lawful, madeRetention, makeLawful, made, recordAt, recordOf, wordsOf, store as storeOf, freshIn, acceptIn, newRecord, live, sessionPlace, freePlace, placeNumber, meetBy, meet, keep, admitted};
 
 pub const SESSIONS: usize = 64;
 
 pub const WORDS: usize = 11;
 
 pub const TABLE: usize = 1 + SESSIONS * WORDS;
-
-pub const WINDOW: u64 = 256;
 
 // The words of a record behind the first, which tells whether it is in use.
 const ID: usize = 1;
@@ -62,70 +63,7 @@ pub enum Admitted {
     Full,
 }
 
-// ---- the window
-
-// The upper word of the pair (hi, lo) moved up by n bits.
-fn raised(hi: u64, lo: u64, n: u64) -> u64
-    requires { ⌜ n < 64 ⌝ }
-    ensures { λ r. ⌜ r ≡ wordOf ((lo + hi * 2 ^ 64) * 2 ^ n) 1 ⌝ }
-{
-    if n == 0 {
-        return hi;
-    }
-    (hi << n) | (lo >> (64 - n))
-}
-
-// Word k of the window moved up by d bits.
-fn moved_word(marks: [u64; 4], d: u64, k: usize) -> u64
-    requires { ⌜ (k < 4) × (d < window) ⌝ }
-    ensures { λ r. ⌜ r ≡ wordOf (number marks * 2 ^ d) k ⌝ }
-{
-    let w = (d / 64) as usize;
-    let n = d % 64;
-    if k < w {
-        return 0;
-    }
-    if k == w {
-        return raised(marks[0], 0, n);
-    }
-    raised(marks[k - w], marks[k - w - 1], n)
-}
-
-// The window moved up by d, with the new highest packet ID marked.
-fn moved(marks: [u64; 4], d: u64) -> [u64; 4]
-    requires { ⌜ 0 < d ⌝ }
-    ensures { λ r. ⌜ number r ≡ (number marks * 2 ^ d + 1) % 2 ^ window ⌝ }
-{
-    if WINDOW <= d {
-        return [1, 0, 0, 0];
-    }
-    [
-        moved_word(marks, d, 0) + 1,
-        moved_word(marks, d, 1),
-        moved_word(marks, d, 2),
-        moved_word(marks, d, 3),
-    ]
-}
-
-// Whether bit j of the window is set.
-fn is_marked(marks: [u64; 4], j: u64) -> bool
-    requires { ⌜ j < window ⌝ }
-    ensures { λ r. ⌜ r ≡ bit (number marks) j ⌝ }
-{
-    let k = (j / 64) as usize;
-    (marks[k] >> (j % 64)) % 2 == 1
-}
-
-// The window with bit j, which is not set, set.
-fn with_mark(marks: [u64; 4], j: u64) -> [u64; 4]
-    requires { ⌜ (j < window) × (bit (number marks) j ≡ false) ⌝ }
-    ensures { λ r. ⌜ number r ≡ number marks + 2 ^ j ⌝ }
-{
-    let k = (j / 64) as usize;
-    let mut m = marks;
-    m[k] = m[k] + (1 << (j % 64));
-    m
-}
+// ---- one session
 
 fn is_fresh(s: Session, p: u64) -> bool
     ensures { λ r. ⌜ r ≡ freshIn (recordOf s) p ⌝ }
@@ -140,8 +78,6 @@ fn is_fresh(s: Session, p: u64) -> bool
     }
     false
 }
-
-// ---- one session
 
 fn larger(x: u64, y: u64) -> u64
     ensures { λ r. ⌜ r ≡ max x y ⌝ }

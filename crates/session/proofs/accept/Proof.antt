@@ -2,7 +2,7 @@
 use native.Mathlib.Nat.{max-eq-left, max-eq-right, le-of-lt}
 use mathlib.Core.Path.{sym, _∙_}
 use Rattle.session.specs.Table.{recordOf}
-use Rattle.session.specs.Words.{number}
+use Rattle.window.specs.Window.{number}
 use Rattle.session.proofs.WindowLaws.{fresh-below, marked-above, marked-below, accepts}
 use borrow.Author.Needs.{needs}
 use Rattle.session.proofs.accept.Statement.{statement}

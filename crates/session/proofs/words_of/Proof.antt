@@ -5,8 +5,8 @@ use mathlib.Core.Path.{_≡_, ap}
 use lib.ListN.{length, getD}
 use mir.Syntax.{w64}
 use mir.Val.{Fits}
-use Rattle.session.specs.Words.{number}
-use Rattle.session.proofs.MarkLaws.{number-list}
+use Rattle.window.specs.Window.{number}
+use Rattle.window.proofs.MarkLaws.{number-list}
 use borrow.Author.Needs.{needs}
 use Rattle.session.proofs.words_of.Statement.{statement}
 use Rattle.session.proofs.words_of.Tie as tie

@@ -4,10 +4,10 @@ use mathlib.Core.Path.{_≡_}
 use lib.ListN.{length, getD}
 use mir.Syntax.{w64}
 use mir.Val.{Fits}
-use Rattle.session.proofs.MarkLaws.{bit-found}
+use Rattle.window.proofs.MarkLaws.{bit-found}
 use borrow.Author.Needs.{needs}
-use Rattle.session.proofs.is_marked.Statement.{statement}
-use Rattle.session.proofs.is_marked.Tie as tie
+use Rattle.window.proofs.is_marked.Statement.{statement}
+use Rattle.window.proofs.is_marked.Tie as tie
 
 returns : tie.Need-returns
 returns c =

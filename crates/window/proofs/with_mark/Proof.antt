@@ -5,12 +5,12 @@ use mathlib.Core.Path.{_≡_, ap, _∙_}
 use lib.ListN.{length, getD, set}
 use mir.Syntax.{w64}
 use mir.Val.{Fits}
-use Rattle.session.specs.Words.{number}
-use Rattle.session.proofs.ShiftLaws.{one-up}
-use Rattle.session.proofs.MarkLaws.{mark-fits, mark-set}
+use Rattle.window.specs.Window.{number}
+use Rattle.window.proofs.ShiftLaws.{one-up}
+use Rattle.window.proofs.MarkLaws.{mark-fits, mark-set}
 use borrow.Author.Needs.{needs}
-use Rattle.session.proofs.with_mark.Statement.{statement}
-use Rattle.session.proofs.with_mark.Tie as tie
+use Rattle.window.proofs.with_mark.Statement.{statement}
+use Rattle.window.proofs.with_mark.Tie as tie
 
 add-m : tie.Need-add-m
 add-m c =

@@ -10,10 +10,8 @@ use borrow.Author.Tests.{eqb-false}
 use mathlib.Core.Bool.{false}
 use mathlib.Core.List.{List, [], _∷_}
 use mathlib.Core.Path.{_≡_, sym, ap, _∙_}
-use Rattle.session.specs.Sizes.{window}
-use Rattle.session.specs.Table.{bit}
-use Rattle.session.specs.Words.{number, wordOf}
-use Rattle.session.proofs.ShiftLaws.{bit-word, set-fits, one-more-first, one-more-rest, moved-far}
+use Rattle.window.specs.Window.{window, bit, number, wordOf}
+use Rattle.window.proofs.ShiftLaws.{bit-word, set-fits, one-more-first, one-more-rest, moved-far}
 
 -- each word of the list is below 2 ^ 64
 abbrev pub Bounded : List ℕ → Type 0

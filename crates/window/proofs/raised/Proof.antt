@@ -1,10 +1,10 @@
 -- The upper word of a pair, by the law `raise`.
 use Prim.Native.Nat.{_-_}
 use native.Mathlib.Omega.{arith}
-use Rattle.session.proofs.ShiftLaws.{raise, raise-none}
+use Rattle.window.proofs.ShiftLaws.{raise, raise-none}
 use borrow.Author.Needs.{needs}
-use Rattle.session.proofs.raised.Statement.{statement}
-use Rattle.session.proofs.raised.Tie as tie
+use Rattle.window.proofs.raised.Statement.{statement}
+use Rattle.window.proofs.raised.Tie as tie
 
 returns : tie.Need-returns
 returns c = raise-none _ _ _ (c .if1 .taken) (search needs) (search needs)

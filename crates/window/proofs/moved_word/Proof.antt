@@ -5,12 +5,12 @@ use mathlib.Core.Path.{_≡_, refl, sym, ap, _∙_}
 use lib.ListN.{length, getD}
 use mir.Syntax.{w64}
 use mir.Val.{Fits}
-use Rattle.session.specs.Words.{number, wordOf}
-use Rattle.session.proofs.ShiftLaws.{moved-below, moved-first, moved-pair}
-use Rattle.session.proofs.MarkLaws.{word-number}
+use Rattle.window.specs.Window.{number, wordOf}
+use Rattle.window.proofs.ShiftLaws.{moved-below, moved-first, moved-pair}
+use Rattle.window.proofs.MarkLaws.{word-number}
 use borrow.Author.Needs.{needs}
-use Rattle.session.proofs.moved_word.Statement.{statement}
-use Rattle.session.proofs.moved_word.Tie as tie
+use Rattle.window.proofs.moved_word.Statement.{statement}
+use Rattle.window.proofs.moved_word.Tie as tie
 
 returns : tie.Need-returns
 returns c = sym (moved-below (number (c .before .args .t1)) _ _ (omega arith))

@@ -8,8 +8,7 @@ use lib.Arith.{digits-lt}
 use lib.Dec.{lit<}
 use lib.Bits.{bitOr, or-shifted}
 use mathlib.Core.Path.{_≡_, sym, ap, subst, _∙_}
-use Rattle.session.specs.Sizes.{window}
-use Rattle.session.specs.Words.{wordOf}
+use Rattle.window.specs.Window.{window, wordOf}
 
 -- ---- shifts
 

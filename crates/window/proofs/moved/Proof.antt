@@ -1,11 +1,11 @@
 -- Moved by 256 or more there is the new mark alone; by less, each word is known.
 use native.Mathlib.Omega.{arith}
-use Rattle.session.specs.Words.{number}
-use Rattle.session.proofs.ShiftLaws.{one-more-fits}
-use Rattle.session.proofs.MarkLaws.{far, near}
+use Rattle.window.specs.Window.{number}
+use Rattle.window.proofs.ShiftLaws.{one-more-fits}
+use Rattle.window.proofs.MarkLaws.{far, near}
 use borrow.Author.Needs.{needs}
-use Rattle.session.proofs.moved.Statement.{statement}
-use Rattle.session.proofs.moved.Tie as tie
+use Rattle.window.proofs.moved.Statement.{statement}
+use Rattle.window.proofs.moved.Tie as tie
 
 returns : tie.Need-returns
 returns c = far (number (c .before .args .marks)) (c .before .args .d) (c .if1 .taken)

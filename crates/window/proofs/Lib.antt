@@ -1,0 +1,3 @@
+-- Laws of the window's definitions.
+pub mod ShiftLaws
+pub mod MarkLaws
