@@ -1,0 +1,202 @@
+// Session tables, sending sessions and datagrams.
+use super::SETTINGS;
+use datagram::Begun;
+use datagram::Sealed;
+use datagram::Sender;
+use datagram_open::Opened;
+use session::Peer;
+use words::ANSWER;
+use words::SESSION;
+use words::header_words;
+use words::is_session;
+use words::session_in;
+use words::session_words;
+ghost use mathlib.Core.Path.{_≡_};
+ghost use mathlib.Core.Option.{none, some};
+ghost use lib.ListN.{length};
+ghost use Rattle.session.specs.Table.{makeLawful, made};
+ghost use Rattle.datagram.specs.declared.Begun.the-variants.{Ready};
+ghost use Rattle.datagram.specs.Sealing.{clientSender, begun, datagram, sealOut};
+ghost use Rattle.datagram_open.specs.Deciding.{answerOf};
+ghost use Rattle.words.specs.Answers.{answerWords};
+ghost use Rattle.words.specs.States.{sessionSize, sessionIn};
+ghost use Rattle.relay.specs.Datagrams.{settingsNumber, begunIn, begunNumber, begunSession, sealedAnswer, sealedNumber, sealedWords, sealedSession, openedNumber, openedWords, callerOf, relayedAnswer, relayedOut, relayedTable};
+
+// Makes a session table of 705 words, with a retention of 60 to 3,600 seconds; 0 stands for 60.
+#[no_mangle]
+pub extern "C" fn relay_table_new(retention: u64, table: &mut [u64]) -> u64
+    ensures { λ r. ⌜ r ≡ settingsNumber (makeLawful retention (now (table .entry))) ⌝ }
+    ensures { λ r. ⌜ now (table .exit) ≡ made retention (now (table .entry)) ⌝ }
+{
+    if session::make(retention, table) {
+        return 0;
+    }
+    SETTINGS
+}
+
+// ---- sending sessions
+
+fn begin(begun: Begun, session: &mut [u64]) -> u64
+    ensures { λ r. ⌜ r ≡ begunNumber (begunIn (length (now (session .entry))) begun) ⌝ }
+    ensures { λ r. ⌜ now (session .exit) ≡ begunSession (begunIn (length (now (session .entry))) begun) (now (session .entry)) ⌝ }
+{
+    if session.len() != SESSION {
+        return SETTINGS;
+    }
+    match begun {
+        Begun::Ready(sender) => {
+            let words = session_words(sender);
+            records::write(session, 0, &words);
+            0
+        }
+        Begun::Refused(refusal) => refusal.number(),
+    }
+}
+
+// Begins a client's sending session, in 4 words.
+#[no_mangle]
+pub extern "C" fn relay_session_begin_client(id: u64, session: &mut [u64]) -> u64
+    ensures { λ r. ⌜ r ≡ begunNumber (begunIn (length (now (session .entry))) (Ready (clientSender id))) ⌝ }
+    ensures { λ r. ⌜ now (session .exit) ≡ begunSession (begunIn (length (now (session .entry))) (Ready (clientSender id))) (now (session .entry)) ⌝ }
+{
+    begin(Begun::Ready(Sender::client(id)), session)
+}
+
+// Begins a server's, in reply to a client's session of another ID.
+#[no_mangle]
+pub extern "C" fn relay_session_begin_server(id: u64, client: u64, session: &mut [u64]) -> u64
+    ensures { λ r. ⌜ r ≡ begunNumber (begunIn (length (now (session .entry))) (begun id client)) ⌝ }
+    ensures { λ r. ⌜ now (session .exit) ≡ begunSession (begunIn (length (now (session .entry))) (begun id client)) (now (session .entry)) ⌝ }
+{
+    begin(Sender::server(id, client), session)
+}
+
+// ---- sealing
+
+// Seals a datagram to the front of the lent buffer and moves the session one packet ID further. The answer is its length.
+#[no_mangle]
+pub extern "C" fn relay_datagram_seal(
+    method: u64,
+    key: &[u8],
+    session: &mut [u64],
+    clock: u64,
+    address: &[u8],
+    padding: usize,
+    payload: &[u8],
+    out: &mut [u8],
+    answer: &mut [u64],
+) -> u64
+    ensures { λ r. ⌜ r ≡ sealedNumber (sealedAnswer method (length (now (key .entry))) (now (session .entry)) (now (address .entry)) padding (length (now (payload .entry))) (length (now (out .entry))) (length (now (answer .entry)))) ⌝ }
+    ensures { λ r. ⌜ now (session .exit) ≡ sealedSession (sealedAnswer method (length (now (key .entry))) (now (session .entry)) (now (address .entry)) padding (length (now (payload .entry))) (length (now (out .entry))) (length (now (answer .entry)))) (now (session .entry)) ⌝ }
+    ensures { λ r. ⌜ now (out .exit) ≡ sealOut (sealedAnswer method (length (now (key .entry))) (now (session .entry)) (now (address .entry)) padding (length (now (payload .entry))) (length (now (out .entry))) (length (now (answer .entry)))) (datagram (now (key .entry)) (sessionIn (now (session .entry))) clock (now (address .entry)) padding (now (payload .entry))) (now (out .entry)) ⌝ }
+    ensures { λ r. ⌜ now (answer .exit) ≡ sealedWords (sealedAnswer method (length (now (key .entry))) (now (session .entry)) (now (address .entry)) padding (length (now (payload .entry))) (length (now (out .entry))) (length (now (answer .entry)))) (now (answer .entry)) ⌝ }
+{
+    if answer.len() != ANSWER {
+        return SETTINGS;
+    }
+    if is_session(session) {
+        let sender = session_in(session);
+        let done = datagram::seal(method, key, sender, clock, address, padding, payload, out);
+        let sealed = done.answer;
+        let next = done.sender;
+        return match sealed {
+            Sealed::Datagram(n) => {
+                session[3] = next.packet;
+                answer[0] = n as u64;
+                0
+            }
+            Sealed::Refused(refusal) => refusal.number(),
+        };
+    }
+    SETTINGS
+}
+
+// ---- opening
+
+// Gives an opened datagram's header to the caller.
+fn tell(opened: Opened, answer: &mut [u64]) -> u64
+    requires { ⌜ length (now answer) ≡ answerWords ⌝ }
+    ensures { λ r. ⌜ r ≡ openedNumber (answerOf opened) ⌝ }
+    ensures { λ r. ⌜ now (answer .exit) ≡ openedWords (answerOf opened) (now (answer .entry)) ⌝ }
+{
+    match opened {
+        Opened::Datagram(header) => {
+            let words = header_words(header);
+            records::write(answer, 0, &words);
+            0
+        }
+        Opened::Refused(refusal) => refusal.number(),
+    }
+}
+
+// Opens a client's datagram, for a server, into the lent buffer.
+#[no_mangle]
+pub extern "C" fn relay_datagram_open_server(
+    method: u64,
+    key: &[u8],
+    clock: u64,
+    first: u64,
+    second: u64,
+    port: u16,
+    datagram: &[u8],
+    table: &mut [u64],
+    out: &mut [u8],
+    answer: &mut [u64],
+) -> u64
+    ensures { λ r. ⌜ r ≡ openedNumber (relayedAnswer method (now (key .entry)) none clock (callerOf first second port) (now (datagram .entry)) (now (table .entry)) (now (out .entry)) (now (answer .entry))) ⌝ }
+    ensures { λ r. ⌜ now (table .exit) ≡ relayedTable method (now (key .entry)) none clock (callerOf first second port) (now (datagram .entry)) (now (table .entry)) (now (out .entry)) (now (answer .entry)) ⌝ }
+    ensures { λ r. ⌜ now (out .exit) ≡ relayedOut method (now (key .entry)) none clock (callerOf first second port) (now (datagram .entry)) (now (table .entry)) (now (out .entry)) (now (answer .entry)) ⌝ }
+    ensures { λ r. ⌜ now (answer .exit) ≡ openedWords (relayedAnswer method (now (key .entry)) none clock (callerOf first second port) (now (datagram .entry)) (now (table .entry)) (now (out .entry)) (now (answer .entry))) (now (answer .entry)) ⌝ }
+{
+    if answer.len() != ANSWER {
+        return SETTINGS;
+    }
+    let caller = Peer {
+        first,
+        second,
+        port,
+    };
+    let opened = datagram_open::open_server(method, key, clock, caller, datagram, table, out);
+    tell(opened, answer)
+}
+
+// Opens a server's datagram, for the client of a session ID, into the lent buffer.
+#[no_mangle]
+pub extern "C" fn relay_datagram_open_client(
+    method: u64,
+    key: &[u8],
+    clock: u64,
+    client: u64,
+    first: u64,
+    second: u64,
+    port: u16,
+    datagram: &[u8],
+    table: &mut [u64],
+    out: &mut [u8],
+    answer: &mut [u64],
+) -> u64
+    ensures { λ r. ⌜ r ≡ openedNumber (relayedAnswer method (now (key .entry)) (some client) clock (callerOf first second port) (now (datagram .entry)) (now (table .entry)) (now (out .entry)) (now (answer .entry))) ⌝ }
+    ensures { λ r. ⌜ now (table .exit) ≡ relayedTable method (now (key .entry)) (some client) clock (callerOf first second port) (now (datagram .entry)) (now (table .entry)) (now (out .entry)) (now (answer .entry)) ⌝ }
+    ensures { λ r. ⌜ now (out .exit) ≡ relayedOut method (now (key .entry)) (some client) clock (callerOf first second port) (now (datagram .entry)) (now (table .entry)) (now (out .entry)) (now (answer .entry)) ⌝ }
+    ensures { λ r. ⌜ now (answer .exit) ≡ openedWords (relayedAnswer method (now (key .entry)) (some client) clock (callerOf first second port) (now (datagram .entry)) (now (table .entry)) (now (out .entry)) (now (answer .entry))) (now (answer .entry)) ⌝ }
+{
+    if answer.len() != ANSWER {
+        return SETTINGS;
+    }
+    let caller = Peer {
+        first,
+        second,
+        port,
+    };
+    let opened = datagram_open::open_client(
+        method,
+        key,
+        clock,
+        client,
+        caller,
+        datagram,
+        table,
+        out,
+    );
+    tell(opened, answer)
+}

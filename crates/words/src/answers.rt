@@ -1,0 +1,98 @@
+// What is written into a lent answer.
+use datagram_open::Header;
+use protocol::Refusal;
+use socks5::Target;
+use stream_open::Chunk;
+use stream_open::Request;
+ghost use mathlib.Core.Path.{_≡_};
+ghost use lib.ListN.{length};
+ghost use Rattle.words.specs.Answers.{answerWords, kindOf, firstOf, secondOf, headerWords, requestWords, chunkWords, refusedAnswer};
+ghost use Rattle.protocol.specs.Refusal.{refusalNumber};
+
+// The kind byte of a target.
+fn kind(target: Target) -> u64
+    ensures { λ r. ⌜ r ≡ kindOf target ⌝ }
+{
+    match target {
+        Target::V4(_) => 1,
+        Target::Name(_, _) => 3,
+        Target::V6(_, _) => 4,
+    }
+}
+
+// The number of an IPv4 address, the first one of an IPv6 address, or the place of a name.
+fn first(target: Target) -> u64
+    ensures { λ r. ⌜ r ≡ firstOf target ⌝ }
+{
+    match target {
+        Target::V4(a) => a as u64,
+        Target::Name(place, _) => place as u64,
+        Target::V6(a, _) => a,
+    }
+}
+
+// The second number of an IPv6 address, or the length of a name.
+fn second(target: Target) -> u64
+    ensures { λ r. ⌜ r ≡ secondOf target ⌝ }
+{
+    match target {
+        Target::V4(_) => 0,
+        Target::Name(_, n) => n as u64,
+        Target::V6(_, b) => b,
+    }
+}
+
+// An opened datagram.
+pub fn header_words(h: Header) -> [u64; 9]
+    ensures { λ r. ⌜ r ≡ headerWords h ⌝ }
+{
+    let target = h.target;
+    [
+        kind(target),
+        first(target),
+        second(target),
+        h.port as u64,
+        h.session,
+        h.packet,
+        h.time,
+        h.padding as u64,
+        h.payload as u64,
+    ]
+}
+
+// An opened head of a request.
+pub fn request_words(h: Request) -> [u64; 8]
+    ensures { λ r. ⌜ r ≡ requestWords h ⌝ }
+{
+    let target = h.target;
+    [
+        kind(target),
+        first(target),
+        second(target),
+        h.port as u64,
+        h.padding as u64,
+        h.payload as u64,
+        h.used as u64,
+        h.length as u64,
+    ]
+}
+
+// An opened piece: how many bytes were used, and a length.
+pub fn chunk_words(c: Chunk) -> [u64; 2]
+    ensures { λ r. ⌜ r ≡ chunkWords c ⌝ }
+{
+    [c.used as u64, c.length as u64]
+}
+
+// The number of a refusal; number 10 adds how many bytes are wanted in all.
+pub fn refuse(refusal: Refusal, answer: &mut [u64]) -> u64
+    requires { ⌜ length (now answer) ≡ answerWords ⌝ }
+    ensures { λ r. ⌜ r ≡ refusalNumber refusal ⌝ }
+    ensures { λ r. ⌜ now (answer .exit) ≡ refusedAnswer refusal (now (answer .entry)) ⌝ }
+{
+    let n = refusal.number();
+    if n == 10 {
+        answer[0] = refusal.wanted();
+    }
+    n
+}

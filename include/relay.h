@@ -1,0 +1,352 @@
+/*
+ * Bhajnolith: a verified Shadowsocks 2022 (SIP022) relay core.
+ *
+ * Link with librelay.a. No function allocates, keeps a pointer, reads a clock
+ * or makes random numbers: the caller lends every buffer and brings the time,
+ * the IDs and the salts. What a caller keeps between calls it keeps as words
+ * (uint64_t) in its own memory: a session table, a salt pool, sending
+ * sessions and streams. Any words have a meaning, so a faulty word leads to a
+ * refusal or to another answer, never to undefined behaviour.
+ *
+ * Each function is proved to meet its contract (docs/PROMISES.md).
+ *
+ * ANSWERS
+ *   Every function returns RELAY_OK or the number of one refusal. Values go
+ *   into the lent `answer`, which has RELAY_ANSWER_WORDS words; a function
+ *   with fewer values writes the first ones and leaves the rest. A refusal
+ *   leaves `answer` as it was, but RELAY_MORE writes the number of bytes
+ *   wanted in all to answer[0]. Where several refusals would fit, the first
+ *   in the order given at the function is returned.
+ *
+ * WHAT IS LENT
+ *   A buffer is a pointer and a length: in bytes for uint8_t, in words for
+ *   uint64_t. A length of 0 may come with any pointer, NULL too. Buffers that
+ *   one call writes must not overlap any other buffer of the call. Keys have
+ *   16 bytes (method 1) or 32 (method 2), and so have salts. A lent table,
+ *   pool, session, stream or answer of another length than its constant is
+ *   RELAY_SETTINGS, and nothing is written.
+ *
+ * WHAT A REFUSAL WRITES
+ *   No refusal changes a table, a pool or a sending session. A refusal before
+ *   the payload's tag is found good leaves `out` as it was; one after it
+ *   sets the bytes that the plaintext would have filled to zero. Bytes of
+ *   `out` behind those due are never written.
+ *
+ * THREADS
+ *   There is no global state. Calls that lend different memory may run at the
+ *   same time; a table, a pool, a session or a stream serves one call at a
+ *   time.
+ *
+ * NOT CONSTANT TIME
+ *   AES and GHASH look up tables by secret bytes. Do not share the processor
+ *   with code that you do not trust.
+ */
+#ifndef RELAY_H
+#define RELAY_H
+
+#include <stddef.h>
+#include <stdint.h>
+
+#ifdef __cplusplus
+extern "C" {
+#endif
+
+/* ---- sizes, in words but for the last two */
+
+#define RELAY_TABLE_WORDS 705   /* a session table: 64 sessions */
+#define RELAY_POOL_WORDS 1537   /* a salt pool: 256 salts */
+#define RELAY_SESSION_WORDS 4   /* a sending session */
+#define RELAY_STREAM_WORDS 8    /* one direction of a stream */
+#define RELAY_ANSWER_WORDS 9    /* an answer */
+#define RELAY_MAX_DATAGRAM 65507 /* bytes */
+#define RELAY_MAX_CHUNK 65535    /* bytes */
+
+/* ---- methods */
+
+#define RELAY_AES_128_GCM 1 /* 2022-blake3-aes-128-gcm: 16-byte keys and salts */
+#define RELAY_AES_256_GCM 2 /* 2022-blake3-aes-256-gcm: 32-byte keys and salts */
+
+/* ---- what a function returns */
+
+#define RELAY_OK 0
+#define RELAY_SETTINGS 1      /* method, key, salt, table, pool or state unlawful */
+#define RELAY_LENGTH 2        /* datagram under 32 or over 65,507 bytes, chunk over 65,535 */
+#define RELAY_ROOM 3          /* `out` is shorter than the bytes due */
+#define RELAY_NOT_AUTHENTIC 4 /* a tag is wrong, or the stream has ended */
+#define RELAY_MALFORMED 5     /* header too short, bad address or padding */
+#define RELAY_TYPE 6          /* wrong type byte */
+#define RELAY_TIME 7          /* timestamp and clock differ by over 30 seconds */
+#define RELAY_REPLAY 8        /* packet ID not fresh, or salt seen before */
+#define RELAY_FULL 9          /* new session and 64 alive, or new salt and 256 kept */
+#define RELAY_MORE 10         /* bytes missing: answer[0] is the number wanted in all */
+#define RELAY_COUNTER 11      /* packet IDs or a stream's counter used up */
+#define RELAY_ARGUMENT 12     /* sealing: address, padding or session IDs unlawful */
+#define RELAY_BINDING 13      /* meant for another client, or answers another request */
+
+/* ---- places in `answer` */
+
+/* an opened datagram */
+#define RELAY_KIND 0           /* of the target: 1 IPv4, 3 a name, 4 IPv6 */
+#define RELAY_FIRST 1          /* IPv4 number, first 8 bytes of IPv6, place of the name in `out` */
+#define RELAY_SECOND 2         /* 0, last 8 bytes of IPv6, length of the name */
+#define RELAY_PORT 3
+#define RELAY_SESSION_ID 4
+#define RELAY_PACKET_ID 5
+#define RELAY_TIMESTAMP 6
+#define RELAY_PADDING 7
+#define RELAY_PAYLOAD 8        /* place of the payload in `out`; it ends at the datagram's length less 32 */
+
+/* an opened request head: kind, first, second and port as above, and then */
+#define RELAY_HEAD_PADDING 4
+#define RELAY_HEAD_PAYLOAD 5   /* place of the first payload in `out` */
+#define RELAY_HEAD_USED 6      /* bytes used: the whole head */
+#define RELAY_HEAD_LENGTH 7    /* bytes written to `out`, where the first payload ends */
+
+/* an opened response head, or one step of a stream */
+#define RELAY_USED 0           /* bytes used */
+#define RELAY_CHUNK_LENGTH 1   /* length of the payload that is next, or was opened */
+
+/* anything sealed */
+#define RELAY_SEALED_LENGTH 0  /* bytes written to `out` */
+
+/* ---- words of a stream */
+
+#define RELAY_TURN 0           /* what the stream does next: */
+#define RELAY_TURN_ENDED 0     /*   nothing: a tag was wrong */
+#define RELAY_TURN_LENGTH 1    /*   opens a length */
+#define RELAY_TURN_PAYLOAD 2   /*   opens a payload of stream[3] bytes */
+#define RELAY_TURN_SEALING 3   /*   seals */
+
+/* ---- session tables */
+
+/*
+ * Makes a session table: one for each key and method, for a server's incoming
+ * datagrams or for a client's.
+ *
+ * retention  seconds that a silent session is remembered: 60 to 3,600; 0 is 60
+ * table      RELAY_TABLE_WORDS words, all of them written
+ *
+ * Refusals: 1 (retention or length), and nothing is written.
+ */
+uint64_t relay_table_new(uint64_t retention, uint64_t *table, size_t table_len);
+
+/* ---- sending sessions */
+
+/*
+ * Begins a client's sending session.
+ *
+ * id       its session ID: 8 random bytes as a number, new for each session
+ * session  RELAY_SESSION_WORDS words: 0, the ID, 0, next packet ID (0)
+ *
+ * Refusals: 1 (length), and nothing is written.
+ */
+uint64_t relay_session_begin_client(uint64_t id, uint64_t *session, size_t session_len);
+
+/*
+ * Begins a server's sending session, in reply to a client's session.
+ *
+ * id       its own session ID, which must differ from the client's
+ * client   the client's session ID
+ * session  RELAY_SESSION_WORDS words: 1, the ID, the client's ID, next packet ID (0)
+ *
+ * Refusals: 1 (length), 12 (equal IDs), and nothing is written.
+ */
+uint64_t relay_session_begin_server(uint64_t id, uint64_t client, uint64_t *session,
+                                    size_t session_len);
+
+/* ---- datagrams */
+
+/*
+ * Seals one datagram to the front of `out`.
+ *
+ * session  a begun session; its next packet ID goes one up
+ * clock    seconds since 1970, written as the timestamp
+ * address  the target (from a server: the source), exactly one SOCKS5
+ *          address: kind byte 1, 3 or 4, address, port; nothing behind it
+ * padding  bytes of zeros before the address
+ * payload  may be empty
+ * out      sealed length bytes are written: payload, address and padding and
+ *          43 bytes more from a client, 51 from a server
+ * answer   [0] the sealed length
+ *
+ * Refusals, in this order: 1, 12 (address; a server's ID equal to its
+ * client's), 11 (packet ID 2^64 - 1), 2 (over 65,507 bytes), 3. A refusal
+ * writes nothing and moves no counter.
+ */
+uint64_t relay_datagram_seal(uint64_t method, const uint8_t *key, size_t key_len,
+                             uint64_t *session, size_t session_len, uint64_t clock,
+                             const uint8_t *address, size_t address_len, size_t padding,
+                             const uint8_t *payload, size_t payload_len, uint8_t *out,
+                             size_t out_len, uint64_t *answer, size_t answer_len);
+
+/*
+ * Opens a client's datagram, for a server.
+ *
+ * clock                  seconds since 1970; must not go back between calls
+ * first, second, port    the caller's address, as the host numbers it; kept in
+ *                        the session for replies (words 8 to 10 of its record)
+ * datagram               32 to 65,507 bytes
+ * table                  a session table; changed only by an accepted datagram
+ * out                    room for the datagram's length less 32: the plaintext
+ * answer                 9 words: RELAY_KIND to RELAY_PAYLOAD
+ *
+ * Refusals, in this order: 1, 2, 3, 4, 5 (plaintext under 11 bytes), 6, 7,
+ * 5 (padding, address), 8, 9. 1 to 4 leave `out` as it was, the others zero
+ * the plaintext's bytes.
+ */
+uint64_t relay_datagram_open_server(uint64_t method, const uint8_t *key, size_t key_len,
+                                    uint64_t clock, uint64_t first, uint64_t second, uint16_t port,
+                                    const uint8_t *datagram, size_t datagram_len, uint64_t *table,
+                                    size_t table_len, uint8_t *out, size_t out_len,
+                                    uint64_t *answer, size_t answer_len);
+
+/*
+ * Opens a server's datagram, for a client: as above, and
+ *
+ * client  the client's own session ID, which the datagram must name
+ *
+ * Refusals, in this order: 1, 2, 3, 4, 5 (plaintext under 19 bytes), 6, 7,
+ * 13 (another client's), 5 (padding, address), 8, 9.
+ */
+uint64_t relay_datagram_open_client(uint64_t method, const uint8_t *key, size_t key_len,
+                                    uint64_t clock, uint64_t client, uint64_t first,
+                                    uint64_t second, uint16_t port, const uint8_t *datagram,
+                                    size_t datagram_len, uint64_t *table, size_t table_len,
+                                    uint8_t *out, size_t out_len, uint64_t *answer,
+                                    size_t answer_len);
+
+/* ---- salt pools */
+
+/*
+ * Makes a salt pool, in which a server remembers the salts of the last 60
+ * seconds' requests.
+ *
+ * pool  RELAY_POOL_WORDS words, all of them written
+ *
+ * Refusals: 1 (method or length), and nothing is written.
+ */
+uint64_t relay_pool_new(uint64_t method, uint64_t *pool, size_t pool_len);
+
+/* ---- streams: heads */
+
+/*
+ * Seals a request's head, which a client sends first, and begins the stream
+ * behind it.
+ *
+ * salt     random, new for each stream; the response is bound to it
+ * address  the target, exactly one SOCKS5 address
+ * padding  0 to 900 bytes of zeros; not 0 where the payload is empty
+ * payload  the first payload, may be empty
+ * out      salt, 27 bytes, and address, padding and payload with 18 bytes more
+ * stream   RELAY_STREAM_WORDS words, all of them written: a stream that seals
+ * answer   [0] the sealed length
+ *
+ * Refusals, in this order: 1, 12 (address, padding), 2 (address, padding and
+ * payload over 65,533 bytes), 3. A refusal writes nothing.
+ */
+uint64_t relay_stream_seal_request(uint64_t method, const uint8_t *key, size_t key_len,
+                                   const uint8_t *salt, size_t salt_len, uint64_t clock,
+                                   const uint8_t *address, size_t address_len, size_t padding,
+                                   const uint8_t *payload, size_t payload_len, uint8_t *out,
+                                   size_t out_len, uint64_t *stream, size_t stream_len,
+                                   uint64_t *answer, size_t answer_len);
+
+/*
+ * Opens a request's head, for a server, and begins the stream behind it.
+ *
+ * bytes   what has come in so far; bytes behind the head are not read
+ * pool    the salt enters it exactly when the head is accepted
+ * out     room for the variable header: address, padding and first payload
+ * stream  RELAY_STREAM_WORDS words, written when the head is accepted: a
+ *         stream that opens, at a length
+ * answer  8 words: RELAY_KIND to RELAY_PORT, RELAY_HEAD_PADDING to RELAY_HEAD_LENGTH;
+ *         RELAY_MORE: [0] the number of bytes wanted in all
+ *
+ * Refusals, in this order: 1, 10 (fixed header), 4, 6, 7, 8, 9, 10 (variable
+ * header), 3, 4, 5. Only the last 5 touches `out`: it zeroes the variable
+ * header's length. A refused head gives no stream and stores no salt.
+ */
+uint64_t relay_stream_open_request(uint64_t method, const uint8_t *key, size_t key_len,
+                                   uint64_t clock, const uint8_t *bytes, size_t bytes_len,
+                                   uint64_t *pool, size_t pool_len, uint8_t *out, size_t out_len,
+                                   uint64_t *stream, size_t stream_len, uint64_t *answer,
+                                   size_t answer_len);
+
+/*
+ * Seals a response's head with its first payload, which a server sends first,
+ * and begins the stream behind it.
+ *
+ * salt          random, new for each stream
+ * request_salt  the first bytes of the request
+ * out           both salts, 43 bytes, and the payload with 16 bytes more
+ * stream        RELAY_STREAM_WORDS words, all of them written: a stream that seals
+ * answer        [0] the sealed length
+ *
+ * Refusals, in this order: 1, 2, 3. A refusal writes nothing.
+ */
+uint64_t relay_stream_seal_response(uint64_t method, const uint8_t *key, size_t key_len,
+                                    const uint8_t *salt, size_t salt_len,
+                                    const uint8_t *request_salt, size_t request_salt_len,
+                                    uint64_t clock, const uint8_t *payload, size_t payload_len,
+                                    uint8_t *out, size_t out_len, uint64_t *stream,
+                                    size_t stream_len, uint64_t *answer, size_t answer_len);
+
+/*
+ * Opens a response's head, for a client, and begins the stream behind it. Its
+ * first payload is the next step of the stream.
+ *
+ * request_salt  the salt of the request that is answered
+ * bytes         what has come in so far; bytes behind the head are not read
+ * stream        RELAY_STREAM_WORDS words, written when the head is accepted: a
+ *               stream that opens, at a payload
+ * answer        [0] bytes used, [1] length of the first payload;
+ *               RELAY_MORE: [0] the number of bytes wanted in all
+ *
+ * Refusals, in this order: 1, 10, 4, 6, 7, 13.
+ */
+uint64_t relay_stream_open_response(uint64_t method, const uint8_t *key, size_t key_len,
+                                    uint64_t clock, const uint8_t *request_salt,
+                                    size_t request_salt_len, const uint8_t *bytes,
+                                    size_t bytes_len, uint64_t *stream, size_t stream_len,
+                                    uint64_t *answer, size_t answer_len);
+
+/* ---- streams: chunks */
+
+/*
+ * Seals a length with its payload.
+ *
+ * stream   one that seals; two counters further behind the call
+ * payload  0 to 65,535 bytes
+ * out      the payload with 34 bytes more
+ * answer   [0] the sealed length
+ *
+ * Refusals, in this order: 1 (lengths, method, a stream at another turn), 4 (a
+ * stream that has ended), 11, 2, 3. A refusal writes nothing.
+ */
+uint64_t relay_stream_seal_chunk(uint64_t *stream, size_t stream_len, const uint8_t *payload,
+                                 size_t payload_len, uint8_t *out, size_t out_len,
+                                 uint64_t *answer, size_t answer_len);
+
+/*
+ * Opens the next piece of a stream: a length (18 bytes) or a payload, by turns.
+ *
+ * stream  one that opens; one counter further behind an accepted piece
+ * bytes   what has come in; bytes behind the piece are not read
+ * out     at a payload: room for it, and it is written to the front
+ * answer  [0] bytes used, [1] the length that was read, or of the payload;
+ *         RELAY_MORE: [0] the number of bytes wanted in all
+ *
+ * Refusals, in this order: 1 (lengths, method, a stream at another turn), 4 (a
+ * stream that has ended), 11, 10, 3, 4. They write nothing to `out`. 4 ends
+ * the stream: it writes 0 to stream[0]. The others leave the stream as it was,
+ * so the same call can be made again with more bytes or more room.
+ */
+uint64_t relay_stream_open_chunk(uint64_t *stream, size_t stream_len, const uint8_t *bytes,
+                                 size_t bytes_len, uint8_t *out, size_t out_len, uint64_t *answer,
+                                 size_t answer_len);
+
+#ifdef __cplusplus
+}
+#endif
+
+#endif
