@@ -1,0 +1,71 @@
+//! A client and a server exchange a request and a response. The bytes arrive in
+//! small pieces, as they do from a socket.
+//!
+//!     cargo run --example stream
+
+use std::error::Error;
+use std::fs::File;
+use std::io::{self, Read};
+use std::time::{SystemTime, UNIX_EPOCH};
+
+use relay::{Address, Key, Method, Pool, Refusal, RequestStream, ResponseStream, Step};
+
+/// How many bytes arrive at once.
+const PIECE: usize = 50;
+
+fn main() -> Result<(), Box<dyn Error>> {
+    let key = Key::new(Method::Aes256Gcm, &random::<32>()?)?;
+    let request_salt = random::<32>()?;
+    let mut out = vec![0; 65_535];
+
+    // The client sends a head with its first payload, and one more chunk.
+    let target = Address::name(b"www.example", 80)?;
+    let mut wire = vec![0; 1_000];
+    let first = b"GET / HTTP/1.1\r\n";
+    let (mut client, mut length) =
+        RequestStream::seal(&key, &request_salt, now()?, &target, 64, first, &mut wire)?;
+    length += client.seal_chunk(b"Host: www.example\r\n\r\n", &mut wire[length..])?;
+    wire.truncate(length);
+    println!("client   sends {length} bytes");
+
+    // The server waits until it has the whole head.
+    let mut pool = Pool::new(key.method());
+    let mut arrived = 0;
+    let (mut server, header) = loop {
+        match RequestStream::open(&key, now()?, &wire[..arrived], &mut pool, &mut out) {
+            Err(Refusal::More { wanted }) => println!("server   has {arrived} of {wanted}"),
+            other => break other?,
+        }
+        arrived = (arrived + PIECE).min(wire.len());
+    };
+    println!("server   is asked for {}", header.address(&out));
+    print!("{}", String::from_utf8_lossy(header.payload(&out)));
+    let mut rest = &wire[header.used..];
+    while !rest.is_empty() {
+        let step = server.open_chunk(rest, &mut out)?;
+        rest = &rest[step.used()..];
+        if let Step::Payload { length, .. } = step {
+            print!("{}", String::from_utf8_lossy(&out[..length]));
+        }
+    }
+
+    // The response is bound to the request by its salt.
+    let mut wire = vec![0; 1_000];
+    let (salt, body) = (random::<32>()?, b"HTTP/1.1 204 No Content\r\n\r\n");
+    let (_, length) = ResponseStream::seal(&key, &salt, &request_salt, now()?, body, &mut wire)?;
+    let (mut client, header) = ResponseStream::open(&key, now()?, &request_salt, &wire[..length])?;
+    client.open_chunk(&wire[header.used..length], &mut out)?;
+    println!("client   is told");
+    print!("{}", String::from_utf8_lossy(&out[..header.length]));
+    Ok(())
+}
+
+fn now() -> Result<u64, Box<dyn Error>> {
+    Ok(SystemTime::now().duration_since(UNIX_EPOCH)?.as_secs())
+}
+
+fn random<const N: usize>() -> io::Result<[u8; N]> {
+    let mut bytes = [0; N];
+    File::open("/dev/urandom")?.read_exact(&mut bytes)?;
+    Ok(bytes)
+}

@@ -1,0 +1,490 @@
+//! The functions of `include/relay.h`, and one safe function for each.
+//!
+//! All `unsafe` code of the crate is here. Every call is safe for the same reason,
+//! to which the calls refer as the rule of lending: each pointer is that of a slice
+//! or array that is borrowed for the whole call, with its length in elements; what
+//! the library writes is borrowed mutably, so it overlaps nothing else; and the
+//! library keeps no pointer. It is proved to stay within the lengths given, for all
+//! contents.
+
+use crate::answer::{self, Answer};
+use crate::pool::Pool;
+use crate::seal_session::SealSession;
+use crate::stream::STREAM_WORDS;
+use crate::table::Table;
+use crate::{Key, Method, Peer, Refusal};
+
+pub(crate) type TableWords = [u64; Table::WORDS];
+pub(crate) type PoolWords = [u64; Pool::WORDS];
+pub(crate) type SessionWords = [u64; SealSession::WORDS];
+pub(crate) type StreamWords = [u64; STREAM_WORDS];
+
+/// An answer for the library to write to.
+const NO_ANSWER: Answer = [0; answer::WORDS];
+
+#[link(name = "relay", kind = "static")]
+extern "C" {
+    fn relay_table_new(retention: u64, table: *mut u64, table_len: usize) -> u64;
+    fn relay_session_begin_client(id: u64, session: *mut u64, session_len: usize) -> u64;
+    fn relay_session_begin_server(
+        id: u64,
+        client: u64,
+        session: *mut u64,
+        session_len: usize,
+    ) -> u64;
+    fn relay_datagram_seal(
+        method: u64,
+        key: *const u8,
+        key_len: usize,
+        session: *mut u64,
+        session_len: usize,
+        clock: u64,
+        address: *const u8,
+        address_len: usize,
+        padding: usize,
+        payload: *const u8,
+        payload_len: usize,
+        out: *mut u8,
+        out_len: usize,
+        answer: *mut u64,
+        answer_len: usize,
+    ) -> u64;
+    fn relay_datagram_open_server(
+        method: u64,
+        key: *const u8,
+        key_len: usize,
+        clock: u64,
+        first: u64,
+        second: u64,
+        port: u16,
+        datagram: *const u8,
+        datagram_len: usize,
+        table: *mut u64,
+        table_len: usize,
+        out: *mut u8,
+        out_len: usize,
+        answer: *mut u64,
+        answer_len: usize,
+    ) -> u64;
+    fn relay_datagram_open_client(
+        method: u64,
+        key: *const u8,
+        key_len: usize,
+        clock: u64,
+        client: u64,
+        first: u64,
+        second: u64,
+        port: u16,
+        datagram: *const u8,
+        datagram_len: usize,
+        table: *mut u64,
+        table_len: usize,
+        out: *mut u8,
+        out_len: usize,
+        answer: *mut u64,
+        answer_len: usize,
+    ) -> u64;
+    fn relay_pool_new(method: u64, pool: *mut u64, pool_len: usize) -> u64;
+    fn relay_stream_seal_request(
+        method: u64,
+        key: *const u8,
+        key_len: usize,
+        salt: *const u8,
+        salt_len: usize,
+        clock: u64,
+        address: *const u8,
+        address_len: usize,
+        padding: usize,
+        payload: *const u8,
+        payload_len: usize,
+        out: *mut u8,
+        out_len: usize,
+        stream: *mut u64,
+        stream_len: usize,
+        answer: *mut u64,
+        answer_len: usize,
+    ) -> u64;
+    fn relay_stream_open_request(
+        method: u64,
+        key: *const u8,
+        key_len: usize,
+        clock: u64,
+        bytes: *const u8,
+        bytes_len: usize,
+        pool: *mut u64,
+        pool_len: usize,
+        out: *mut u8,
+        out_len: usize,
+        stream: *mut u64,
+        stream_len: usize,
+        answer: *mut u64,
+        answer_len: usize,
+    ) -> u64;
+    fn relay_stream_seal_response(
+        method: u64,
+        key: *const u8,
+        key_len: usize,
+        salt: *const u8,
+        salt_len: usize,
+        request_salt: *const u8,
+        request_salt_len: usize,
+        clock: u64,
+        payload: *const u8,
+        payload_len: usize,
+        out: *mut u8,
+        out_len: usize,
+        stream: *mut u64,
+        stream_len: usize,
+        answer: *mut u64,
+        answer_len: usize,
+    ) -> u64;
+    fn relay_stream_open_response(
+        method: u64,
+        key: *const u8,
+        key_len: usize,
+        clock: u64,
+        request_salt: *const u8,
+        request_salt_len: usize,
+        bytes: *const u8,
+        bytes_len: usize,
+        stream: *mut u64,
+        stream_len: usize,
+        answer: *mut u64,
+        answer_len: usize,
+    ) -> u64;
+    fn relay_stream_seal_chunk(
+        stream: *mut u64,
+        stream_len: usize,
+        payload: *const u8,
+        payload_len: usize,
+        out: *mut u8,
+        out_len: usize,
+        answer: *mut u64,
+        answer_len: usize,
+    ) -> u64;
+    fn relay_stream_open_chunk(
+        stream: *mut u64,
+        stream_len: usize,
+        bytes: *const u8,
+        bytes_len: usize,
+        out: *mut u8,
+        out_len: usize,
+        answer: *mut u64,
+        answer_len: usize,
+    ) -> u64;
+}
+
+/// A new table, of all words.
+pub(crate) fn table_new(retention: u64, table: &mut TableWords) -> Result<(), Refusal> {
+    // SAFETY: the rule of lending.
+    let number = unsafe { relay_table_new(retention, table.as_mut_ptr(), table.len()) };
+    answer::checked(number, NO_ANSWER).map(|_| ())
+}
+
+/// A client's sending session.
+pub(crate) fn session_begin_client(id: u64) -> Result<SessionWords, Refusal> {
+    let mut session = [0; SealSession::WORDS];
+    // SAFETY: the rule of lending.
+    let number = unsafe { relay_session_begin_client(id, session.as_mut_ptr(), session.len()) };
+    answer::checked(number, NO_ANSWER).map(|_| session)
+}
+
+/// A server's sending session.
+pub(crate) fn session_begin_server(id: u64, client: u64) -> Result<SessionWords, Refusal> {
+    let mut session = [0; SealSession::WORDS];
+    // SAFETY: the rule of lending.
+    let number =
+        unsafe { relay_session_begin_server(id, client, session.as_mut_ptr(), session.len()) };
+    answer::checked(number, NO_ANSWER).map(|_| session)
+}
+
+/// Seals a datagram.
+pub(crate) fn datagram_seal(
+    key: &Key,
+    session: &mut SessionWords,
+    clock: u64,
+    address: &[u8],
+    padding: usize,
+    payload: &[u8],
+    out: &mut [u8],
+) -> Result<Answer, Refusal> {
+    let mut answer = NO_ANSWER;
+    // SAFETY: the rule of lending.
+    let number = unsafe {
+        relay_datagram_seal(
+            key.method().number(),
+            key.bytes().as_ptr(),
+            key.bytes().len(),
+            session.as_mut_ptr(),
+            session.len(),
+            clock,
+            address.as_ptr(),
+            address.len(),
+            padding,
+            payload.as_ptr(),
+            payload.len(),
+            out.as_mut_ptr(),
+            out.len(),
+            answer.as_mut_ptr(),
+            answer.len(),
+        )
+    };
+    answer::checked(number, answer)
+}
+
+/// Opens a client's datagram.
+pub(crate) fn datagram_open_server(
+    key: &Key,
+    clock: u64,
+    peer: Peer,
+    datagram: &[u8],
+    table: &mut TableWords,
+    out: &mut [u8],
+) -> Result<Answer, Refusal> {
+    let mut answer = NO_ANSWER;
+    // SAFETY: the rule of lending.
+    let number = unsafe {
+        relay_datagram_open_server(
+            key.method().number(),
+            key.bytes().as_ptr(),
+            key.bytes().len(),
+            clock,
+            peer.first,
+            peer.second,
+            peer.port,
+            datagram.as_ptr(),
+            datagram.len(),
+            table.as_mut_ptr(),
+            table.len(),
+            out.as_mut_ptr(),
+            out.len(),
+            answer.as_mut_ptr(),
+            answer.len(),
+        )
+    };
+    answer::checked(number, answer)
+}
+
+/// Opens a server's datagram.
+pub(crate) fn datagram_open_client(
+    key: &Key,
+    clock: u64,
+    client: u64,
+    peer: Peer,
+    datagram: &[u8],
+    table: &mut TableWords,
+    out: &mut [u8],
+) -> Result<Answer, Refusal> {
+    let mut answer = NO_ANSWER;
+    // SAFETY: the rule of lending.
+    let number = unsafe {
+        relay_datagram_open_client(
+            key.method().number(),
+            key.bytes().as_ptr(),
+            key.bytes().len(),
+            clock,
+            client,
+            peer.first,
+            peer.second,
+            peer.port,
+            datagram.as_ptr(),
+            datagram.len(),
+            table.as_mut_ptr(),
+            table.len(),
+            out.as_mut_ptr(),
+            out.len(),
+            answer.as_mut_ptr(),
+            answer.len(),
+        )
+    };
+    answer::checked(number, answer)
+}
+
+/// A new pool, of all words.
+pub(crate) fn pool_new(method: Method, pool: &mut PoolWords) -> Result<(), Refusal> {
+    // SAFETY: the rule of lending.
+    let number = unsafe { relay_pool_new(method.number(), pool.as_mut_ptr(), pool.len()) };
+    answer::checked(number, NO_ANSWER).map(|_| ())
+}
+
+/// Seals a request's head and begins its stream.
+pub(crate) fn stream_seal_request(
+    key: &Key,
+    salt: &[u8],
+    clock: u64,
+    address: &[u8],
+    padding: usize,
+    payload: &[u8],
+    out: &mut [u8],
+) -> Result<(StreamWords, Answer), Refusal> {
+    let mut stream = [0; STREAM_WORDS];
+    let mut answer = NO_ANSWER;
+    // SAFETY: the rule of lending.
+    let number = unsafe {
+        relay_stream_seal_request(
+            key.method().number(),
+            key.bytes().as_ptr(),
+            key.bytes().len(),
+            salt.as_ptr(),
+            salt.len(),
+            clock,
+            address.as_ptr(),
+            address.len(),
+            padding,
+            payload.as_ptr(),
+            payload.len(),
+            out.as_mut_ptr(),
+            out.len(),
+            stream.as_mut_ptr(),
+            stream.len(),
+            answer.as_mut_ptr(),
+            answer.len(),
+        )
+    };
+    answer::checked(number, answer).map(|answer| (stream, answer))
+}
+
+/// Opens a request's head and begins its stream.
+pub(crate) fn stream_open_request(
+    key: &Key,
+    clock: u64,
+    bytes: &[u8],
+    pool: &mut PoolWords,
+    out: &mut [u8],
+) -> Result<(StreamWords, Answer), Refusal> {
+    let mut stream = [0; STREAM_WORDS];
+    let mut answer = NO_ANSWER;
+    // SAFETY: the rule of lending.
+    let number = unsafe {
+        relay_stream_open_request(
+            key.method().number(),
+            key.bytes().as_ptr(),
+            key.bytes().len(),
+            clock,
+            bytes.as_ptr(),
+            bytes.len(),
+            pool.as_mut_ptr(),
+            pool.len(),
+            out.as_mut_ptr(),
+            out.len(),
+            stream.as_mut_ptr(),
+            stream.len(),
+            answer.as_mut_ptr(),
+            answer.len(),
+        )
+    };
+    answer::checked(number, answer).map(|answer| (stream, answer))
+}
+
+/// Seals a response's head with its first payload and begins its stream.
+pub(crate) fn stream_seal_response(
+    key: &Key,
+    salt: &[u8],
+    request_salt: &[u8],
+    clock: u64,
+    payload: &[u8],
+    out: &mut [u8],
+) -> Result<(StreamWords, Answer), Refusal> {
+    let mut stream = [0; STREAM_WORDS];
+    let mut answer = NO_ANSWER;
+    // SAFETY: the rule of lending.
+    let number = unsafe {
+        relay_stream_seal_response(
+            key.method().number(),
+            key.bytes().as_ptr(),
+            key.bytes().len(),
+            salt.as_ptr(),
+            salt.len(),
+            request_salt.as_ptr(),
+            request_salt.len(),
+            clock,
+            payload.as_ptr(),
+            payload.len(),
+            out.as_mut_ptr(),
+            out.len(),
+            stream.as_mut_ptr(),
+            stream.len(),
+            answer.as_mut_ptr(),
+            answer.len(),
+        )
+    };
+    answer::checked(number, answer).map(|answer| (stream, answer))
+}
+
+/// Opens a response's head and begins its stream.
+pub(crate) fn stream_open_response(
+    key: &Key,
+    clock: u64,
+    request_salt: &[u8],
+    bytes: &[u8],
+) -> Result<(StreamWords, Answer), Refusal> {
+    let mut stream = [0; STREAM_WORDS];
+    let mut answer = NO_ANSWER;
+    // SAFETY: the rule of lending.
+    let number = unsafe {
+        relay_stream_open_response(
+            key.method().number(),
+            key.bytes().as_ptr(),
+            key.bytes().len(),
+            clock,
+            request_salt.as_ptr(),
+            request_salt.len(),
+            bytes.as_ptr(),
+            bytes.len(),
+            stream.as_mut_ptr(),
+            stream.len(),
+            answer.as_mut_ptr(),
+            answer.len(),
+        )
+    };
+    answer::checked(number, answer).map(|answer| (stream, answer))
+}
+
+/// Seals a length with its payload.
+pub(crate) fn stream_seal_chunk(
+    stream: &mut StreamWords,
+    payload: &[u8],
+    out: &mut [u8],
+) -> Result<Answer, Refusal> {
+    let mut answer = NO_ANSWER;
+    // SAFETY: the rule of lending.
+    let number = unsafe {
+        relay_stream_seal_chunk(
+            stream.as_mut_ptr(),
+            stream.len(),
+            payload.as_ptr(),
+            payload.len(),
+            out.as_mut_ptr(),
+            out.len(),
+            answer.as_mut_ptr(),
+            answer.len(),
+        )
+    };
+    answer::checked(number, answer)
+}
+
+/// Opens a length or a payload.
+pub(crate) fn stream_open_chunk(
+    stream: &mut StreamWords,
+    bytes: &[u8],
+    out: &mut [u8],
+) -> Result<Answer, Refusal> {
+    let mut answer = NO_ANSWER;
+    // SAFETY: the rule of lending.
+    let number = unsafe {
+        relay_stream_open_chunk(
+            stream.as_mut_ptr(),
+            stream.len(),
+            bytes.as_ptr(),
+            bytes.len(),
+            out.as_mut_ptr(),
+            out.len(),
+            answer.as_mut_ptr(),
+            answer.len(),
+        )
+    };
+    answer::checked(number, answer)
+}
+
+#[cfg(test)]
+mod tests;

@@ -1,0 +1,155 @@
+//! A verified Shadowsocks 2022 (SIP022) relay core, as safe Rust.
+//!
+//! The core is proved: each function meets its contract for every input, stays
+//! within the buffers that it is lent, and ends (`docs/PROMISES.md`). This crate
+//! gives it Rust's types and adds nothing to what it does. It opens no socket,
+//! reads no clock and makes no random numbers: the host brings the bytes, the time,
+//! the IDs and the salts.
+//!
+//! | to | use |
+//! |---|---|
+//! | seal datagrams | [`SealSession`] |
+//! | open datagrams, once each | [`Table`], which gives a [`Header`] |
+//! | seal or open a stream from client to server | [`RequestStream`], with a [`Pool`] at the server |
+//! | seal or open a stream from server to client | [`ResponseStream`] |
+//!
+//! # A datagram
+//!
+//! ```
+//! use std::net::SocketAddr;
+//! use relay::{Address, Key, Method, Peer, SealSession, Table};
+//!
+//! // 2022-blake3-aes-128-gcm. A real key is random, and so is a session's ID.
+//! let key = Key::new(Method::Aes128Gcm, &[0x4b; 16])?;
+//! let now = 1_700_000_000; // seconds since 1970
+//!
+//! // The client seals.
+//! let mut session = SealSession::client(0x1f2e_3d4c_5b6a_7988);
+//! let target = Address::name(b"example.com", 53)?;
+//! let mut datagram = [0; 1_500];
+//! let length = session.seal(&key, now, &target, 0, b"question", &mut datagram)?;
+//! let datagram = &datagram[..length];
+//!
+//! // The server opens.
+//! let mut table = Table::new(60)?;
+//! let caller = Peer::from(SocketAddr::from(([192, 0, 2, 1], 4000)));
+//! let mut plaintext = [0; 1_500];
+//! let header = table.open_server(&key, now, caller, datagram, &mut plaintext)?;
+//! assert_eq!(header.name(&plaintext), Some(&b"example.com"[..]));
+//! assert_eq!(header.payload(&plaintext), b"question");
+//!
+//! // It replies to the client's session, at the address that was last heard of.
+//! let client = header.session_id;
+//! assert_eq!(table.peer_of(client, now), Some(caller));
+//! let mut reply = SealSession::server(0x8877_6655_4433_2211, client)?;
+//! let source = Address::from(SocketAddr::from(([198, 51, 100, 7], 53)));
+//! let mut datagram = [0; 1_500];
+//! let length = reply.seal(&key, now, &source, 0, b"answer", &mut datagram)?;
+//! # let _ = length;
+//! # Ok::<(), relay::Refusal>(())
+//! ```
+//!
+//! # A stream
+//!
+//! ```
+//! use relay::{Address, Key, Method, Pool, RequestStream, ResponseStream, Step};
+//!
+//! let key = Key::new(Method::Aes256Gcm, &[0x4b; 32])?;
+//! let now = 1_700_000_000;
+//!
+//! // The client sends a head with the first payload, then a chunk.
+//! let request_salt = [0x51; 32]; // real salts are random
+//! let target = Address::name(b"example.com", 80)?;
+//! let mut wire = [0; 1_024];
+//! let (mut sender, head) =
+//!     RequestStream::seal(&key, &request_salt, now, &target, 20, b"GET ", &mut wire)?;
+//! let chunk = sender.seal_chunk(b"/", &mut wire[head..])?;
+//! let wire = &wire[..head + chunk];
+//!
+//! // The server opens the head, and then a length and a payload by turns.
+//! let mut pool = Pool::new(Method::Aes256Gcm);
+//! let mut out = [0; 1_024];
+//! let (mut receiver, header) = RequestStream::open(&key, now, wire, &mut pool, &mut out)?;
+//! assert_eq!(header.payload(&out), b"GET ");
+//! let mut rest = &wire[header.used..];
+//! while !rest.is_empty() {
+//!     let step = receiver.open_chunk(rest, &mut out)?;
+//!     rest = &rest[step.used()..];
+//!     if let Step::Payload { length, .. } = step {
+//!         assert_eq!(&out[..length], b"/");
+//!     }
+//! }
+//!
+//! // Its response names the request's salt.
+//! let mut wire = [0; 1_024];
+//! let (_, length) =
+//!     ResponseStream::seal(&key, &[0x52; 32], &request_salt, now, b"200 OK", &mut wire)?;
+//! let (mut receiver, header) =
+//!     ResponseStream::open(&key, now, &request_salt, &wire[..length])?;
+//! receiver.open_chunk(&wire[header.used..length], &mut out)?;
+//! assert_eq!(&out[..header.length], b"200 OK");
+//! # Ok::<(), relay::Refusal>(())
+//! ```
+//!
+//! # Refusals
+//!
+//! Every call gives its result or a [`Refusal`], and says which ones and in which
+//! order. A refusal leaves tables, pools and sending sessions as they were. One that
+//! comes before the payload's tag was found good leaves the output buffer as it
+//! was; one that comes later sets the bytes of the plaintext to zero. Bytes behind
+//! those due are never written.
+//!
+//! # Stored state
+//!
+//! Tables, pools, sessions and streams are words (`u64`), which a host may store and
+//! bring back: `words` and `from_words`. Any words have a meaning, so faulty ones
+//! lead to a refusal or to another answer, never to undefined behaviour or a panic.
+//!
+//! # Threads
+//!
+//! There is no global state. The types are `Send` and `Sync`, and what a call
+//! changes it borrows mutably.
+//!
+//! # Not constant time
+//!
+//! AES and GHASH look up tables by secret bytes. Do not share the processor with
+//! code that you do not trust.
+
+#![deny(unsafe_code)]
+#![warn(missing_docs)]
+
+mod address;
+mod answer;
+#[allow(unsafe_code)]
+mod ffi;
+mod header;
+mod key;
+mod method;
+mod peer;
+mod pool;
+mod refusal;
+mod seal_session;
+mod secret;
+mod session;
+pub mod stream;
+mod table;
+mod target;
+
+pub use address::Address;
+pub use header::Header;
+pub use key::Key;
+pub use method::{Method, UnknownMethod};
+pub use peer::Peer;
+pub use pool::Pool;
+pub use refusal::Refusal;
+pub use seal_session::SealSession;
+pub use session::Session;
+pub use stream::{RequestHeader, RequestStream, ResponseHeader, ResponseStream, Step};
+pub use table::Table;
+pub use target::Target;
+
+/// The longest datagram, in bytes.
+pub const MAX_DATAGRAM: usize = 65_507;
+
+/// The longest payload of a chunk, in bytes.
+pub const MAX_CHUNK: usize = 65_535;

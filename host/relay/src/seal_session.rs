@@ -1,0 +1,145 @@
+//! Sending sessions.
+
+use crate::answer;
+use crate::ffi::{self, SessionWords};
+use crate::{Address, Key, Refusal, MAX_DATAGRAM};
+
+/// Bytes of a datagram besides address, padding and payload. A server's also has
+/// the client session ID.
+const CLIENT_OVERHEAD: usize = 43;
+const SERVER_OVERHEAD: usize = 51;
+
+/// Word 0 of a server's session; it is 0 for a client's.
+const SERVER: u64 = 1;
+
+/// A sending session, which seals datagrams.
+///
+/// Each datagram sealed takes the next packet ID, from 0 on. Under one key a packet
+/// ID of a session must never be sealed twice, so a session cannot be copied, and
+/// its ID must be new and random for each session.
+///
+/// ```
+/// use relay::{Address, Key, Method, SealSession};
+///
+/// let key = Key::new(Method::Aes128Gcm, &[0x4b; 16])?;
+/// let target = Address::name(b"a", 80)?;
+/// let mut session = SealSession::client(0x0102_0304_0506_0708);
+/// let mut out = [0; 64];
+/// let length = session.seal(&key, 1_000, &target, 0, b"", &mut out)?;
+/// assert_eq!(length, 48);
+/// assert_eq!(session.next_packet(), 1);
+/// # Ok::<(), relay::Refusal>(())
+/// ```
+#[derive(Debug)]
+pub struct SealSession {
+    words: SessionWords,
+}
+
+impl SealSession {
+    /// The number of words that a session is.
+    pub const WORDS: usize = 4;
+
+    /// Begins a client's session of an ID, which is to be random.
+    pub fn client(id: u64) -> Self {
+        let words = ffi::session_begin_client(id).expect("a client's session takes any ID");
+        Self { words }
+    }
+
+    /// Begins a server's session of an ID, which is to be random, in reply to a
+    /// client's session.
+    ///
+    /// # Errors
+    ///
+    /// [`Refusal::Argument`] if both have the same ID.
+    pub fn server(id: u64, client: u64) -> Result<Self, Refusal> {
+        let words = ffi::session_begin_server(id, client)?;
+        Ok(Self { words })
+    }
+
+    /// Seals one datagram to the front of `out` and gives its length.
+    ///
+    /// `clock` is in seconds since 1970 and becomes the timestamp. From a client
+    /// `address` is the target, from a server the source. `padding` bytes of zeros
+    /// are put before it. The payload may be empty.
+    ///
+    /// # Errors
+    ///
+    /// The first that applies: [`Settings`](Refusal::Settings) (words from elsewhere
+    /// that are no session), [`Argument`](Refusal::Argument) (words in which a
+    /// server has its client's ID), [`Counter`](Refusal::Counter) (the next packet
+    /// ID is 2^64 - 1), [`Length`](Refusal::Length) (over 65,507 bytes),
+    /// [`Room`](Refusal::Room). A refusal writes nothing and takes no packet ID.
+    pub fn seal(
+        &mut self,
+        key: &Key,
+        clock: u64,
+        address: &Address,
+        padding: usize,
+        payload: &[u8],
+        out: &mut [u8],
+    ) -> Result<usize, Refusal> {
+        let session = &mut self.words;
+        ffi::datagram_seal(
+            key,
+            session,
+            clock,
+            address.as_bytes(),
+            padding,
+            payload,
+            out,
+        )
+        .map(|answer| answer::length(answer[0]))
+    }
+
+    /// How long a datagram would be.
+    ///
+    /// # Errors
+    ///
+    /// [`Refusal::Length`] if it would be longer than 65,507 bytes.
+    pub fn sealed_len(
+        &self,
+        address: &Address,
+        padding: usize,
+        payload_len: usize,
+    ) -> Result<usize, Refusal> {
+        let overhead = match self.client_id() {
+            None => CLIENT_OVERHEAD,
+            Some(_) => SERVER_OVERHEAD,
+        };
+        (overhead + address.as_bytes().len())
+            .checked_add(padding)
+            .and_then(|length| length.checked_add(payload_len))
+            .filter(|&length| length <= MAX_DATAGRAM)
+            .ok_or(Refusal::Length)
+    }
+
+    /// The session's ID.
+    pub fn id(&self) -> u64 {
+        self.words[1]
+    }
+
+    /// The ID of the client's session that a server's replies to.
+    pub fn client_id(&self) -> Option<u64> {
+        (self.words[0] == SERVER).then_some(self.words[2])
+    }
+
+    /// The packet ID of the next datagram.
+    pub fn next_packet(&self) -> u64 {
+        self.words[3]
+    }
+
+    /// The session as words, to be stored: 0 for a client's or 1 for a server's, its
+    /// ID, the client's ID or 0, the next packet ID.
+    ///
+    /// A host that restores older words than those of its last datagram seals a
+    /// packet ID twice, which breaks the encryption of both datagrams.
+    pub fn words(&self) -> &[u64; Self::WORDS] {
+        &self.words
+    }
+
+    /// The session that the words are. Any words may be given: with those that are
+    /// no session, sealing is [`Refusal::Settings`].
+    pub fn from_words(words: &[u64; Self::WORDS]) -> Self {
+        Self { words: *words }
+    }
+}

@@ -1,0 +1,100 @@
+//! Addresses and peers.
+
+use std::net::SocketAddr;
+
+use relay::{Address, Peer, Refusal};
+
+use crate::common::addresses;
+
+#[test]
+fn bytes_are_those_of_rfc_1928() {
+    let v4 = Address::from(SocketAddr::from(([192, 0, 2, 1], 0x0102)));
+    assert_eq!(v4.as_bytes(), [1, 192, 0, 2, 1, 1, 2]);
+    let name = Address::name(b"a", 80).unwrap();
+    assert_eq!(name.as_bytes(), [3, 1, 0x61, 0, 80]);
+    let v6: SocketAddr = "[102:304::ff]:1".parse().unwrap();
+    let bytes = [4, 1, 2, 3, 4, 0, 0, 0, 0, 0, 0, 0, 0, 0, 0, 0, 0xff, 0, 1];
+    assert_eq!(Address::from(v6).as_bytes(), bytes);
+}
+
+#[test]
+fn bytes_are_read_back() {
+    for address in addresses() {
+        assert_eq!(Address::from_bytes(address.as_bytes()), Ok(address));
+    }
+}
+
+#[test]
+fn nothing_may_be_missing_or_stand_behind() {
+    for address in addresses() {
+        let mut bytes = address.as_bytes().to_vec();
+        for length in 0..bytes.len() {
+            let cut = Address::from_bytes(&bytes[..length]);
+            assert_eq!(cut, Err(Refusal::Argument));
+        }
+        bytes.push(0);
+        assert_eq!(Address::from_bytes(&bytes), Err(Refusal::Argument));
+    }
+}
+
+#[test]
+fn three_of_256_kinds_are_taken() {
+    for kind in 0..=255 {
+        // With lengths that fit the three kinds.
+        let lawful = [7, 8, 19].into_iter().any(|length| {
+            let mut bytes = vec![4; length];
+            bytes[0] = kind;
+            Address::from_bytes(&bytes).is_ok()
+        });
+        assert_eq!(lawful, [1, 3, 4].contains(&kind), "kind {kind}");
+    }
+}
+
+#[test]
+fn names_have_1_to_255_bytes() {
+    for length in [1, 255] {
+        assert!(Address::name(&vec![b'n'; length], 1).is_ok());
+    }
+    for length in [0, 256, 65_537] {
+        let name = vec![b'n'; length];
+        assert_eq!(Address::name(&name, 1), Err(Refusal::Argument));
+    }
+    assert_eq!(
+        Address::from_bytes(&[3, 0, 0, 80]),
+        Err(Refusal::Argument),
+        "an empty name"
+    );
+}
+
+#[test]
+fn addresses_are_shown_as_people_write_them() {
+    let shown: Vec<String> = addresses().iter().map(Address::to_string).collect();
+    assert_eq!(
+        shown[..7],
+        [
+            "0.0.0.0:0",
+            "255.254.253.252:65535",
+            "[2001:db8::1:2]:443",
+            "[::ffff:192.0.2.1]:53",
+            "a:80",
+            "example.com:443",
+            r"\x00\x00\x00\x00\x00\x00\x00:1",
+        ]
+    );
+}
+
+#[test]
+fn peers_are_turned_back() {
+    for text in [
+        "192.0.2.1:1",
+        "0.0.0.0:0",
+        "[2001:db8::1:2]:443",
+        "[::]:65535",
+    ] {
+        let address: SocketAddr = text.parse().unwrap();
+        assert_eq!(SocketAddr::from(Peer::from(address)), address);
+    }
+    let mapped: SocketAddr = "[::ffff:192.0.2.1]:53".parse().unwrap();
+    let v4: SocketAddr = "192.0.2.1:53".parse().unwrap();
+    assert_eq!(SocketAddr::from(Peer::from(mapped)), v4);
+}

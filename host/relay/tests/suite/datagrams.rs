@@ -1,0 +1,199 @@
+//! Datagrams that are sealed and opened.
+
+use relay::{Address, Method, Refusal, SealSession, Table, Target, MAX_DATAGRAM};
+
+use crate::common::*;
+use crate::plain;
+
+/// Padding and payload.
+const LENGTHS: [(usize, usize); 8] = [
+    (0, 0),
+    (0, 1),
+    (1, 15),
+    (3, 16),
+    (900, 17),
+    (901, 1_400),
+    (5_000, 0),
+    (0, 9_000),
+];
+
+#[test]
+fn a_clients_datagram_opens_at_the_server() {
+    for method in Method::ALL {
+        let mut session = SealSession::client(CLIENT_ID);
+        let mut table = Table::new(60).unwrap();
+        for address in addresses() {
+            for (padding, length) in LENGTHS {
+                let packet_id = session.next_packet();
+                let text = payload(length);
+                let datagram = seal(&mut session, method, &address, padding, &text);
+                let mut out = vec![FILL; datagram.len() - 32];
+                let header = table
+                    .open_server(&key(method), CLOCK, peer(), &datagram, &mut out)
+                    .unwrap();
+                assert_eq!(header.session_id, CLIENT_ID);
+                assert_eq!(header.packet_id, packet_id);
+                assert_eq!(header.timestamp, CLOCK);
+                assert_eq!(usize::from(header.padding), padding);
+                assert_eq!(header.port, address.port());
+                assert_eq!(header.address(&out), address);
+                assert_eq!(header.payload.end, out.len());
+                assert_eq!(header.payload(&out), text);
+            }
+        }
+    }
+}
+
+#[test]
+fn a_servers_datagram_opens_at_its_client() {
+    for method in Method::ALL {
+        let mut session = SealSession::server(SERVER_ID, CLIENT_ID).unwrap();
+        let mut table = Table::new(3_600).unwrap();
+        for address in addresses() {
+            for (padding, length) in LENGTHS {
+                let text = payload(length);
+                let datagram = seal(&mut session, method, &address, padding, &text);
+                let mut out = vec![FILL; datagram.len() - 32];
+                let header = table
+                    .open_client(&key(method), CLOCK, CLIENT_ID, peer(), &datagram, &mut out)
+                    .unwrap();
+                assert_eq!(header.session_id, SERVER_ID);
+                assert_eq!(header.packet_id + 1, session.next_packet());
+                assert_eq!(usize::from(header.padding), padding);
+                assert_eq!(header.address(&out), address);
+                assert_eq!(header.payload(&out), text);
+            }
+        }
+        assert_eq!(table.peer_of(SERVER_ID, CLOCK), Some(peer()));
+        assert_eq!(table.peer_of(CLIENT_ID, CLOCK), None);
+    }
+}
+
+/// Seals into a buffer as long as `sealed_len` says.
+fn seal(
+    session: &mut SealSession,
+    method: Method,
+    address: &Address,
+    padding: usize,
+    text: &[u8],
+) -> Vec<u8> {
+    let length = session.sealed_len(address, padding, text.len()).unwrap();
+    let mut out = vec![FILL; length];
+    let sealed = session.seal(&key(method), CLOCK, address, padding, text, &mut out);
+    assert_eq!(sealed, Ok(length));
+    out
+}
+
+#[test]
+fn sealed_datagrams_are_sip022s_byte_for_byte() {
+    for method in Method::ALL {
+        for address in addresses() {
+            for (padding, length) in [(0, 0), (1, 15), (40, 100), (0, 1_400)] {
+                let text = payload(length);
+                let zeros = vec![0; padding];
+                let rest = [&zeros, address.as_bytes(), &text].concat();
+
+                let mut client = SealSession::from_words(&[0, CLIENT_ID, 0, 5]);
+                let header = plain::client_header(0, CLOCK, padding as u16);
+                let body = [header, rest.clone()].concat();
+                assert_eq!(
+                    seal(&mut client, method, &address, padding, &text),
+                    plain::datagram(key_bytes(method), CLIENT_ID, 5, &body)
+                );
+
+                let mut server = SealSession::from_words(&[1, SERVER_ID, CLIENT_ID, u64::MAX - 1]);
+                let header = plain::server_header(1, CLOCK, CLIENT_ID, padding as u16);
+                let body = [header, rest].concat();
+                assert_eq!(
+                    seal(&mut server, method, &address, padding, &text),
+                    plain::datagram(key_bytes(method), SERVER_ID, u64::MAX - 1, &body)
+                );
+            }
+        }
+    }
+}
+
+#[test]
+fn targets_are_of_three_kinds() {
+    let mut session = SealSession::client(CLIENT_ID);
+    let mut table = Table::new(60).unwrap();
+    let targets = addresses().into_iter().map(|address| {
+        let datagram = seal(&mut session, Method::Aes128Gcm, &address, 2, b"");
+        open(&mut table, Method::Aes128Gcm, CLOCK, &datagram)
+            .unwrap()
+            .target
+    });
+    let targets: Vec<Target> = targets.collect();
+    assert_eq!(targets[0], Target::V4([0, 0, 0, 0].into()));
+    assert_eq!(targets[1], Target::V4([255, 254, 253, 252].into()));
+    assert_eq!(targets[2], Target::V6("2001:db8::1:2".parse().unwrap()));
+    assert_eq!(targets[3], Target::V6("::ffff:192.0.2.1".parse().unwrap()));
+    // Behind type, time, padding's length, padding, kind and length.
+    let place = 1 + 8 + 2 + 2 + 1 + 1;
+    assert_eq!(targets[4], Target::Name(place..place + 1));
+    assert_eq!(targets[7], Target::Name(place..place + 255));
+}
+
+#[test]
+fn the_longest_datagram_is_sealed_and_opened() {
+    for method in Method::ALL {
+        let mut session = SealSession::client(CLIENT_ID);
+        let address = short_address();
+        let text = payload(MAX_DATAGRAM - 43 - 5);
+        let datagram = seal(&mut session, method, &address, 0, &text);
+        assert_eq!(datagram.len(), MAX_DATAGRAM);
+        let mut table = Table::new(60).unwrap();
+        let mut out = vec![FILL; MAX_DATAGRAM - 32];
+        let header = table
+            .open_server(&key(method), CLOCK, peer(), &datagram, &mut out)
+            .unwrap();
+        assert_eq!(header.payload(&out), text);
+
+        // One byte more, as payload or as padding.
+        let longer = payload(text.len() + 1);
+        let mut out = vec![FILL; 70_000];
+        for (padding, text) in [(0, &longer), (1, &text), (65_536, &text)] {
+            let refused = session.seal(&key(method), CLOCK, &address, padding, text, &mut out);
+            assert_eq!(refused, Err(Refusal::Length));
+            let length = session.sealed_len(&address, padding, text.len());
+            assert_eq!(length, Err(Refusal::Length));
+        }
+        let refused = session.seal(&key(method), CLOCK, &address, usize::MAX, b"", &mut out);
+        assert_eq!(refused, Err(Refusal::Length));
+        assert_eq!(
+            session.sealed_len(&address, usize::MAX, usize::MAX),
+            Err(Refusal::Length)
+        );
+        assert_eq!(session.next_packet(), 1);
+    }
+}
+
+#[test]
+fn a_sending_session_counts_its_packets() {
+    let mut session = SealSession::server(SERVER_ID, CLIENT_ID).unwrap();
+    assert_eq!(session.words(), &[1, SERVER_ID, CLIENT_ID, 0]);
+    for packet_id in 0..10 {
+        assert_eq!(session.next_packet(), packet_id);
+        seal(
+            &mut session,
+            Method::Aes256Gcm,
+            &short_address(),
+            0,
+            b"text",
+        );
+    }
+    assert_eq!(session.id(), SERVER_ID);
+    assert_eq!(session.client_id(), Some(CLIENT_ID));
+    assert_eq!(SealSession::client(0).words(), &[0, 0, 0, 0]);
+    assert_eq!(SealSession::client(0).client_id(), None);
+}
+
+#[test]
+fn sessions_of_any_id_begin() {
+    for id in [0, 1, u64::MAX] {
+        let datagram = sealed(Method::Aes128Gcm, id, 0, CLOCK);
+        let mut table = Table::new(60).unwrap();
+        let header = open(&mut table, Method::Aes128Gcm, CLOCK, &datagram).unwrap();
+        assert_eq!(header.session_id, id);
+    }
+}

@@ -1,0 +1,13 @@
+//! Tests of the library from outside, by subject.
+
+mod addresses;
+mod common;
+mod datagrams;
+mod edges;
+mod outputs;
+mod plain;
+mod pools;
+mod refusals;
+mod sessions;
+mod streams;
+mod words;

@@ -1,0 +1,140 @@
+//! The salts that a server remembers.
+
+use relay::{Method, Pool, Refusal, RequestStream};
+
+use crate::common::*;
+
+/// A request's head, sealed at a clock.
+fn head(method: Method, salt: &[u8], clock: u64) -> Vec<u8> {
+    let mut out = vec![0; 256];
+    let (_, length) = RequestStream::seal(
+        &key(method),
+        salt,
+        clock,
+        &short_address(),
+        1,
+        b"",
+        &mut out,
+    )
+    .unwrap();
+    out.truncate(length);
+    out
+}
+
+fn open(pool: &mut Pool, method: Method, clock: u64, head: &[u8]) -> Result<(), Refusal> {
+    let mut out = [0; 256];
+    RequestStream::open(&key(method), clock, head, pool, &mut out).map(|_| ())
+}
+
+fn numbered_salt(method: Method, number: u64) -> Vec<u8> {
+    let mut salt = salt(method).to_vec();
+    salt[..8].copy_from_slice(&number.to_be_bytes());
+    salt
+}
+
+#[test]
+fn a_new_pool_has_no_salts() {
+    for method in Method::ALL {
+        let pool = Pool::new(method);
+        assert_eq!(pool.method(), Some(method));
+        assert_eq!(pool.kept(0), 0);
+        assert_eq!(pool.words()[0], method.number());
+        assert!(pool.words()[1..].iter().all(|&word| word == 0));
+    }
+}
+
+#[test]
+fn a_salt_is_kept_for_60_seconds() {
+    for method in Method::ALL {
+        let mut pool = Pool::new(method);
+        open(&mut pool, method, 1_000, &head(method, salt(method), 1_000)).unwrap();
+        for (clock, kept) in [(990, 1), (1_060, 1), (1_061, 0)] {
+            assert_eq!(pool.kept(clock), kept);
+            let mut copy = Pool::from_words(pool.words());
+            let same_salt = head(method, salt(method), clock);
+            let opened = open(&mut copy, method, clock, &same_salt);
+            assert_eq!(opened.err(), (kept == 1).then_some(Refusal::Replay));
+        }
+    }
+}
+
+/// Were the salt forgotten at 60 seconds, this head would be taken again.
+#[test]
+fn a_head_from_30_seconds_ahead_is_never_taken_twice() {
+    let method = Method::Aes256Gcm;
+    let mut pool = Pool::new(method);
+    let head = head(method, salt(method), 1_030);
+    open(&mut pool, method, 1_000, &head).unwrap();
+    for clock in 1_000..=1_060 {
+        assert_eq!(open(&mut pool, method, clock, &head), Err(Refusal::Replay));
+    }
+    assert_eq!(open(&mut pool, method, 1_061, &head), Err(Refusal::Time));
+}
+
+#[test]
+fn the_257th_salt_waits_until_one_is_forgotten() {
+    for method in Method::ALL {
+        let mut pool = Pool::new(method);
+        for number in 0..256 {
+            let clock = CLOCK + u64::from(number != 0);
+            let head = head(method, &numbered_salt(method, number), clock);
+            open(&mut pool, method, clock, &head).unwrap();
+        }
+        let clock = CLOCK + 60;
+        let newcomer = head(method, &numbered_salt(method, 256), clock);
+        let words = *pool.words();
+        assert_eq!(
+            open(&mut pool, method, clock, &newcomer),
+            Err(Refusal::Full)
+        );
+        assert_eq!(pool.words(), &words);
+        // A known salt is a replay even then.
+        let known = head(method, &numbered_salt(method, 9), clock);
+        assert_eq!(open(&mut pool, method, clock, &known), Err(Refusal::Replay));
+        let clock = CLOCK + 61;
+        assert_eq!(open(&mut pool, method, clock, &newcomer), Ok(()));
+        assert_eq!(pool.kept(clock), 256);
+    }
+}
+
+#[test]
+fn a_head_cut_off_stores_no_salt() {
+    let method = Method::Aes128Gcm;
+    let mut pool = Pool::new(method);
+    let head = head(method, salt(method), CLOCK);
+    for length in 0..head.len() {
+        let opened = open(&mut pool, method, CLOCK, &head[..length]);
+        assert!(matches!(opened, Err(Refusal::More { wanted }) if wanted > length));
+    }
+    assert_eq!(open(&mut pool, method, CLOCK, &head), Ok(()));
+    // Now even a part of it is a replay, once its fixed header is there.
+    let opened = open(&mut pool, method, CLOCK, &head[..43]);
+    assert_eq!(opened, Err(Refusal::Replay));
+}
+
+#[test]
+fn a_pool_goes_on_after_it_was_stored() {
+    let method = Method::Aes256Gcm;
+    let mut pool = Pool::new(method);
+    let head = head(method, salt(method), CLOCK);
+    open(&mut pool, method, CLOCK, &head).unwrap();
+    let mut restored = Pool::from_words(pool.words());
+    assert_eq!(
+        open(&mut restored, method, CLOCK, &head),
+        Err(Refusal::Replay)
+    );
+}
+
+/// Method 1 reads two words of a stored salt, whatever stands in the last two.
+#[test]
+fn junk_behind_a_short_salt_hides_no_replay() {
+    let method = Method::Aes128Gcm;
+    let mut pool = Pool::new(method);
+    let head = head(method, salt(method), CLOCK);
+    open(&mut pool, method, CLOCK, &head).unwrap();
+    let mut words = *pool.words();
+    assert_eq!(words[5..7], [0, 0]);
+    words[5..7].fill(u64::MAX);
+    let mut pool = Pool::from_words(&words);
+    assert_eq!(open(&mut pool, method, CLOCK, &head), Err(Refusal::Replay));
+}

@@ -1,0 +1,171 @@
+//! What a table remembers.
+
+use std::net::SocketAddr;
+
+use relay::{Method, Peer, Refusal, Session, Table};
+
+use crate::common::*;
+
+const METHOD: Method = Method::Aes128Gcm;
+
+/// Accepts packet IDs of one session, all at one clock.
+fn table_with(packet_ids: &[u64]) -> Table {
+    let mut table = Table::new(60).unwrap();
+    for &packet_id in packet_ids {
+        let datagram = sealed(METHOD, CLIENT_ID, packet_id, CLOCK);
+        open(&mut table, METHOD, CLOCK, &datagram).unwrap();
+    }
+    table
+}
+
+fn only_session(table: &Table, clock: u64) -> Session {
+    let sessions: Vec<Session> = table.sessions(clock).collect();
+    assert_eq!(sessions.len(), 1);
+    sessions[0].clone()
+}
+
+#[test]
+fn a_new_table_has_no_sessions() {
+    for (asked, kept) in [(0, 60), (60, 60), (61, 61), (3_600, 3_600)] {
+        let table = Table::new(asked).unwrap();
+        assert_eq!(table.retention(), kept);
+        assert_eq!(table.sessions(0).count(), 0);
+        assert!(table.words()[1..].iter().all(|&word| word == 0));
+    }
+    for retention in [1, 59, 3_601, u64::MAX] {
+        assert_eq!(Table::new(retention).unwrap_err(), Refusal::Settings);
+    }
+}
+
+#[test]
+fn a_session_shows_what_was_accepted() {
+    let packet_ids = [300, 299, 45, 310, 302];
+    let session = only_session(&table_with(&packet_ids), CLOCK);
+    assert_eq!(session.id, CLIENT_ID);
+    assert_eq!(session.highest_packet, 310);
+    assert_eq!(session.last_time, CLOCK);
+    assert_eq!(session.peer, peer());
+    // 45 has left the window.
+    assert_eq!(session.accepted(), 4);
+    for packet_id in [0, 45, 54, 55, 299, 300, 301, 302, 309, 310, 311, u64::MAX] {
+        let marked = [299, 300, 302, 310].contains(&packet_id);
+        assert_eq!(session.is_marked(packet_id), marked, "{packet_id}");
+        let fresh = packet_id >= 55 && !marked;
+        assert_eq!(session.is_fresh(packet_id), fresh, "{packet_id}");
+    }
+}
+
+/// What `is_fresh` says is what the opener does.
+#[test]
+fn freshness_is_the_openers() {
+    let table = table_with(&[300, 299, 45, 310, 302]);
+    let session = only_session(&table, CLOCK);
+    for packet_id in 0..320 {
+        let mut copy = Table::from_words(table.words());
+        let datagram = sealed(METHOD, CLIENT_ID, packet_id, CLOCK);
+        let opened = open(&mut copy, METHOD, CLOCK, &datagram);
+        if session.is_fresh(packet_id) {
+            assert!(opened.is_ok(), "{packet_id}");
+            assert!(only_session(&copy, CLOCK).is_marked(packet_id));
+        } else {
+            assert_eq!(opened, Err(Refusal::Replay), "{packet_id}");
+            assert_eq!(copy.words(), table.words());
+        }
+    }
+}
+
+#[test]
+fn a_session_follows_its_client_to_another_address() {
+    let mut table = table_with(&[0]);
+    let elsewhere = Peer::from("[2001:db8::7]:9".parse::<SocketAddr>().unwrap());
+    let datagram = sealed(METHOD, CLIENT_ID, 1, CLOCK);
+    let mut out = [0; 64];
+    table
+        .open_server(&key(METHOD), CLOCK, elsewhere, &datagram, &mut out)
+        .unwrap();
+    assert_eq!(table.peer_of(CLIENT_ID, CLOCK), Some(elsewhere));
+    // A replay from the old address does not move it back.
+    let replayed = table.open_server(&key(METHOD), CLOCK, peer(), &datagram, &mut out);
+    assert_eq!(replayed, Err(Refusal::Replay));
+    assert_eq!(table.peer_of(CLIENT_ID, CLOCK), Some(elsewhere));
+}
+
+#[test]
+fn the_65th_session_waits_until_one_is_forgotten() {
+    let mut table = Table::new(60).unwrap();
+    for id in 0..64 {
+        // Session 0 is the first to fall silent.
+        let clock = CLOCK + u64::from(id != 0);
+        open(&mut table, METHOD, clock, &sealed(METHOD, id, 9, clock)).unwrap();
+    }
+    let clock = CLOCK + 60;
+    assert_eq!(table.sessions(clock).count(), 64);
+    let newcomer = sealed(METHOD, 64, 0, clock);
+    let words = *table.words();
+    let refused = open(&mut table, METHOD, clock, &newcomer);
+    assert_eq!(refused, Err(Refusal::Full));
+    assert_eq!(table.words(), &words);
+    // A known session is never refused so.
+    open(&mut table, METHOD, clock, &sealed(METHOD, 63, 10, clock)).unwrap();
+
+    let clock = CLOCK + 61;
+    assert_eq!(table.sessions(clock).count(), 63);
+    open(&mut table, METHOD, clock, &newcomer).unwrap();
+    assert_eq!(table.peer_of(0, clock), None);
+    assert_eq!(table.peer_of(64, clock), Some(peer()));
+    assert_eq!(table.sessions(clock).count(), 64);
+}
+
+#[test]
+fn a_table_goes_on_after_it_was_stored() {
+    let table = table_with(&[0, 1, 2]);
+    let mut restored = Table::from_words(table.words());
+    let replayed = sealed(METHOD, CLIENT_ID, 1, CLOCK);
+    assert_eq!(
+        open(&mut restored, METHOD, CLOCK, &replayed),
+        Err(Refusal::Replay)
+    );
+    let next = sealed(METHOD, CLIENT_ID, 3, CLOCK);
+    assert!(open(&mut restored, METHOD, CLOCK, &next).is_ok());
+}
+
+/// Of two alive records with one ID the first counts, here as in the opener.
+#[test]
+fn the_first_alive_record_of_an_id_counts() {
+    let mut words = [0; Table::WORDS];
+    words[0] = 60;
+    let port = 0xabcd_0000_0000_0050;
+    let records = [
+        // Not in use; dead; alive, though its word in use is not 1; alive.
+        [0, 7, 10, CLOCK, 1, 0, 0, 0, 1, 1, 1],
+        [1, 7, 20, CLOCK - 61, 1, 0, 0, 0, 2, 2, 2],
+        [9, 7, 30, CLOCK - 60, 1, 0, 0, 0, 3, 3, port],
+        [1, 7, 40, CLOCK, 1, 0, 0, 0, 4, 4, 4],
+    ];
+    words[1..1 + 44].copy_from_slice(&records.concat());
+    let mut table = Table::from_words(&words);
+    let session = only_session(&table, CLOCK);
+    assert_eq!(session.highest_packet, 30);
+    // A port is the low 16 bits of its word.
+    assert_eq!(session.peer.port, 0x50);
+    let datagram = sealed(METHOD, 7, 30, CLOCK);
+    let opened = open(&mut table, METHOD, CLOCK, &datagram);
+    assert_eq!(opened, Err(Refusal::Replay));
+    let datagram = sealed(METHOD, 7, 31, CLOCK);
+    assert!(open(&mut table, METHOD, CLOCK, &datagram).is_ok());
+    assert_eq!(only_session(&table, CLOCK).highest_packet, 31);
+    // The record stays in use by its own word, and is written with a whole port.
+    assert_eq!(table.words()[1 + 22], 9);
+    assert_eq!(table.words()[1 + 32], u64::from(peer().port));
+}
+
+#[test]
+fn a_last_time_to_come_keeps_a_session_alive() {
+    let mut words = [0; Table::WORDS];
+    words[0] = 60;
+    words[1..12].copy_from_slice(&[1, 7, 10, u64::MAX, 1, 0, 0, 0, 3, 3, 3]);
+    let table = Table::from_words(&words);
+    for clock in [0, CLOCK, u64::MAX] {
+        assert_eq!(table.sessions(clock).count(), 1);
+    }
+}

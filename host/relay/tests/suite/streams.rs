@@ -1,0 +1,304 @@
+//! Streams that are sealed and opened.
+
+use relay::stream::{Opening, Sealing, Stream};
+use relay::{
+    Address, Method, Pool, Refusal, RequestHeader, RequestStream, ResponseStream, Step, MAX_CHUNK,
+};
+
+use crate::common::*;
+use crate::plain;
+
+/// Payloads of chunks.
+const CHUNKS: [usize; 7] = [0, 1, 15, 16, 1_400, 16_384, MAX_CHUNK];
+
+fn seal_request(
+    method: Method,
+    address: &Address,
+    padding: usize,
+    text: &[u8],
+) -> (RequestStream<Sealing>, Vec<u8>) {
+    let length =
+        RequestStream::<Sealing>::sealed_len(method, address, padding, text.len()).unwrap();
+    let mut out = vec![FILL; length];
+    let (stream, sealed) = RequestStream::seal(
+        &key(method),
+        salt(method),
+        CLOCK,
+        address,
+        padding,
+        text,
+        &mut out,
+    )
+    .unwrap();
+    assert_eq!(sealed, length);
+    (stream, out)
+}
+
+fn open_request(
+    method: Method,
+    bytes: &[u8],
+) -> Result<(RequestStream<Opening>, RequestHeader, Vec<u8>), Refusal> {
+    let mut out = vec![FILL; MAX_CHUNK];
+    let mut pool = Pool::new(method);
+    let (stream, header) = RequestStream::open(&key(method), CLOCK, bytes, &mut pool, &mut out)?;
+    Ok((stream, header, out))
+}
+
+fn seal_response(method: Method, text: &[u8]) -> (ResponseStream<Sealing>, Vec<u8>) {
+    let length = ResponseStream::<Sealing>::sealed_len(method, text.len()).unwrap();
+    let mut out = vec![FILL; length];
+    let own_salt = &OTHER_SALT[..method.salt_len()];
+    let (stream, sealed) =
+        ResponseStream::seal(&key(method), own_salt, salt(method), CLOCK, text, &mut out).unwrap();
+    assert_eq!(sealed, length);
+    (stream, out)
+}
+
+/// Seals every chunk behind what is sealed already.
+fn seal_chunks<D>(stream: &mut Stream<D, Sealing>, wire: &mut Vec<u8>) {
+    for length in CHUNKS {
+        let text = payload(length);
+        let due = Stream::<D, Sealing>::sealed_chunk_len(length).unwrap();
+        let mut out = vec![FILL; due];
+        assert_eq!(stream.seal_chunk(&text, &mut out), Ok(due));
+        wire.extend(out);
+    }
+}
+
+/// Opens every payload that the bytes hold.
+fn open_chunks<D>(stream: &mut Stream<D, Opening>, mut bytes: &[u8]) -> Vec<Vec<u8>> {
+    let mut payloads = Vec::new();
+    let mut out = vec![FILL; MAX_CHUNK];
+    while !bytes.is_empty() {
+        let step = stream.open_chunk(bytes, &mut out).unwrap();
+        bytes = &bytes[step.used()..];
+        if let Step::Payload { length, .. } = step {
+            payloads.push(out[..length].to_vec());
+        }
+    }
+    payloads
+}
+
+#[test]
+fn a_request_opens_at_the_server() {
+    for method in Method::ALL {
+        for address in addresses() {
+            for (padding, length) in [(1, 0), (900, 0), (0, 1), (17, 1_400)] {
+                let text = payload(length);
+                let (_, wire) = seal_request(method, &address, padding, &text);
+                let (stream, header, out) = open_request(method, &wire).unwrap();
+                assert_eq!(header.address(&out), address);
+                assert_eq!(header.port, address.port());
+                assert_eq!(usize::from(header.padding), padding);
+                assert_eq!(header.payload(&out), text);
+                assert_eq!(header.used, wire.len());
+                assert!(!stream.is_ended());
+                assert_eq!(stream.method(), Some(method));
+            }
+        }
+    }
+}
+
+#[test]
+fn chunks_of_a_request_open_in_order() {
+    for method in Method::ALL {
+        let (mut sender, mut wire) = seal_request(method, &short_address(), 0, b"first");
+        seal_chunks(&mut sender, &mut wire);
+        let (mut receiver, header, _) = open_request(method, &wire).unwrap();
+        let payloads = open_chunks(&mut receiver, &wire[header.used..]);
+        assert!(payloads.into_iter().eq(CHUNKS.map(payload)));
+    }
+}
+
+#[test]
+fn a_response_and_its_chunks_open_at_the_client() {
+    for method in Method::ALL {
+        for length in CHUNKS {
+            let (mut sender, mut wire) = seal_response(method, &payload(length));
+            seal_chunks(&mut sender, &mut wire);
+            let (mut receiver, header) =
+                ResponseStream::open(&key(method), CLOCK, salt(method), &wire).unwrap();
+            assert_eq!(header.length, length);
+            assert_eq!(header.used, 2 * method.salt_len() + 27);
+            let payloads = open_chunks(&mut receiver, &wire[header.used..]);
+            let expected = [length].into_iter().chain(CHUNKS).map(payload);
+            assert!(payloads.into_iter().eq(expected));
+        }
+    }
+}
+
+#[test]
+fn sealed_streams_are_sip022s_byte_for_byte() {
+    for method in Method::ALL {
+        let (key, salt) = (key_bytes(method), salt(method));
+        let piece = |counter, text: &[u8]| plain::piece(key, salt, counter, text);
+        let address = Address::name(b"example.com", 443).unwrap();
+        let (mut stream, mut wire) = seal_request(method, &address, 3, b"first");
+        let mut out = [0; 64];
+        for text in [&b""[..], b"second"] {
+            let length = stream.seal_chunk(text, &mut out).unwrap();
+            wire.extend(&out[..length]);
+        }
+        let variable = [address.as_bytes(), &[0, 3, 0, 0, 0], b"first"].concat();
+        let fixed = plain::fixed_header(0, CLOCK, variable.len());
+        let mut expected = plain::request_head(key, salt, &fixed, &variable);
+        expected.extend([piece(2, &[0, 0]), piece(3, b"")].concat());
+        expected.extend([piece(4, &[0, 6]), piece(5, b"second")].concat());
+        assert_eq!(wire, expected);
+
+        let own_salt = &OTHER_SALT[..method.salt_len()];
+        let piece = |counter, text: &[u8]| plain::piece(key, own_salt, counter, text);
+        let (_, wire) = seal_response(method, b"answer");
+        let fixed = [&[1][..], &CLOCK.to_be_bytes(), salt, &[0, 6]].concat();
+        let expected = [own_salt.to_vec(), piece(0, &fixed), piece(1, b"answer")].concat();
+        assert_eq!(wire, expected);
+    }
+}
+
+/// One byte more at each call; nothing is used or lost before a piece is whole.
+#[test]
+fn a_stream_may_arrive_byte_by_byte() {
+    let method = Method::Aes128Gcm;
+    let (mut sender, mut wire) = seal_response(method, b"first");
+    let mut out = [0; 64];
+    let length = sender.seal_chunk(b"second", &mut out).unwrap();
+    wire.extend(&out[..length]);
+
+    let open = |bytes| ResponseStream::open(&key(method), CLOCK, salt(method), bytes);
+    for length in 0..59 {
+        let refusal = open(&wire[..length]).unwrap_err();
+        assert_eq!(refusal, Refusal::More { wanted: 59 });
+    }
+    let (mut stream, header) = open(&wire[..59]).unwrap();
+    let mut place = header.used;
+    for (wanted, expected) in [(21, Some("first")), (18, None), (22, Some("second"))] {
+        let words = *stream.words();
+        for length in 0..wanted {
+            let refused = stream.open_chunk(&wire[place..place + length], &mut out);
+            assert_eq!(refused, Err(Refusal::More { wanted }));
+            assert_eq!(stream.words(), &words);
+        }
+        let step = stream.open_chunk(&wire[place..place + wanted], &mut out);
+        match step.unwrap() {
+            Step::Length { used, length } => assert_eq!((used, length), (18, 6)),
+            Step::Payload { used, length } => {
+                assert_eq!(used, wanted);
+                assert_eq!(&out[..length], expected.unwrap().as_bytes());
+            }
+        }
+        place += wanted;
+    }
+    assert_eq!(place, wire.len());
+}
+
+#[test]
+fn a_wrong_tag_ends_a_stream() {
+    let method = Method::Aes256Gcm;
+    let (mut sender, _) = seal_request(method, &short_address(), 1, b"");
+    let mut good = vec![0; 64];
+    let length = sender.seal_chunk(b"payload", &mut good).unwrap();
+    good.truncate(length);
+    for place in 0..good.len() {
+        let (_, head) = seal_request(method, &short_address(), 1, b"");
+        let (mut stream, _, _) = open_request(method, &head).unwrap();
+        let mut forged = good.clone();
+        forged[place] ^= 1;
+        let mut out = [FILL; 64];
+        if place >= 18 {
+            stream.open_chunk(&forged, &mut out).unwrap();
+            forged.drain(..18);
+        }
+        assert!(!stream.is_ended());
+        let refused = stream.open_chunk(&forged, &mut out);
+        assert_eq!(refused, Err(Refusal::NotAuthentic));
+        assert!(stream.is_ended());
+        // Nothing is opened any more, be it good or missing.
+        for bytes in [&good[..], &[]] {
+            let refused = stream.open_chunk(bytes, &mut out);
+            assert_eq!(refused, Err(Refusal::NotAuthentic));
+        }
+        assert_eq!(out, [FILL; 64]);
+    }
+}
+
+#[test]
+fn too_little_room_leaves_a_stream_as_it_was() {
+    let method = Method::Aes128Gcm;
+    let (_, wire) = seal_response(method, b"first");
+    let (mut stream, header) =
+        ResponseStream::open(&key(method), CLOCK, salt(method), &wire).unwrap();
+    let words = *stream.words();
+    for room in 0..5 {
+        let mut out = vec![FILL; room];
+        let refused = stream.open_chunk(&wire[header.used..], &mut out);
+        assert_eq!(refused, Err(Refusal::Room));
+        assert_eq!(out, vec![FILL; room]);
+        assert_eq!(stream.words(), &words);
+    }
+    let mut out = [FILL; 6];
+    assert!(stream.open_chunk(&wire[header.used..], &mut out).is_ok());
+    assert_eq!(&out, b"first\xa5");
+}
+
+/// Each chunk has a nonce of its own: none opens in another's place.
+#[test]
+fn chunks_do_not_change_places() {
+    let method = Method::Aes128Gcm;
+    let (mut sender, head) = seal_request(method, &short_address(), 1, b"");
+    let mut out = [0; 64];
+    sender.seal_chunk(b"one", &mut out).unwrap();
+    let length = sender.seal_chunk(b"two", &mut out).unwrap();
+    let (mut stream, _, _) = open_request(method, &head).unwrap();
+    let refused = stream.open_chunk(&out[..length], &mut [0; 64]);
+    assert_eq!(refused, Err(Refusal::NotAuthentic));
+}
+
+#[test]
+fn a_stream_goes_on_after_it_was_stored() {
+    let method = Method::Aes256Gcm;
+    let (sender, mut wire) = seal_request(method, &short_address(), 1, b"");
+    let mut sender = RequestStream::<Sealing>::from_words(sender.words());
+    seal_chunks(&mut sender, &mut wire);
+    let (receiver, header, _) = open_request(method, &wire).unwrap();
+    let mut receiver = RequestStream::<Opening>::from_words(receiver.words());
+    let payloads = open_chunks(&mut receiver, &wire[header.used..]);
+    assert!(payloads.into_iter().eq(CHUNKS.map(payload)));
+}
+
+#[test]
+fn no_key_material_is_shown() {
+    let (stream, _) = seal_request(Method::Aes256Gcm, &short_address(), 1, b"");
+    let shown = format!("{stream:?}");
+    assert_eq!(
+        shown,
+        "Stream { turn: 3, method: Some(Aes256Gcm), counter: 2, .. }"
+    );
+    let shown = format!("{:?}", key(Method::Aes256Gcm));
+    assert_eq!(shown, "Key { method: Aes256Gcm, .. }");
+}
+
+/// A chunk is 65,535 bytes at most, and so is a variable header.
+#[test]
+fn the_longest_request_is_sealed_and_opened() {
+    let method = Method::Aes128Gcm;
+    let text = payload(MAX_CHUNK - 5 - 2);
+    let (_, wire) = seal_request(method, &short_address(), 0, &text);
+    let (_, header, out) = open_request(method, &wire).unwrap();
+    assert_eq!(header.payload(&out), text);
+
+    let longer = payload(text.len() + 1);
+    let mut out = vec![0; 70_000];
+    let sealed = RequestStream::seal(
+        &key(method),
+        salt(method),
+        CLOCK,
+        &short_address(),
+        0,
+        &longer,
+        &mut out,
+    );
+    assert_eq!(sealed.unwrap_err(), Refusal::Length);
+    let length =
+        RequestStream::<Sealing>::sealed_len(method, &short_address(), usize::MAX, usize::MAX);
+    assert_eq!(length, Err(Refusal::Length));
+}
