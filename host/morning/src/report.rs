@@ -1,0 +1,170 @@
+//! What is printed.
+
+use std::io::{self, IsTerminal, Write};
+
+use crate::disagreement::Disagreement;
+use crate::meter::Meter;
+use crate::morning::{State, Summary};
+use crate::rules;
+use crate::tally::Tally;
+
+/// Minutes between two lines of progress, where they are not one line.
+const STEP: u64 = 5;
+
+/// Refusals of the server, but for replays, in columns.
+const COLUMNS: [(u64, &str); 6] = [
+    (rules::LENGTH, "length"),
+    (rules::ROOM, "room"),
+    (rules::NOT_AUTHENTIC, "forged"),
+    (rules::TYPE, "type"),
+    (rules::WRONG_TIME, "time"),
+    (rules::FULL, "full"),
+];
+
+/// Shows how far the morning is: one line that changes, or a line now and then.
+pub fn progress(state: &State) {
+    let mut out = io::stdout();
+    let is_last = state.second == state.seconds_in_all;
+    let line = format!(
+        "{:02}:{:02} of the clock   {:>9} accepted   {:>7} refused   {:>2} sessions alive",
+        state.second / 3_600,
+        state.second / 60 % 60,
+        grouped(state.tally.accepted),
+        grouped(state.tally.refused()),
+        state.alive
+    );
+    if out.is_terminal() {
+        let end = if is_last { "\n" } else { "" };
+        print!("\r{line}{end}");
+    } else if is_last || state.second.is_multiple_of(60 * STEP) {
+        println!("{line}");
+    }
+    // What a line that changes shows is worth nothing later.
+    let _ = out.flush();
+}
+
+/// Says what went wrong, behind the line that changes.
+pub fn disagreement(disagreement: &Disagreement) {
+    if io::stdout().is_terminal() {
+        println!();
+    }
+    eprintln!("morning: the library and the rules disagree");
+    eprintln!("morning: {disagreement}");
+}
+
+pub fn summary(summary: &Summary) {
+    table(summary);
+    throughput(summary);
+    conclusion(summary);
+}
+
+fn table(summary: &Summary) {
+    println!();
+    println!("Datagrams by client, and what became of them. Numbers are those of the refusals.");
+    println!();
+    print!("client  sessions  accepted  8 replay");
+    for (number, name) in COLUMNS {
+        print!("  {:>8}", format!("{number} {name}"));
+    }
+    println!("   replies");
+    let mut sum = (0, Tally::default(), Tally::default());
+    for (index, (sessions, tally, replies)) in summary.rows.iter().enumerate() {
+        row(&(index + 1).to_string(), *sessions, tally, replies);
+        sum.0 += sessions;
+        sum.1 += *tally;
+        sum.2 += *replies;
+    }
+    row("all", sum.0, &sum.1, &sum.2);
+}
+
+fn row(name: &str, sessions: u64, tally: &Tally, replies: &Tally) {
+    print!(
+        "{name:>6}  {sessions:>8}  {:>8}  {:>8}",
+        tally.accepted,
+        tally.refused_with(rules::REPLAY)
+    );
+    for (number, _) in COLUMNS {
+        print!("  {:>8}", tally.refused_with(number));
+    }
+    println!("  {:>8}", replies.accepted);
+}
+
+fn throughput(summary: &Summary) {
+    println!();
+    println!("Time in the library's calls, one at a time");
+    for (name, meter) in [("opened", &summary.opened), ("sealed", &summary.sealed)] {
+        speed(name, meter);
+    }
+}
+
+fn speed(name: &str, meter: &Meter) {
+    println!(
+        "{name}  {:>9} datagrams  {:>5.0} MB  {:>5.1} s  {:>7.0} datagrams/s  {:>5.1} MB/s",
+        grouped(meter.datagrams),
+        meter.bytes as f64 / 1e6,
+        meter.seconds(),
+        meter.datagrams as f64 / meter.seconds(),
+        meter.bytes as f64 / 1e6 / meter.seconds()
+    );
+}
+
+fn conclusion(summary: &Summary) {
+    let (mut server, mut clients) = (Tally::default(), Tally::default());
+    for (_, tally, replies) in &summary.rows {
+        server += *tally;
+        clients += *replies;
+    }
+    println!();
+    println!(
+        "{} minutes of clock in {:.1} s; {} datagrams came to the relay.",
+        summary.minutes,
+        summary.seconds,
+        grouped(server.accepted + server.refused())
+    );
+    println!(
+        "{} readings were counted, each once and in its own session; none was lost.",
+        grouped(summary.counted)
+    );
+    println!(
+        "{} datagrams were refused, each with the number that the rules give.",
+        grouped(server.refused())
+    );
+    println!(
+        "{} replies were accepted, and {} refused: {} replayed, {} forged, {} for others.",
+        grouped(clients.accepted),
+        grouped(clients.refused()),
+        grouped(clients.refused_with(rules::REPLAY)),
+        grouped(clients.refused_with(rules::NOT_AUTHENTIC) + clients.refused_with(rules::LENGTH)),
+        grouped(clients.refused_with(rules::BINDING))
+    );
+    println!(
+        "The sessions were compared {} times: the library and the rules agree.",
+        summary.looks
+    );
+}
+
+/// A number with its thousands apart.
+fn grouped(number: u64) -> String {
+    let digits = number.to_string();
+    let mut text = String::new();
+    for (place, digit) in digits.chars().enumerate() {
+        if place > 0 && (digits.len() - place).is_multiple_of(3) {
+            text.push(',');
+        }
+        text.push(digit);
+    }
+    text
+}
+
+#[cfg(test)]
+mod tests {
+    use super::grouped;
+
+    #[test]
+    fn thousands_stand_apart() {
+        for (number, text) in [(0, "0"), (999, "999"), (1_000, "1,000")] {
+            assert_eq!(grouped(number), text);
+        }
+        assert_eq!(grouped(1_440_000), "1,440,000");
+    }
+}

@@ -1,0 +1,92 @@
+//! Seals datagrams of either side, and keeps how each was made.
+
+use std::net::SocketAddr;
+use std::rc::Rc;
+
+use relay::{Address, Key, SealSession};
+
+use crate::datagram::{Datagram, Origin};
+use crate::half::Half;
+use crate::meter::Meter;
+use crate::payload::{Payloads, Reading, SHORTEST};
+
+/// What is to be sealed.
+pub struct Order {
+    pub client: usize,
+    pub reading: Reading,
+    pub timestamp: u64,
+    pub padding: usize,
+    /// The datagram's length, unless that is too short to carry a reading.
+    pub size: usize,
+}
+
+pub struct Sealer {
+    seed: u64,
+    half: Half,
+    key: Key,
+    payloads: Rc<Payloads>,
+    targets: Vec<Rc<Address>>,
+    pub meter: Meter,
+}
+
+impl Sealer {
+    pub fn new(seed: u64, payloads: Rc<Payloads>) -> Self {
+        Self {
+            seed,
+            half: Half::First,
+            key: Half::First.key(seed),
+            payloads,
+            targets: targets(),
+            meter: Meter::default(),
+        }
+    }
+
+    /// Goes on with the key of a half.
+    pub fn change_key(&mut self, half: Half) {
+        self.half = half;
+        self.key = half.key(self.seed);
+    }
+
+    /// Seals the next datagram of a session.
+    pub fn seal(&mut self, session: &mut SealSession, order: &Order) -> Rc<Datagram> {
+        let place = order.reading.number as usize % self.targets.len();
+        let target = Rc::clone(&self.targets[place]);
+        let overhead = session
+            .sealed_len(&target, order.padding, 0)
+            .expect("padding is short");
+        let length = order.size.saturating_sub(overhead).max(SHORTEST);
+        let payload = self.payloads.make(order.reading, length);
+        let origin = Origin {
+            client: order.client,
+            half: self.half,
+            session_id: session.id(),
+            client_session: session.client_id(),
+            packet_id: session.next_packet(),
+            timestamp: order.timestamp,
+            padding: order.padding,
+            target: Rc::clone(&target),
+            reading: order.reading,
+            is_damaged: false,
+        };
+        let mut bytes = vec![0; overhead + length];
+        let key = &self.key;
+        let sealed = self.meter.measure(bytes.len(), || {
+            let (padding, clock) = (order.padding, order.timestamp);
+            session.seal(key, clock, &target, padding, &payload, &mut bytes)
+        });
+        assert_eq!(sealed, Ok(bytes.len()), "sealing is never refused here");
+        Rc::new(Datagram { bytes, origin })
+    }
+}
+
+/// Targets of every kind.
+fn targets() -> Vec<Rc<Address>> {
+    let v6: SocketAddr = "[2001:db8::25]:8086".parse().expect("an address");
+    let targets = [
+        Address::from(SocketAddr::from(([192, 0, 2, 25], 8086))),
+        Address::from(v6),
+        Address::name(b"readings.example", 8086).expect("a name"),
+        Address::name(b"r", 1).expect("a name"),
+    ];
+    targets.into_iter().map(Rc::new).collect()
+}
