@@ -22,9 +22,12 @@
  *   A buffer is a pointer and a length: in bytes for uint8_t, in words for
  *   uint64_t. A length of 0 may come with any pointer, NULL too. Buffers that
  *   one call writes must not overlap any other buffer of the call. Keys have
- *   16 bytes (method 1) or 32 (method 2), and so have salts. A lent table,
- *   pool, session, stream or answer of another length than its constant is
- *   RELAY_SETTINGS, and nothing is written.
+ *   16 bytes (method 1) or 32 (method 2), and so have salts. RELAY_SETTINGS
+ *   is: a method that there is not; a key, salt, table, pool, session, stream
+ *   or answer of another length than its own; a table whose retention is not
+ *   60 to 3,600; a pool of another method; a session whose side is neither 0
+ *   nor 1; a stream at another turn than the call's, or with a length above
+ *   65,535 at a payload. Nothing is written then.
  *
  * WHAT A REFUSAL WRITES
  *   No refusal changes a table, a pool or a sending session. A refusal before
@@ -69,7 +72,7 @@ extern "C" {
 /* ---- what a function returns */
 
 #define RELAY_OK 0
-#define RELAY_SETTINGS 1      /* method, key, salt, table, pool or state unlawful */
+#define RELAY_SETTINGS 1      /* method, or what was lent has a wrong length or an unlawful word */
 #define RELAY_LENGTH 2        /* datagram under 32 or over 65,507 bytes, chunk over 65,535 */
 #define RELAY_ROOM 3          /* `out` is shorter than the bytes due */
 #define RELAY_NOT_AUTHENTIC 4 /* a tag is wrong, or the stream has ended */
@@ -109,13 +112,39 @@ extern "C" {
 /* anything sealed */
 #define RELAY_SEALED_LENGTH 0  /* bytes written to `out` */
 
-/* ---- words of a stream */
+/* ---- words of a session table: the retention, then 64 records of 11 words */
+
+#define RELAY_RECORDS 64
+#define RELAY_RECORD_WORDS 11  /* record i begins at word 1 + 11 * i */
+#define RELAY_RECORD_USED 0    /* not 0: in use */
+#define RELAY_RECORD_ID 1
+#define RELAY_RECORD_HIGHEST 2 /* highest packet ID accepted */
+#define RELAY_RECORD_LAST 3    /* last time; alive while clock <= last + retention */
+#define RELAY_RECORD_MARKS 4   /* 4 words: bit i of word k marks packet ID highest - 64 k - i */
+#define RELAY_RECORD_FIRST 8   /* where the last accepted datagram came from: send replies there */
+#define RELAY_RECORD_SECOND 9
+#define RELAY_RECORD_PORT 10   /* its low 16 bits */
+
+/* ---- words of a sending session: side (0 a client's, 1 a server's), own ID, the client's ID, next packet ID */
+
+#define RELAY_SESSION_SIDE 0
+#define RELAY_SESSION_OWN_ID 1
+#define RELAY_SESSION_CLIENT_ID 2
+#define RELAY_SESSION_NEXT 3
+
+/* ---- words of a stream; the last four are secret */
 
 #define RELAY_TURN 0           /* what the stream does next: */
 #define RELAY_TURN_ENDED 0     /*   nothing: a tag was wrong */
 #define RELAY_TURN_LENGTH 1    /*   opens a length */
-#define RELAY_TURN_PAYLOAD 2   /*   opens a payload of stream[3] bytes */
+#define RELAY_TURN_PAYLOAD 2   /*   opens a payload */
 #define RELAY_TURN_SEALING 3   /*   seals */
+#define RELAY_STREAM_METHOD 1
+#define RELAY_STREAM_COUNTER 2 /* of the next piece */
+#define RELAY_STREAM_LENGTH 3  /* of the payload that is next; else 0 */
+#define RELAY_STREAM_SUBKEY 4  /* 4 words, bytes big-endian; method 1 has zeros in the last two */
+
+/* ---- words of a salt pool: the method, then 256 records of 6 words: in use (not 0), time, salt in 4 words, big-endian */
 
 /* ---- session tables */
 
