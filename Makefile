@@ -17,9 +17,10 @@ vectors:
 	python3 tools/session-vectors.py
 	python3 tools/stream-vectors.py
 
-# The table of speeds. libssl-dev has the libcrypto.so that the linker asks for.
+# The table of speeds and its plot, in target/bench; `make bench ARGS=--quick` for a
+# short run. libssl-dev has the libcrypto.so that the linker asks for.
 bench:
 	rt staticlib bench
 	test -e "$$(cc -print-file-name=libcrypto.so)" || \
 		{ apt-get update && apt-get install -y --no-install-recommends libssl-dev; }
-	cargo run --release --manifest-path host/Cargo.toml -p bench
+	cargo run --release --manifest-path host/Cargo.toml -p bench -- $(ARGS)

@@ -10,12 +10,10 @@ use std::io::{self, BufRead, BufReader, Read, Write};
 use std::process::{self, ChildStdin, ChildStdout, Command, Stdio};
 use std::str::FromStr;
 
-use crate::measure::{Here, Runner};
+use crate::measure::{Here, Pace, Runner};
 use crate::openssl;
+use crate::options;
 use crate::rows::Row;
-
-/// The argument that makes this program the child.
-pub const ARGUMENT: &str = "--child";
 
 /// The parent's end.
 pub struct Child<'a> {
@@ -27,9 +25,11 @@ pub struct Child<'a> {
 }
 
 impl<'a> Child<'a> {
-    pub fn start(rows: &'a [Row]) -> io::Result<Self> {
+    pub fn start(rows: &'a [Row], pace: Pace) -> io::Result<Self> {
+        let quick = (pace == Pace::QUICK).then_some(options::QUICK);
         let mut process = Command::new(env::current_exe()?)
-            .arg(ARGUMENT)
+            .arg(options::CHILD)
+            .args(quick)
             .env(openssl::CAPABILITIES, openssl::NO_CAPABILITIES)
             .stdin(Stdio::piped())
             .stdout(Stdio::piped())
@@ -87,8 +87,8 @@ impl Drop for Child<'_> {
 }
 
 /// The child's end: answers requests until there are no more.
-pub fn serve(rows: &[Row]) -> io::Result<()> {
-    let mut here = Here::new(rows);
+pub fn serve(rows: &[Row], pace: Pace) -> io::Result<()> {
+    let mut here = Here::new(rows, pace);
     let mut answers = io::stdout().lock();
     for request in io::stdin().lock().lines() {
         let request = request?;

@@ -4,17 +4,19 @@ use std::error::Error;
 use std::io;
 
 use crate::child::Child;
-use crate::measure::{Here, Runner};
+use crate::measure::{Here, Pace, Runner};
+use crate::results::Line;
 use crate::rows::{Library, Row};
 
-/// One more than a multiple of four, so that the quartiles are samples.
-pub const ROUNDS: usize = 21;
-
 /// A column of the table: a library in a process.
-pub struct Column {
-    pub title: &'static str,
-    library: Library,
-    process: Process,
+#[derive(Clone, Copy, Debug, PartialEq, Eq)]
+pub enum Column {
+    Ours,
+    /// OpenSSL without processor instructions.
+    Without,
+    /// OpenSSL with processor instructions.
+    With,
+    Plain,
 }
 
 #[derive(Clone, Copy)]
@@ -24,48 +26,52 @@ enum Process {
     Child,
 }
 
-pub const COLUMNS: [Column; 4] = [
-    Column {
-        title: "ours",
-        library: Library::Ours,
-        process: Process::Here,
-    },
-    Column {
-        title: "OpenSSL with",
-        library: Library::OpenSsl,
-        process: Process::Here,
-    },
-    Column {
-        title: "OpenSSL without",
-        library: Library::OpenSsl,
-        process: Process::Child,
-    },
-    Column {
-        title: "plain",
-        library: Library::Plain,
-        process: Process::Here,
-    },
-];
+impl Column {
+    pub const ALL: [Column; 4] = [Column::Ours, Column::Without, Column::With, Column::Plain];
+
+    pub fn title(self) -> &'static str {
+        match self {
+            Column::Ours => "ours",
+            Column::Without => "without instructions",
+            Column::With => "with instructions",
+            Column::Plain => "plain Rust",
+        }
+    }
+
+    fn library(self) -> Library {
+        match self {
+            Column::Ours => Library::Ours,
+            Column::Without | Column::With => Library::OpenSsl,
+            Column::Plain => Library::Plain,
+        }
+    }
+
+    fn process(self) -> Process {
+        match self {
+            Column::Without => Process::Child,
+            Column::Ours | Column::With | Column::Plain => Process::Here,
+        }
+    }
+}
+
+/// A number for each round and column, or none where a column has no contestant.
+pub type Samples = [Vec<f64>; Column::ALL.len()];
 
 /// Both processes, which know the same rows.
 pub struct Contest<'a> {
     rows: &'a [Row],
+    rounds: usize,
     here: Here<'a>,
     pub child: Child<'a>,
 }
 
-/// A timed row's samples in MB/s: for each column one a round, or none at all.
-pub struct Speeds<'a> {
-    pub row: &'a Row,
-    pub columns: Vec<Vec<f64>>,
-}
-
 impl<'a> Contest<'a> {
-    pub fn new(rows: &'a [Row]) -> io::Result<Self> {
+    pub fn new(rows: &'a [Row], pace: Pace) -> io::Result<Self> {
         Ok(Self {
             rows,
-            here: Here::new(rows),
-            child: Child::start(rows)?,
+            rounds: pace.rounds,
+            here: Here::new(rows, pace),
+            child: Child::start(rows, pace)?,
         })
     }
 
@@ -77,55 +83,53 @@ impl<'a> Contest<'a> {
     }
 
     /// Holds each row's outputs to each other, byte for byte. Answers how many rows
-    /// have several.
+    /// there are.
     pub fn compare(&mut self) -> Result<usize, Box<dyn Error>> {
-        let mut compared = 0;
         for (index, row) in self.rows.iter().enumerate() {
-            let mut first: Option<(&Column, Vec<u8>)> = None;
-            for column in &COLUMNS {
-                let Some(contestant) = row.contestant(column.library) else {
+            let mut first: Option<(Column, Vec<u8>)> = None;
+            for column in Column::ALL {
+                let Some(contestant) = row.contestant(column.library()) else {
                     continue;
                 };
-                let output = self.runner(column.process).output(index, contestant)?;
+                let output = self.runner(column.process()).output(index, contestant)?;
                 let Some((other, expected)) = &first else {
                     first = Some((column, output));
                     continue;
                 };
                 if let Some(place) = (0..row.buffer).find(|&i| output[i] != expected[i]) {
                     return Err(format!(
-                        "{}, {} bytes: {} and {} differ from byte {place} on",
-                        row.name, row.size, other.title, column.title
+                        "{}: {} and {} differ from byte {place} on",
+                        row.name(),
+                        other.title(),
+                        column.title()
                     )
                     .into());
                 }
             }
-            compared += usize::from(row.contestants.len() > 1);
         }
-        Ok(compared)
+        Ok(self.rows.len())
     }
 
     /// Times the rows round by round. Within a row the columns take turns, so that
     /// a change of the processor's speed meets all of them.
-    pub fn measure(&mut self) -> io::Result<Vec<Speeds<'a>>> {
-        let timed = self.rows.iter().enumerate().filter(|(_, row)| row.timed);
-        let mut table: Vec<(usize, Speeds)> = timed
-            .map(|(index, row)| {
-                let columns = vec![Vec::new(); COLUMNS.len()];
-                (index, Speeds { row, columns })
-            })
-            .collect();
-        for _ in 0..ROUNDS {
-            for (index, Speeds { row, columns }) in &mut table {
-                for (column, samples) in COLUMNS.iter().zip(columns) {
-                    let Some(contestant) = row.contestant(column.library) else {
+    pub fn measure(&mut self) -> io::Result<Vec<Line>> {
+        let rows = self.rows.iter().enumerate();
+        let timed: Vec<(usize, &Row)> = rows.filter(|(_, row)| row.special.is_none()).collect();
+        let mut table = vec![Samples::default(); timed.len()];
+        for _ in 0..self.rounds {
+            for ((index, row), samples) in timed.iter().zip(&mut table) {
+                for (column, samples) in Column::ALL.into_iter().zip(samples) {
+                    let Some(contestant) = row.contestant(column.library()) else {
                         continue;
                     };
-                    let runner = self.runner(column.process);
-                    let nanoseconds = runner.nanoseconds(*index, contestant)?;
-                    samples.push(row.size as f64 * 1e3 / nanoseconds);
+                    let runner = self.runner(column.process());
+                    samples.push(runner.nanoseconds(*index, contestant)?);
                 }
             }
         }
-        Ok(table.into_iter().map(|(_, speeds)| speeds).collect())
+        let lines = timed.iter().zip(&table);
+        Ok(lines
+            .map(|((_, row), samples)| Line::new(row.kind, row.size, samples))
+            .collect())
     }
 }

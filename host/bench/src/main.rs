@@ -1,37 +1,46 @@
 //! Speed of the proved code beside OpenSSL's, with and without processor
 //! instructions, and for what OpenSSL has not beside plain Rust, in one table of
-//! one run.
+//! one run and as a plot.
 //!
 //! All outputs are compared first; a difference ends the run with exit status 1.
+//! No speed does.
 
 #![deny(unsafe_code)]
 
+mod about;
+mod around;
 mod child;
 mod contest;
+mod kinds;
 mod measure;
+mod numbers;
 #[allow(unsafe_code)]
 mod openssl;
+mod options;
 #[allow(unsafe_code)]
 mod ours;
 mod plain;
+mod plot;
+mod results;
 mod rows;
+#[cfg(test)]
+mod samples;
 mod table;
+mod worst;
 
 use std::env;
 use std::error::Error;
+use std::fs;
+use std::path::Path;
 use std::process::ExitCode;
 
-use contest::{Contest, ROUNDS};
-use rows::Row;
+use about::About;
+use contest::Contest;
+use measure::Pace;
+use options::Task;
 
 fn main() -> ExitCode {
-    let rows = rows::all();
-    let result = if env::args().nth(1).as_deref() == Some(child::ARGUMENT) {
-        child::serve(&rows).map_err(Into::into)
-    } else {
-        run(&rows)
-    };
-    match result {
+    match Task::of(env::args_os().skip(1)).map_or_else(|error| Err(error.into()), perform) {
         Ok(()) => ExitCode::SUCCESS,
         Err(error) => {
             eprintln!("bench: {error}");
@@ -40,7 +49,18 @@ fn main() -> ExitCode {
     }
 }
 
-fn run(rows: &[Row]) -> Result<(), Box<dyn Error>> {
+fn perform(task: Task) -> Result<(), Box<dyn Error>> {
+    match task {
+        Task::Run { pace, out } => run(pace, &out),
+        Task::Serve { pace } => Ok(child::serve(&rows::all(), pace)?),
+        Task::Help => {
+            println!("{}", options::USAGE);
+            Ok(())
+        }
+    }
+}
+
+fn run(pace: Pace, out: &Path) -> Result<(), Box<dyn Error>> {
     if env::var_os(openssl::CAPABILITIES).is_some() {
         return Err(format!(
             "{} is set: it would take instructions from the column that has them",
@@ -48,22 +68,28 @@ fn run(rows: &[Row]) -> Result<(), Box<dyn Error>> {
         )
         .into());
     }
-    let mut contest = Contest::new(rows)?;
-    let compared = contest.compare()?;
-
-    let with = openssl::capabilities();
-    let without = contest.child.capabilities()?;
-    println!("CPU      {}", table::cpu_model());
-    println!("OpenSSL  {}", openssl::version());
-    println!("         with processor instructions:    {with}");
-    println!("         without processor instructions: {without}");
-    println!("Plain    this program's own Rust; its context key is computed before the calls");
-    println!("Outputs  compared byte for byte in {compared} cases: all equal");
-    println!("Speed    MB/s (10^6 bytes), median of {ROUNDS} interleaved rounds (quartiles)");
-    println!("         buffers are warm; each call expands its key");
-    println!("Ratio    of speeds in the same round, median (quartiles)");
-    println!("Time     of one call at the median speed");
-    println!();
-    table::print(&contest.measure()?);
+    let rows = rows::all();
+    let mut contest = Contest::new(&rows, pace)?;
+    let about = About {
+        cpu: about::cpu_model(),
+        openssl: openssl::version(),
+        with: openssl::capabilities(),
+        without: contest.child.capabilities()?,
+        compared: contest.compare()?,
+        rounds: pace.rounds,
+    };
+    let lines = contest.measure()?;
+    let table = table::text(&about, &lines);
+    print!("{table}");
+    fs::create_dir_all(out)?;
+    for (name, content) in [
+        ("table.txt", table),
+        ("speed.svg", plot::draw(&about, &lines)),
+    ] {
+        let path = out.join(name);
+        fs::write(&path, content)
+            .map_err(|error| format!("{} cannot be written: {error}", path.display()))?;
+        println!("Written: {}", path.display());
+    }
     Ok(())
 }

@@ -1,9 +1,31 @@
-//! Runs and times contestants in this process, and sums up samples.
+//! Runs and times contestants in this process.
 
 use std::io;
 use std::time::{Duration, Instant};
 
 use crate::rows::{self, Row, Work};
+
+/// How long is measured.
+#[derive(Clone, Copy, Debug, PartialEq, Eq)]
+pub struct Pace {
+    /// One more than a multiple of four, so that the quartiles are samples.
+    pub rounds: usize,
+    /// The shortest batch of calls that counts as a sample.
+    batch: Duration,
+}
+
+impl Pace {
+    pub const FULL: Pace = Pace {
+        rounds: 21,
+        batch: Duration::from_millis(2),
+    };
+
+    /// Shows that the program works; its figures are rough.
+    pub const QUICK: Pace = Pace {
+        rounds: 5,
+        batch: Duration::from_micros(200),
+    };
+}
 
 /// A process that runs contestants, each named by its row and its place there.
 pub trait Runner {
@@ -17,15 +39,17 @@ pub trait Runner {
 /// This process.
 pub struct Here<'a> {
     rows: &'a [Row],
+    batch: Duration,
     /// Shared by all contestants, as long as the longest that a row asks for.
     buffer: Vec<u8>,
 }
 
 impl<'a> Here<'a> {
-    pub fn new(rows: &'a [Row]) -> Self {
+    pub fn new(rows: &'a [Row], pace: Pace) -> Self {
         let longest = rows.iter().map(|row| row.buffer).max().unwrap_or(0);
         Self {
             rows,
+            batch: pace.batch,
             buffer: vec![0; longest],
         }
     }
@@ -49,17 +73,15 @@ impl Runner for Here<'_> {
     }
 
     fn nanoseconds(&mut self, row: usize, contestant: usize) -> io::Result<f64> {
+        let batch = self.batch;
         let (work, input, buffer) = self.find(row, contestant)?;
-        Ok(nanoseconds_per_call(|| work(input, buffer)))
+        Ok(nanoseconds_per_call(batch, || work(input, buffer)))
     }
 }
 
-/// The shortest batch of calls that counts as a sample.
-const BATCH: Duration = Duration::from_millis(2);
-
 /// Batches double until one is long enough for the clock; the shorter ones warm
 /// the caches after another contestant or process had them.
-fn nanoseconds_per_call(mut call: impl FnMut()) -> f64 {
+fn nanoseconds_per_call(batch: Duration, mut call: impl FnMut()) -> f64 {
     let mut calls = 1_u32;
     loop {
         let start = Instant::now();
@@ -67,30 +89,9 @@ fn nanoseconds_per_call(mut call: impl FnMut()) -> f64 {
             call();
         }
         let elapsed = start.elapsed();
-        if elapsed >= BATCH {
+        if elapsed >= batch {
             return elapsed.as_nanos() as f64 / f64::from(calls);
         }
         calls *= 2;
-    }
-}
-
-/// Median and quartiles.
-pub struct Summary {
-    pub lower: f64,
-    pub median: f64,
-    pub upper: f64,
-}
-
-impl Summary {
-    /// `None` without samples.
-    pub fn of(samples: &[f64]) -> Option<Self> {
-        let mut sorted = samples.to_vec();
-        sorted.sort_by(f64::total_cmp);
-        let last = sorted.len().checked_sub(1)?;
-        Some(Self {
-            lower: sorted[last / 4],
-            median: sorted[last / 2],
-            upper: sorted[last * 3 / 4],
-        })
     }
 }

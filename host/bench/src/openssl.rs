@@ -1,8 +1,10 @@
 //! The few functions of OpenSSL's libcrypto that the contestants call.
 
+mod block;
 mod ctr;
 mod gcm;
 
+pub use block::AesBlock;
 pub use ctr::AesCtr;
 pub use gcm::{AesGcm, TAG_LENGTH};
 
@@ -72,7 +74,7 @@ fn text(selector: c_int) -> String {
     text.to_string_lossy().into_owned()
 }
 
-/// A context for one cipher, whose IV has `IV` bytes.
+/// A context for one cipher, whose IV has `IV` bytes; 0 for a cipher without one.
 struct Context<const IV: usize> {
     ctx: *mut EvpCipherCtx,
     key_length: usize,
@@ -111,8 +113,10 @@ impl<const IV: usize> Context<IV> {
             self.key_length,
             "the context is for another key length"
         );
+        // An empty array's place is no place that C could read from.
+        let iv = if IV == 0 { ptr::null() } else { iv.as_ptr() };
         // SAFETY: key and IV have the lengths of the cipher, and are copied.
-        unsafe { self.init(ptr::null(), key.as_ptr(), iv.as_ptr(), direction) };
+        unsafe { self.init(ptr::null(), key.as_ptr(), iv, direction) };
     }
 
     /// # Safety
@@ -145,7 +149,7 @@ impl<const IV: usize> Context<IV> {
     /// # Safety
     ///
     /// `input` must be readable and `output` writable for `length` bytes; they are
-    /// the same place or do not overlap.
+    /// the same place or do not overlap. For GCM's additional data `output` is null.
     unsafe fn update(&self, input: *const u8, output: *mut u8, length: usize) {
         let length = c_int::try_from(length).expect("data fits OpenSSL's int");
         let mut written = 0;

@@ -225,6 +225,7 @@ pub fn subkey(key: &[u8], salt: &[u8], out: &mut [u8]) {
 pub fn datagram_seal(
     method: u64,
     key: &[u8],
+    id: u64,
     clock: u64,
     address: &[u8],
     payload: &[u8],
@@ -236,7 +237,7 @@ pub fn datagram_seal(
             method,
             key.as_ptr(),
             key.len(),
-            1,
+            id,
             clock,
             address.as_ptr(),
             address.len(),

@@ -23,7 +23,7 @@ const EVP_CTRL_AEAD_SET_TAG: c_int = 0x11;
 
 pub const TAG_LENGTH: usize = 16;
 
-/// AES-GCM with one key length, nonces of 12 bytes and no additional data.
+/// AES-GCM with one key length and nonces of 12 bytes.
 pub struct AesGcm(Context<12>);
 
 impl AesGcm {
@@ -52,6 +52,43 @@ impl AesGcm {
     pub fn seal(&self, key: &[u8], nonce: &[u8; 12], text: &[u8], out: &mut [u8]) {
         let (ciphertext, tag) = out.split_last_chunk_mut().expect("out has a tag");
         self.message(Direction::Encrypt, key, nonce, text, ciphertext);
+        assert!(self.finish(), "EVP_CipherFinal_ex failed");
+        self.tag(EVP_CTRL_AEAD_GET_TAG, tag);
+    }
+
+    /// Seals the text at the front of `body` where it stands; the last 16 bytes are
+    /// room for the tag. The key is expanded at each call.
+    ///
+    /// # Panics
+    ///
+    /// If the key has another length than the context, or `body` has no room for a
+    /// tag.
+    pub fn seal_in_place(&self, key: &[u8], nonce: &[u8; 12], body: &mut [u8]) {
+        let (text, tag) = body.split_last_chunk_mut().expect("body has a tag");
+        self.0.start(Direction::Encrypt, key, nonce);
+        let place = text.as_mut_ptr();
+        // SAFETY: input and output are the same slice.
+        unsafe { self.0.update(place, place, text.len()) }
+        assert!(self.finish(), "EVP_CipherFinal_ex failed");
+        self.tag(EVP_CTRL_AEAD_GET_TAG, tag);
+    }
+
+    /// Writes the tag of additional data without a text, which is known as GMAC.
+    /// The key is expanded at each call.
+    ///
+    /// # Panics
+    ///
+    /// If the key has another length than the context.
+    pub fn authenticate(
+        &self,
+        key: &[u8],
+        nonce: &[u8; 12],
+        data: &[u8],
+        tag: &mut [u8; TAG_LENGTH],
+    ) {
+        self.0.start(Direction::Encrypt, key, nonce);
+        // SAFETY: without output, `data` is only read.
+        unsafe { self.0.update(data.as_ptr(), ptr::null_mut(), data.len()) }
         assert!(self.finish(), "EVP_CipherFinal_ex failed");
         self.tag(EVP_CTRL_AEAD_GET_TAG, tag);
     }

@@ -1,0 +1,84 @@
+//! What a run was made on and with.
+
+use std::fs;
+
+use crate::numbers::grouped;
+
+/// As the table and the plot name it.
+pub struct About {
+    pub cpu: String,
+    /// OpenSSL's version.
+    pub openssl: String,
+    /// The processor instructions of each OpenSSL, in its notation.
+    pub with: String,
+    pub without: String,
+    /// How many cases were compared.
+    pub compared: usize,
+    pub rounds: usize,
+}
+
+/// Whom ours is measured against.
+const AGAINST: &str = "\
+Against  OpenSSL alone for GCM bodies, chunks, AES, and GHASH as it has it: the tag of additional data, one AES block more
+         OpenSSL with plain Rust around it for whole datagrams: headers, addresses, subkey (BLAKE3), sessions and windows
+         plain Rust for subkeys; the key of their context is computed before the calls";
+
+const RATIO: &str = "\
+Ratio    of speeds in the same round, median (quartiles): above 1 ours is the faster";
+
+impl About {
+    /// The lines above the table.
+    pub fn lines(&self) -> Vec<String> {
+        let Self { with, without, .. } = self;
+        vec![
+            format!("CPU      {}; one thread", self.cpu),
+            format!("OpenSSL  {}", self.openssl),
+            format!("         with processor instructions:    {with}"),
+            format!("         without processor instructions: {without}"),
+            AGAINST.to_string(),
+            format!(
+                "Outputs  compared byte for byte in {} cases before all else: equal",
+                self.compared
+            ),
+            format!(
+                "Speed    MB/s ({} bytes), median of {} interleaved rounds (quartiles); \
+                 warm buffers; keys are expanded and subkeys derived at each call",
+                grouped(1_000_000),
+                self.rounds
+            ),
+            RATIO.to_string(),
+        ]
+    }
+
+    /// OpenSSL's version without the day of its release, which is not the run's.
+    pub fn openssl_number(&self) -> &str {
+        let mut spaces = self.openssl.match_indices(' ');
+        spaces
+            .nth(1)
+            .map_or(&self.openssl, |(end, _)| &self.openssl[..end])
+    }
+}
+
+/// The processor's name, where the system tells it.
+pub fn cpu_model() -> String {
+    let info = fs::read_to_string("/proc/cpuinfo").unwrap_or_default();
+    info.lines()
+        .find_map(|line| line.strip_prefix("model name")?.split_once(':'))
+        .map_or_else(
+            || "unknown".to_string(),
+            |(_, model)| model.trim().to_string(),
+        )
+}
+
+#[cfg(test)]
+mod tests {
+    use crate::samples;
+
+    #[test]
+    fn a_version_without_its_day() {
+        let mut about = samples::about();
+        assert_eq!(about.openssl_number(), "OpenSSL 0.0.0");
+        about.openssl = "OpenSSL 3.0.1".to_string();
+        assert_eq!(about.openssl_number(), "OpenSSL 3.0.1");
+    }
+}

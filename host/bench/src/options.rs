@@ -1,0 +1,84 @@
+//! What the program is asked for.
+
+use std::ffi::OsString;
+use std::path::PathBuf;
+
+use crate::measure::Pace;
+
+pub const USAGE: &str = "\
+usage: bench [--quick] [--out DIR]
+
+  --quick    few and short rounds: shows that all works, its figures are rough
+  --out DIR  where table.txt and speed.svg go; target/bench if not given";
+
+/// Arguments that the program gives to its child.
+pub const CHILD: &str = "--child";
+pub const QUICK: &str = "--quick";
+
+const OUT: &str = "--out";
+const DEFAULT_OUT: &str = "target/bench";
+
+#[derive(Debug, PartialEq, Eq)]
+pub enum Task {
+    Run {
+        pace: Pace,
+        out: PathBuf,
+    },
+    /// To be the process whose OpenSSL has no processor instructions.
+    Serve {
+        pace: Pace,
+    },
+    Help,
+}
+
+impl Task {
+    /// From the arguments behind the program's name.
+    pub fn of(arguments: impl IntoIterator<Item = OsString>) -> Result<Self, String> {
+        let mut arguments = arguments.into_iter();
+        let (mut pace, mut out, mut child) = (Pace::FULL, PathBuf::from(DEFAULT_OUT), false);
+        while let Some(argument) = arguments.next() {
+            match argument.to_str() {
+                Some(QUICK) => pace = Pace::QUICK,
+                Some(OUT) => out = arguments.next().ok_or("--out needs a folder")?.into(),
+                Some(CHILD) => child = true,
+                Some("--help") => return Ok(Task::Help),
+                _ => return Err(format!("unknown argument {argument:?}\n{USAGE}")),
+            }
+        }
+        Ok(if child {
+            Task::Serve { pace }
+        } else {
+            Task::Run { pace, out }
+        })
+    }
+}
+
+#[cfg(test)]
+mod tests {
+    use super::{Pace, Task, DEFAULT_OUT};
+
+    fn of(arguments: &[&str]) -> Result<Task, String> {
+        Task::of(arguments.iter().map(Into::into))
+    }
+
+    fn run(pace: Pace, out: &str) -> Result<Task, String> {
+        let out = out.into();
+        Ok(Task::Run { pace, out })
+    }
+
+    #[test]
+    fn arguments_in_any_order() {
+        assert_eq!(of(&[]), run(Pace::FULL, DEFAULT_OUT));
+        assert_eq!(of(&["--quick"]), run(Pace::QUICK, DEFAULT_OUT));
+        assert_eq!(of(&["--out", "a", "--quick"]), run(Pace::QUICK, "a"));
+        let pace = Pace::QUICK;
+        assert_eq!(of(&["--child", "--quick"]), Ok(Task::Serve { pace }));
+        assert_eq!(of(&["--help"]), Ok(Task::Help));
+    }
+
+    #[test]
+    fn others_are_refused() {
+        assert!(of(&["--out"]).is_err());
+        assert!(of(&["quick"]).is_err());
+    }
+}

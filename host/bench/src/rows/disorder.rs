@@ -1,0 +1,152 @@
+//! Datagrams in an order and with headers that a relay refuses: whether the plain
+//! Rust around OpenSSL does all of the work that ours does.
+
+use super::datagrams::{new_sessions, new_table, ADDRESS, CLOCK};
+use super::{Contestant, Library, Row, KEY};
+use crate::around::{Datagrams, Separate, FIXED_LENGTH, SEPARATE_LENGTH};
+use crate::kinds::{Call, Kind, Method, METHODS};
+use crate::openssl::TAG_LENGTH;
+use crate::ours;
+use crate::plain::Peer;
+
+/// The length of each of the datagrams.
+const SIZE: usize = 64;
+
+/// A datagram to be opened: its numbers, the time and padding that it says, and
+/// the clock at which it comes.
+#[derive(Clone, Copy)]
+struct Coming {
+    separate: Separate,
+    kind: u8,
+    time: u64,
+    padding: u16,
+    address_kind: u8,
+    clock: u64,
+}
+
+impl Coming {
+    fn new(session: u64, packet: u64) -> Self {
+        Self {
+            separate: Separate { session, packet },
+            kind: 0,
+            time: CLOCK,
+            padding: 0,
+            address_kind: ADDRESS[0],
+            clock: CLOCK,
+        }
+    }
+
+    fn at(session: u64, packet: u64, clock: u64) -> Self {
+        Self {
+            time: clock,
+            clock,
+            ..Self::new(session, packet)
+        }
+    }
+
+    fn sealed(self, datagrams: &Datagrams, key: &[u8]) -> [u8; SIZE] {
+        let mut datagram = [0; SIZE];
+        let text = &mut datagram[SEPARATE_LENGTH..];
+        text[0] = self.kind;
+        text[1..9].copy_from_slice(&self.time.to_be_bytes());
+        text[9..FIXED_LENGTH].copy_from_slice(&self.padding.to_be_bytes());
+        text[FIXED_LENGTH..][..ADDRESS.len()].copy_from_slice(&ADDRESS);
+        text[FIXED_LENGTH] = self.address_kind;
+        datagrams.seal_in_place(key, self.separate, &mut datagram);
+        datagram
+    }
+}
+
+/// Windows, forgetting, faults of headers, and more sessions than have room.
+fn coming() -> Vec<Coming> {
+    let packets = [300, 300, 44, 45, 45, 555, 300, 556, 300, 301, 301, 9_000];
+    let mut list: Vec<_> = packets.map(|packet| Coming::new(7, packet)).into();
+    let clocks = [1_060, 1_121, 1_121, 1_000];
+    list.extend(clocks.map(|clock| Coming::at(8, 5, clock)));
+    let sound = Coming::new(9, 0);
+    for time in [CLOCK - 31, CLOCK + 31, CLOCK - 30, CLOCK + 30] {
+        list.push(Coming { time, ..sound });
+    }
+    list.push(Coming { kind: 1, ..sound });
+    for address_kind in [0, 2, 3, 4, 5] {
+        list.push(Coming {
+            address_kind,
+            ..Coming::new(10, address_kind.into())
+        });
+    }
+    let text_length = (SIZE - SEPARATE_LENGTH - FIXED_LENGTH - TAG_LENGTH) as u16;
+    for padding in [1, text_length, u16::MAX] {
+        list.push(Coming { padding, ..sound });
+    }
+    list.extend((100..170).map(|session| Coming::new(session, 0)));
+    list
+}
+
+pub fn rows() -> Vec<Row> {
+    METHODS.map(row).into()
+}
+
+/// The input is all datagrams, the buffer has a byte for each answer.
+fn row(method: Method) -> Row {
+    let key = &KEY[..method.key_length];
+    let datagrams = Datagrams::new(method.key_length);
+    let list = coming();
+    let clocks: Vec<u64> = list.iter().map(|coming| coming.clock).collect();
+    let same_clocks = clocks.clone();
+    let sealed = list
+        .iter()
+        .flat_map(|coming| coming.sealed(&datagrams, key));
+    Row {
+        kind: Kind::Datagram(method, Call::Open),
+        size: SIZE,
+        input: sealed.collect(),
+        buffer: list.len(),
+        special: Some("in disorder"),
+        contestants: vec![
+            Contestant::new(Library::Ours, move |input, answers| {
+                let mut table = new_table();
+                each(input, &clocks, answers, |clock, datagram, out| {
+                    ours::datagram_open(method.number, key, clock, datagram, &mut table, out)
+                });
+            }),
+            Contestant::new(Library::OpenSsl, move |input, answers| {
+                let mut sessions = new_sessions();
+                each(input, &same_clocks, answers, |clock, datagram, out| {
+                    let peer = Peer::default();
+                    let header = datagrams.open(key, clock, peer, datagram, &mut sessions, out);
+                    header.map_or_else(|refusal| refusal as u64, |_| 0)
+                });
+            }),
+        ],
+    }
+}
+
+/// Opens one datagram after the other, and notes the answers.
+fn each(
+    input: &[u8],
+    clocks: &[u64],
+    answers: &mut [u8],
+    mut open: impl FnMut(u64, &[u8], &mut [u8]) -> u64,
+) {
+    for ((datagram, clock), answer) in input.chunks_exact(SIZE).zip(clocks).zip(answers) {
+        *answer = open(*clock, datagram, &mut [0; SIZE]) as u8;
+    }
+}
+
+#[cfg(test)]
+mod tests {
+    use std::collections::BTreeSet;
+
+    use super::{rows, Library};
+
+    #[test]
+    fn the_list_meets_every_refusal_of_an_authentic_datagram() {
+        for row in rows() {
+            let ours = row.contestant(Library::Ours).expect("ours is there");
+            let mut answers = vec![0; row.buffer];
+            (row.contestants[ours].work)(&row.input, &mut answers);
+            let met: BTreeSet<u8> = answers.into_iter().collect();
+            assert_eq!(met, BTreeSet::from([0, 5, 6, 7, 8, 9]));
+        }
+    }
+}

@@ -1,0 +1,136 @@
+//! AES, GHASH and BLAKE3, each alone.
+
+use super::{text, Contestant, Library, Row, KEY, NONCE};
+use crate::around::SUBKEY_CONTEXT;
+use crate::kinds::Kind;
+use crate::openssl::{AesBlock, AesCtr, AesGcm, TAG_LENGTH};
+use crate::ours;
+use crate::plain::DeriveKey;
+
+const KEY_LENGTHS: [usize; 3] = [16, 24, 32];
+
+/// A short datagram, one that fits an Ethernet frame, and the whole blocks of the
+/// longest one.
+const SIZES: [usize; 3] = [64, 1_400, WHOLE_BLOCKS];
+
+pub const WHOLE_BLOCKS: usize = 65_504;
+
+/// The same in whole blocks.
+const HASHED: [usize; 3] = [64, 1_392, WHOLE_BLOCKS];
+
+/// The key length with which OpenSSL is asked for GHASH.
+const GMAC_KEY: usize = 16;
+
+/// The counter of GCM's first block of text.
+const FIRST_COUNTER: u32 = 2;
+
+const SALT: [u8; 32] = *b"thirty-two bytes to do for salt!";
+
+/// The length of a datagram's session ID, which is its subkey's salt.
+const SESSION_ID: usize = 8;
+
+/// The room that a subkey is derived into, whatever its length.
+const LONGEST_SUBKEY: usize = 32;
+
+pub fn rows() -> Vec<Row> {
+    let mut rows = Vec::new();
+    for key_length in KEY_LENGTHS {
+        for size in SIZES {
+            rows.push(aes_ctr(key_length, size, FIRST_COUNTER));
+            // Half of the blocks come before the wrap.
+            let half = (size / 16 / 2) as u32;
+            let wrapping = aes_ctr(key_length, size, half.wrapping_neg());
+            rows.push(wrapping.compared_only("counter wraps"));
+        }
+    }
+    rows.extend(HASHED.map(ghash));
+    // A stream's subkey of the longest method, a session's of the shortest.
+    rows.push(subkey(32, SALT.len()));
+    rows.push(subkey(16, SESSION_ID));
+    rows
+}
+
+fn aes_ctr(key_length: usize, size: usize, counter: u32) -> Row {
+    let key = &KEY[..key_length];
+    let context = AesCtr::new(key_length);
+    Row {
+        kind: Kind::Counter { key_length },
+        size,
+        input: Vec::new(),
+        buffer: size,
+        special: None,
+        contestants: vec![
+            Contestant::new(Library::Ours, move |_, data| {
+                ours::aes_ctr(key, &NONCE, counter, data);
+            }),
+            Contestant::new(Library::OpenSsl, move |_, data| {
+                context.apply(key, &NONCE, counter, data);
+            }),
+        ],
+    }
+}
+
+/// OpenSSL has no function for GHASH alone. Nearest is the tag of additional data
+/// without a text: the data's GHASH with a block of lengths behind it, added to an
+/// AES block, which ours is given.
+fn ghash(size: usize) -> Row {
+    let key = &KEY[..GMAC_KEY];
+    let context = AesGcm::new(GMAC_KEY);
+    let (hash_subkey, mask) = tag_blocks(key);
+    let data = size - 16;
+    let mut input = text(size);
+    input[data..].copy_from_slice(&((8 * data as u128) << 64).to_be_bytes());
+    Row {
+        kind: Kind::Ghash,
+        size,
+        input,
+        buffer: TAG_LENGTH,
+        special: None,
+        contestants: vec![
+            Contestant::new(Library::Ours, move |text, out| {
+                ours::ghash(&hash_subkey, text, out);
+                for (byte, mask) in out.iter_mut().zip(mask) {
+                    *byte ^= mask;
+                }
+            }),
+            Contestant::new(Library::OpenSsl, move |text, out| {
+                let tag = out.first_chunk_mut().expect("out has room for a tag");
+                context.authenticate(key, &NONCE, &text[..data], tag);
+            }),
+        ],
+    }
+}
+
+/// GCM's hash subkey, and the block that is added to a tag's hash.
+fn tag_blocks(key: &[u8]) -> ([u8; 16], [u8; 16]) {
+    let cipher = AesBlock::new(key.len());
+    let mut hash_subkey = [0; 16];
+    cipher.encrypt(key, &mut hash_subkey);
+    let mut mask = [0; 16];
+    mask[..12].copy_from_slice(&NONCE);
+    mask[15] = 1;
+    cipher.encrypt(key, &mut mask);
+    (hash_subkey, mask)
+}
+
+/// The input is the key and the salt, one after the other.
+fn subkey(key_length: usize, salt_length: usize) -> Row {
+    let material = [&KEY[..key_length], &SALT[..salt_length]].concat();
+    let context = DeriveKey::new(SUBKEY_CONTEXT);
+    Row {
+        kind: Kind::Subkey,
+        size: material.len(),
+        input: material,
+        buffer: LONGEST_SUBKEY,
+        special: None,
+        contestants: vec![
+            Contestant::new(Library::Ours, move |material, out| {
+                let (key, salt) = material.split_at(key_length);
+                ours::subkey(key, salt, out);
+            }),
+            Contestant::new(Library::Plain, move |material, out| {
+                context.derive(material, &mut out[..key_length]);
+            }),
+        ],
+    }
+}
