@@ -1,26 +1,47 @@
-# Cargo builds under target/, the only folder that git ignores. `rt ci`, and so
-# `make test`, removes target/ with the static library and all of Cargo's files.
+# Everything built goes to target/, the only folder that git ignores. `rt ci`, and so `make test`, removes it first.
 export CARGO_TARGET_DIR := $(CURDIR)/target/host
+CARGO := cargo
+HOST := --locked --manifest-path host/Cargo.toml
 
-.PHONY: test vectors bench
+.PHONY: run test library quickstart bench fuzz vectors
+
+# A busy morning through the relay, on data of its own: an hour of the simulated clock. ARGS="--minutes 5" for a short one.
+run: library
+	$(CARGO) run --release $(HOST) -p morning -- $(ARGS)
 
 # The merge gate.
 test:
 	.ci/run
 
+# target/staticlib/librelay.a. What is not proved yet is proved first, and each crate says so when it is.
+library:
+	tools/need cc=gcc cargo=cargo
+	rt staticlib relay
+
+# The C program of the README.
+quickstart: library
+	mkdir -p target/examples
+	cc -std=c11 -Wall -Wextra -Wpedantic -Werror -Iinclude examples/quickstart.c target/staticlib/librelay.a \
+		-o target/examples/quickstart
+	target/examples/quickstart
+
+# The table of speeds and its plot, in target/bench. ARGS=--quick for a short run.
+bench:
+	tools/need cc=gcc cargo=cargo libcrypto.so=libssl-dev
+	rt staticlib bench
+	$(CARGO) run --release $(HOST) -p bench -- $(ARGS)
+
+# The fuzz target under AddressSanitizer, for so many seconds.
+SECONDS := 60
+fuzz: library
+	tests/fuzz/run $(SECONDS)
+
 # The data of the vectors_* programs and what they must print.
 vectors:
+	tools/need python3=python3
 	python3 tools/aes-vectors.py
 	python3 tools/gcm-vectors.py
 	python3 tools/blake3-vectors.py
 	python3 tools/datagram-vectors.py
 	python3 tools/session-vectors.py
 	python3 tools/stream-vectors.py
-
-# The table of speeds and its plot, in target/bench; `make bench ARGS=--quick` for a
-# short run. libssl-dev has the libcrypto.so that the linker asks for.
-bench:
-	rt staticlib bench
-	test -e "$$(cc -print-file-name=libcrypto.so)" || \
-		{ apt-get update && apt-get install -y --no-install-recommends libssl-dev; }
-	cargo run --release --manifest-path host/Cargo.toml -p bench -- $(ARGS)

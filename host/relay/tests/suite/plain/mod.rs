@@ -4,7 +4,7 @@
 
 mod aes;
 // The benchmark's contestant, which is written from the BLAKE3 paper.
-#[path = "../../../../bench/src/plain.rs"]
+#[path = "../../../../bench/src/plain/blake3.rs"]
 mod blake3;
 mod gcm;
 
