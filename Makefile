@@ -15,7 +15,7 @@ test:
 
 # target/staticlib/librelay.a. What is not proved yet is proved first, and each crate says so when it is.
 library:
-	tools/need cc=gcc cargo=cargo
+	tools/need cc=gcc cargo=cargo-web
 	rt staticlib relay
 
 # The C program of the README.
@@ -27,7 +27,7 @@ quickstart: library
 
 # The table of speeds and its plot, in target/bench. ARGS=--quick for a short run.
 bench:
-	tools/need cc=gcc cargo=cargo libcrypto.so=libssl-dev
+	tools/need cc=gcc cargo=cargo-web libcrypto.so=libssl-dev
 	rt staticlib bench
 	$(CARGO) run --release $(HOST) -p bench -- $(ARGS)
 

@@ -1,6 +1,7 @@
 //! A client: its sending session, and what of it is still on its way.
 
 use std::collections::VecDeque;
+use std::mem;
 use std::net::{Ipv4Addr, SocketAddr};
 use std::rc::Rc;
 
@@ -108,8 +109,11 @@ impl Client {
     /// Those that have been overtaken enough by now.
     pub fn overtaken(&mut self) -> Vec<Rc<Datagram>> {
         let next = self.session.next_packet();
-        let due = self.held.extract_if(.., |held| held.behind < next);
-        due.map(|held| held.datagram).collect()
+        let (due, held) = mem::take(&mut self.held)
+            .into_iter()
+            .partition::<Vec<_>, _>(|held| held.behind < next);
+        self.held = held;
+        due.into_iter().map(|held| held.datagram).collect()
     }
 
     /// All that are held back, as no more of the session will overtake them.

@@ -92,7 +92,7 @@ impl Morning {
             }
             self.run_second()?;
             self.second += 1;
-            if self.second.is_multiple_of(LOOK) || self.second == in_all / 2 {
+            if self.second % LOOK == 0 || self.second == in_all / 2 {
                 let alive = self.look()?;
                 tell(&State {
                     second: self.second,

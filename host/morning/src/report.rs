@@ -36,7 +36,7 @@ pub fn progress(state: &State) {
     if out.is_terminal() {
         let end = if is_last { "\n" } else { "" };
         print!("\r{line}{end}");
-    } else if is_last || state.second.is_multiple_of(60 * STEP) {
+    } else if is_last || state.second % (60 * STEP) == 0 {
         println!("{line}");
     }
     // What a line that changes shows is worth nothing later.
@@ -148,7 +148,7 @@ fn grouped(number: u64) -> String {
     let digits = number.to_string();
     let mut text = String::new();
     for (place, digit) in digits.chars().enumerate() {
-        if place > 0 && (digits.len() - place).is_multiple_of(3) {
+        if place > 0 && (digits.len() - place) % 3 == 0 {
             text.push(',');
         }
         text.push(digit);
