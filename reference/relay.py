@@ -1,0 +1,437 @@
+"""The exported functions of include/relay.h, over the other references.
+
+An independent reference for the proved library: buffers in, a number and buffers out.
+A buffer of bytes is bytes, one of words a tuple of numbers. The parameters have the
+names that they have in the header, without the lengths, and stand in the same order.
+
+The functions here only sort the words that a host lends into states and back, and
+answers into words: what is sealed, opened and refused, datagram.py, sessions.py and
+streams.py say.
+
+    python3 reference/relay.py --selftest
+"""
+
+from __future__ import annotations
+
+import collections
+import itertools
+import sys
+
+sys.dont_write_bytecode = True  # no __pycache__ in the tree
+import aes  # noqa: E402
+import datagram  # noqa: E402
+import gcm  # noqa: E402
+import openssl  # noqa: E402
+import sessions  # noqa: E402
+import streams  # noqa: E402
+from datagram import KEY_LENGTHS, SETTINGS  # noqa: E402
+from sessions import NOT_AUTHENTIC, Peer  # noqa: E402
+from streams import ENDED, LENGTH_NEXT, MAX_CHUNK, MORE, PAYLOAD_NEXT  # noqa: E402
+
+TABLE_WORDS = sessions.TABLE_WORDS
+POOL_WORDS = streams.POOL_WORDS
+SESSION_WORDS = 4
+STREAM_WORDS = 8
+ANSWER_WORDS = 9
+
+CLIENT_SIDE, SERVER_SIDE = 0, 1  # a sending session's first word
+SEALING = 3  # a stream's first word, beside the turns of opening
+
+Words = tuple[int, ...]
+
+# What a call leaves: the number that it returns, and the buffers that it wrote, by their names.
+Left = collections.namedtuple("Left", "number wrote")
+
+
+def refused(number: int) -> Left:
+    return Left(number, {})
+
+
+def accepted(**wrote: bytes | Words) -> Left:
+    return Left(0, wrote)
+
+
+def front(answer: Words, *values: int) -> Words:
+    """The answer with these values as its first words."""
+    return values + answer[len(values) :]
+
+
+def asks_more(answer: Words, wanted: int) -> Left:
+    return Left(MORE, {"answer": front(answer, wanted)})
+
+
+# Session tables and sending sessions.
+
+
+def table_new(retention: int, table: Words) -> Left:
+    number, table = sessions.make(retention, table)
+    return refused(number) if number else accepted(table=table)
+
+
+def session_begin_client(id: int, session: Words) -> Left:
+    if len(session) != SESSION_WORDS:
+        return refused(SETTINGS)
+    return accepted(session=(CLIENT_SIDE, id, 0, 0))
+
+
+def session_begin_server(id: int, client: int, session: Words) -> Left:
+    if len(session) != SESSION_WORDS:
+        return refused(SETTINGS)
+    number, sender = datagram.begin(id, client)
+    if number:
+        return refused(number)
+    return accepted(session=(SERVER_SIDE, sender.session, sender.client, sender.packet))
+
+
+# Datagrams.
+
+
+def datagram_seal(
+    method: int,
+    key: bytes,
+    session: Words,
+    clock: int,
+    address: bytes,
+    padding: int,
+    payload: bytes,
+    out: bytes,
+    answer: Words,
+) -> Left:
+    if (len(session), len(answer)) != (SESSION_WORDS, ANSWER_WORDS):
+        return refused(SETTINGS)
+    side, id, client, packet = session
+    if side not in (CLIENT_SIDE, SERVER_SIDE):
+        return refused(SETTINGS)
+    sender = datagram.Sender(id, packet, client if side == SERVER_SIDE else None)
+    said = clock, address, padding, payload
+    number, sealed = datagram.seal(method, key, sender, *said, len(out))
+    if number:
+        return refused(number)
+    return accepted(
+        session=(side, id, client, packet + 1),
+        out=sealed + out[len(sealed) :],
+        answer=front(answer, len(sealed)),
+    )
+
+
+def target_words(target: tuple) -> Words:
+    """Kind, first and second; an IPv4 address has no second."""
+    return (*target, 0)[:3]
+
+
+def datagram_opened(call: sessions.Call, table: Words, answer: Words) -> Left:
+    if len(answer) != ANSWER_WORDS:
+        return refused(SETTINGS)
+    given, table = sessions.open(call, table)
+    if given.number:
+        return Left(given.number, {"out": given.output})
+    target, *rest = given.header
+    return accepted(table=table, out=given.output, answer=(*target_words(target), *rest))
+
+
+def datagram_open_server(
+    method: int,
+    key: bytes,
+    clock: int,
+    first: int,
+    second: int,
+    port: int,
+    datagram: bytes,
+    table: Words,
+    out: bytes,
+    answer: Words,
+) -> Left:
+    peer = Peer(first, second, port)
+    return datagram_opened(
+        sessions.Call(method, key, None, clock, peer, datagram, out), table, answer
+    )
+
+
+def datagram_open_client(
+    method: int,
+    key: bytes,
+    clock: int,
+    client: int,
+    first: int,
+    second: int,
+    port: int,
+    datagram: bytes,
+    table: Words,
+    out: bytes,
+    answer: Words,
+) -> Left:
+    peer = Peer(first, second, port)
+    return datagram_opened(
+        sessions.Call(method, key, client, clock, peer, datagram, out), table, answer
+    )
+
+
+# Salt pools.
+
+
+def pool_new(method: int, pool: Words) -> Left:
+    number, pool = streams.make(method, pool)
+    return refused(number) if number else accepted(pool=pool)
+
+
+# Streams.
+
+
+def fits(stream: Words, answer: Words) -> bool:
+    return (len(stream), len(answer)) == (STREAM_WORDS, ANSWER_WORDS)
+
+
+def sender_words(sender: streams.Sender) -> Words:
+    return (SEALING, sender.method, sender.counter, 0, *sender.subkey)
+
+
+def receiver_words(receiver: streams.Receiver) -> Words:
+    return (receiver.turn, receiver.method, receiver.counter, receiver.length, *receiver.subkey)
+
+
+def sealed_left(given: streams.Answer, answer: Words) -> Left:
+    if given.number:
+        return refused(given.number)
+    return accepted(
+        out=given.output, stream=sender_words(given.stream), answer=front(answer, given.count)
+    )
+
+
+def stream_seal_request(
+    method: int,
+    key: bytes,
+    salt: bytes,
+    clock: int,
+    address: bytes,
+    padding: int,
+    payload: bytes,
+    out: bytes,
+    stream: Words,
+    answer: Words,
+) -> Left:
+    if not fits(stream, answer):
+        return refused(SETTINGS)
+    given = streams.seal_request(method, key, salt, clock, address, padding, payload, out)
+    return sealed_left(given, answer)
+
+
+def stream_open_request(
+    method: int,
+    key: bytes,
+    clock: int,
+    bytes: bytes,
+    pool: Words,
+    out: bytes,
+    stream: Words,
+    answer: Words,
+) -> Left:
+    if not fits(stream, answer):
+        return refused(SETTINGS)
+    given, pool = streams.open_request(method, key, clock, bytes, pool, out)
+    if given.number == MORE:
+        return asks_more(answer, given.count)
+    if given.number:
+        return Left(given.number, {"out": given.output})
+    said = given.said
+    words = (*target_words(said.target), said.port, said.padding, said.payload)
+    return accepted(
+        pool=pool,
+        out=given.output,
+        stream=receiver_words(given.stream),
+        answer=front(answer, *words, given.count, said.length),
+    )
+
+
+def stream_seal_response(
+    method: int,
+    key: bytes,
+    salt: bytes,
+    request_salt: bytes,
+    clock: int,
+    payload: bytes,
+    out: bytes,
+    stream: Words,
+    answer: Words,
+) -> Left:
+    if not fits(stream, answer):
+        return refused(SETTINGS)
+    given = streams.seal_response(method, key, salt, request_salt, clock, payload, out)
+    return sealed_left(given, answer)
+
+
+def stream_open_response(
+    method: int,
+    key: bytes,
+    clock: int,
+    request_salt: bytes,
+    bytes: bytes,
+    stream: Words,
+    answer: Words,
+) -> Left:
+    if not fits(stream, answer):
+        return refused(SETTINGS)
+    given = streams.open_response(method, key, clock, request_salt, bytes)
+    if given.number == MORE:
+        return asks_more(answer, given.count)
+    if given.number:
+        return refused(given.number)
+    return accepted(
+        stream=receiver_words(given.stream),
+        answer=front(answer, given.count, given.said.length),
+    )
+
+
+def stream_seal_chunk(stream: Words, payload: bytes, out: bytes, answer: Words) -> Left:
+    if not fits(stream, answer):
+        return refused(SETTINGS)
+    turn, method, counter, _, *subkey = stream
+    if turn == ENDED and method in KEY_LENGTHS:
+        return refused(NOT_AUTHENTIC)
+    if turn != SEALING:
+        return refused(SETTINGS)
+    sender = streams.Sender(method, counter, tuple(subkey))
+    return sealed_left(streams.seal_chunk(sender, payload, out), answer)
+
+
+def opens(stream: Words) -> bool:
+    """Whether a stream of the right length is at a turn of opening, or ended."""
+    turn, length = stream[0], stream[3]
+    return turn in (ENDED, LENGTH_NEXT) or turn == PAYLOAD_NEXT and length <= MAX_CHUNK
+
+
+def stream_open_chunk(stream: Words, bytes: bytes, out: bytes, answer: Words) -> Left:
+    if not fits(stream, answer) or not opens(stream):
+        return refused(SETTINGS)
+    turn, method, counter, length, *subkey = stream
+    receiver = streams.Receiver(method, turn, length, counter, tuple(subkey))
+    given = streams.step(receiver, bytes, out)
+    if given.number == MORE:
+        return asks_more(answer, given.count)
+    if given.number == NOT_AUTHENTIC:
+        return Left(NOT_AUTHENTIC, {"stream": (ENDED, *stream[1:])})
+    if given.number:
+        return refused(given.number)
+    return accepted(
+        out=given.output,
+        stream=receiver_words(given.stream),
+        answer=front(answer, given.count, given.said.length),
+    )
+
+
+# Each function with the numbers that it may return.
+
+NUMBERS = {
+    table_new: {0, 1},
+    pool_new: {0, 1},
+    session_begin_client: {0, 1},
+    session_begin_server: {0, 1, 12},
+    datagram_seal: {0, 1, 2, 3, 11, 12},
+    datagram_open_server: set(range(10)),
+    datagram_open_client: {*range(10), 13},
+    stream_seal_request: {0, 1, 2, 3, 12},
+    stream_open_request: {0, 1, *range(3, 11)},
+    stream_seal_response: {0, 1, 2, 3},
+    stream_open_response: {0, 1, 4, 6, 7, 10, 13},
+    stream_seal_chunk: {0, 1, 2, 3, 4, 11},
+    stream_open_chunk: {0, 1, 3, 4, 10, 11},
+}
+
+FUNCTIONS = {f"relay_{function.__name__}": function for function in NUMBERS}
+
+
+def use_openssl() -> bool:
+    """Has all references take AES and GCM from OpenSSL, which is much faster; False if it is
+    not there. Texts are then no longer remembered, only subkeys and separate headers."""
+    if openssl.LIBRARY is None:
+        return False
+    aes.encrypt, aes.decrypt = openssl.encrypt, openssl.decrypt
+    gcm.seal, gcm.open = openssl.seal, openssl.open
+    streams.seal_gcm, streams.open_gcm = openssl.seal, openssl.open
+    sessions.text_of = sessions.text_of.__wrapped__
+    sessions.sealed = sessions.sealed.__wrapped__
+    return True
+
+
+# Examples.
+
+KEY = bytes(range(16))
+SALT, OTHER_SALT = bytes(range(100, 116)), bytes(range(200, 216))
+ANSWER = (9,) * ANSWER_WORDS
+STREAM = (9,) * STREAM_WORDS
+FILLED = b"\xa5" * 100
+NAME = datagram.NAME
+
+
+def datagram_examples():
+    _, wrote = table_new(0, (9,) * TABLE_WORDS)
+    table = wrote["table"]
+    yield "table", table == (60,) + (0,) * 704
+    session = session_begin_client(7, (9,) * 4).wrote["session"]
+    yield "session", session == (0, 7, 0, 0)
+    yield "equal IDs", session_begin_server(7, 7, (9,) * 4) == refused(12)
+    yield "lengths", session_begin_server(7, 7, (9,) * 5) == refused(1)
+    call = {"clock": 1_000, "address": NAME, "padding": 0, "payload": b"", "out": FILLED}
+    wrote = datagram_seal(1, KEY, session, answer=ANSWER, **call).wrote
+    sealed = wrote["out"][: wrote["answer"][0]]
+    yield "sealed", wrote["session"] == (0, 7, 0, 1) and wrote["answer"] == (48, *ANSWER[1:])
+    lent = {"datagram": sealed, "out": FILLED, "answer": ANSWER}
+    number, wrote = datagram_open_server(1, KEY, 1_000, 1, 2, 3, table=table, **lent)
+    yield "opened", (number, wrote["answer"]) == (0, (3, 13, 1, 80, 7, 0, 1_000, 0, 16))
+    record = (1, 7, 0, 1_000, 1, 0, 0, 0, 1, 2, 3)
+    yield "record", wrote["table"] == (60, *record) + (0,) * 693
+    again = datagram_open_server(1, KEY, 1_000, 1, 2, 3, table=wrote["table"], **lent)
+    yield "again", again == Left(8, {"out": bytes(16) + FILLED[16:]})
+    odd = (2, 7, 0, 0)
+    yield "no side", datagram_seal(1, KEY, odd, answer=ANSWER, **call) == refused(1)
+
+
+def stream_examples():
+    pool = pool_new(1, (9,) * POOL_WORDS).wrote["pool"]
+    said = 1, KEY, SALT, 1_000, NAME, 3, b"abc", FILLED, STREAM, ANSWER
+    wrote = stream_seal_request(*said).wrote
+    head, sender = wrote["out"][: wrote["answer"][0]], wrote["stream"]
+    yield "sealed", len(head) == 16 + 27 + 13 + 16 and sender[:4] == (3, 1, 2, 0)
+    short = stream_open_request(1, KEY, 1_000, head[:50], pool, FILLED, STREAM, ANSWER)
+    yield "more", short == Left(10, {"answer": (72, *ANSWER[1:])})
+    number, wrote = stream_open_request(1, KEY, 1_000, head, pool, FILLED, STREAM, ANSWER)
+    yield "opened", (number, wrote["answer"]) == (0, (3, 2, 1, 80, 3, 10, 72, 13, 9))
+    receiver = wrote["stream"]
+    yield "receiver", receiver == (1, 1, 2, 0, *sender[4:])
+    wrote = stream_seal_chunk(sender, b"abc", FILLED, ANSWER).wrote
+    chunk = wrote["out"][: wrote["answer"][0]]
+    yield "chunk", len(chunk) == 37 and wrote["stream"] == (3, 1, 4, 0, *sender[4:])
+    number, wrote = stream_open_chunk(receiver, chunk, b"", ANSWER)
+    yield "length", (number, wrote["answer"][:2]) == (0, (18, 3))
+    receiver = wrote["stream"]
+    yield "a payload is next", receiver == (2, 1, 3, 3, *sender[4:])
+    forged = stream_open_chunk(receiver, bytes(19), FILLED, ANSWER)
+    yield "ended", forged == Left(4, {"stream": (0, *receiver[1:])})
+    yield "turns", stream_seal_chunk(receiver, b"", FILLED, ANSWER) == refused(1)
+    yield "too long", stream_open_chunk((2, 1, 3, 65_536, *sender[4:]), b"", b"", ANSWER)[0] == 1
+    for stream in ((0, 1, *sender[2:]), (0, 3, *sender[2:])):
+        number = stream_seal_chunk(stream, b"", FILLED, ANSWER).number
+        yield "sealing, ended", number == (4 if stream[1] == 1 else 1)
+
+
+def response_examples():
+    said = 1, KEY, SALT, OTHER_SALT, 1_000, b"abc", FILLED, STREAM
+    wrote = stream_seal_response(*said, ANSWER).wrote
+    head = wrote["out"][: wrote["answer"][0]]
+    yield "length", len(head) == 16 + 43 + 19
+    opened = stream_open_response(1, KEY, 1_000, OTHER_SALT, head, STREAM, ANSWER)
+    stream = opened.wrote["stream"]
+    yield "opened", opened.wrote["answer"] == (59, 3, *ANSWER[2:])
+    yield "its stream", stream == (2, 1, 1, 3, *wrote["stream"][4:])
+    opened = stream_open_chunk(stream, head[59:], FILLED, ANSWER)
+    yield "first payload", opened.wrote["out"] == b"abc" + FILLED[3:]
+    yield "answer's length", stream_seal_response(*said, ANSWER[1:]) == refused(1)
+
+
+def selftest() -> list[str]:
+    """The names of the examples that this code fails."""
+    checks = itertools.chain(datagram_examples(), stream_examples(), response_examples())
+    return [name for name, holds in checks if not holds]
+
+
+if __name__ == "__main__":
+    aes.run(selftest, f"examples of {len(FUNCTIONS)} exported functions: all agree")

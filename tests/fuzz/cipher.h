@@ -1,0 +1,39 @@
+/*
+ * The ciphers of the protocol, independent of the library: AES and GCM by
+ * OpenSSL, BLAKE3's key derivation from its paper. With them the fuzz target
+ * makes authentic messages of any contents, and knows what is authentic.
+ */
+#ifndef CIPHER_H
+#define CIPHER_H
+
+#include <stddef.h>
+#include <stdint.h>
+
+enum { TAG_LEN = 16 };
+
+/* A method's length of keys and salts; 0 for no method. */
+size_t key_length(uint64_t method);
+
+/* The subkey, as long as the key, of a salt or of a datagram's session ID. */
+void derive_subkey(const uint8_t *key, size_t key_len, const uint8_t *salt, size_t salt_len,
+                   uint8_t *subkey);
+
+void block_encrypt(const uint8_t *key, size_t key_len, const uint8_t *block, uint8_t *out);
+void block_decrypt(const uint8_t *key, size_t key_len, const uint8_t *block, uint8_t *out);
+
+/* Writes the ciphertext and the tag. */
+void gcm_seal(const uint8_t *key, size_t key_len, const uint8_t *nonce, const uint8_t *text,
+              size_t len, uint8_t *out);
+
+/* Writes the text and says whether the tag is good; `len` counts the tag too. */
+int gcm_open(const uint8_t *key, size_t key_len, const uint8_t *nonce, const uint8_t *sealed,
+             size_t len, uint8_t *out);
+
+/* A stream's nonce: its counter in 12 bytes, little-endian. */
+void stream_nonce(uint64_t counter, uint8_t *nonce);
+
+/* Numbers of `len` bytes, big-endian. */
+uint64_t get_number(const uint8_t *bytes, size_t len);
+void put_number(uint8_t *bytes, size_t len, uint64_t number);
+
+#endif

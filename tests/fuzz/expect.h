@@ -1,0 +1,30 @@
+/*
+ * What a call must answer and write, from the scope's tables and the ciphers
+ * of cipher.h. The plain half of the fuzz target: no call of the library.
+ */
+#ifndef EXPECT_H
+#define EXPECT_H
+
+#include "calls.h"
+
+enum { RECORD_WORDS_MAX = 11 };
+
+struct expectation {
+    uint64_t number;
+    uint64_t words[9]; /* the first words of the answer */
+    size_t words_len;
+    size_t due;          /* bytes of out that are written */
+    const uint8_t *text; /* they are these bytes; NULL: zeros */
+    uint64_t state[8];   /* the session or stream afterwards */
+    size_t state_len;    /* 0: as it was */
+    size_t record_at;    /* the words of the table or pool that are written */
+    uint64_t record[RECORD_WORDS_MAX];
+    size_t record_len; /* 0: none */
+};
+
+struct expectation expect(const struct call *call);
+
+/* The length of the address that the bytes begin with; 0 for none. */
+size_t address_length(const uint8_t *bytes, size_t len);
+
+#endif

@@ -1,0 +1,348 @@
+#!/usr/bin/env python3
+"""Writes the seed corpus of the fuzz target: short lists of steps that together bring about every
+answer of every function.
+
+    tests/fuzz/seeds.py FOLDER
+"""
+
+from __future__ import annotations
+
+import re
+import struct
+import sys
+from pathlib import Path
+
+HERE = Path(__file__).resolve().parent
+
+
+def names_of(file: str, enum: str) -> list[str]:
+    """The names of an enum of a header, in order."""
+    text = re.sub(r"/\*.*?\*/", "", (HERE / file).read_text("ascii"), flags=re.DOTALL)
+    body = re.search(rf"enum {enum} {{(.*?)}}", text, re.DOTALL)[1]
+    return [part.split("=")[0].strip() for part in body.split(",") if part.strip()]
+
+
+FUNCTIONS = names_of("calls.h", "function")[:-1]
+BUFFERS = names_of("calls.h", "buffer")[:-1]
+CODES = {name: code for code, name in enumerate(FUNCTIONS + names_of("host.h", "step_code")[:-1])}
+
+CLOCK = 1_700_000_000
+
+# What stands in the first byte of a value (word_of in host.c), and of the room given.
+AFTER, BEFORE, ID_OF, FROM_END = (number << 56 for number in (0xF0, 0xF1, 0xF2, 0xF3))
+MUCH_MORE, ONE_MORE, ONE_SHORT, NO_ROOM = 4, 5, 6, 7
+CUT = 0x80
+
+# Ways of a fault (spoil in host.c).
+EMPTY, SHORTER, LONGER, AT_LENGTH, FLIPPED = range(5)
+
+
+def fault(buffer: str, way: int) -> int:
+    return 128 | way << 4 | BUFFERS.index(buffer)
+
+
+def wrong_method(way: int) -> int:
+    return 128 | way << 4 | 15
+
+
+def step(code: str, fault=0, who=0, how=0, length=0, place=0, value=0) -> bytes:
+    return struct.pack("<BBBBHHQ", CODES[code], fault, who, how, length, place, value)
+
+
+# Sessions 0 and 2 are clients', 1 and 3 servers'. A datagram's slot is who / 8, a line who / 4.
+
+
+def begun() -> list[bytes]:
+    return [
+        step("TABLE_NEW", value=60),
+        step("TABLE_NEW", who=1),
+        step("BEGIN_CLIENT", value=0x0102030405060708),
+        step("BEGIN_SERVER", who=1, value=77),
+        step("BEGIN_CLIENT", who=2, value=5),
+        step("BEGIN_SERVER", who=3 + 4 * 2, value=(1 << 63)),
+        step("POOL_NEW"),
+    ]
+
+
+def faulty(code: str, *buffers: str, **fields) -> list[bytes]:
+    """The call with each of these buffers of a wrong length, and with wrong methods."""
+    steps = [
+        step(code, fault(each, way), length=1, **fields)
+        for each in buffers
+        for way in (EMPTY, SHORTER, LONGER, AT_LENGTH)
+    ]
+    return steps + [step(code, wrong_method(way), **fields) for way in range(5)]
+
+
+def settings():
+    yield [
+        *faulty("TABLE_NEW", "TABLE", value=60),
+        *(step("TABLE_NEW", value=each) for each in (1, 59, 61, 3_600, 3_601, FROM_END)),
+        *faulty("POOL_NEW", "POOL"),
+        *faulty("BEGIN_CLIENT", "SESSION"),
+        *faulty("BEGIN_SERVER", "SESSION", value=9),
+        step("BEGIN_CLIENT", value=9),
+        step("BEGIN_SERVER", who=1, value=ID_OF),
+    ]
+    yield begun() + faulty("DATAGRAM_SEAL", "KEY", "SESSION", "ANSWER")
+    opened = [step("DATAGRAM_SEAL"), *faulty("OPEN_SERVER", "KEY", "TABLE", "ANSWER")]
+    yield begun() + opened + faulty("OPEN_CLIENT", "KEY", "TABLE", "ANSWER")
+    yield begun() + faulty("SEAL_REQUEST", "KEY", "SALT", "STREAM", "ANSWER", place=1)
+    head = step("SEAL_REQUEST", place=1, length=4)
+    yield [*begun(), head, *faulty("OPEN_REQUEST", "KEY", "POOL", "STREAM", "ANSWER")]
+    yield begun() + faulty("SEAL_RESPONSE", "KEY", "SALT", "REQUEST_SALT", "STREAM", "ANSWER")
+    yield [
+        step("SEAL_RESPONSE"),
+        *faulty("OPEN_RESPONSE", "KEY", "REQUEST_SALT", "STREAM", "ANSWER"),
+        *faulty("SEAL_CHUNK", "STREAM", "ANSWER"),
+        *faulty("OPEN_CHUNK", "STREAM", "ANSWER"),
+    ]
+
+
+def sealed_datagrams():
+    for address in range(8):
+        yield begun() + [
+            step("DATAGRAM_SEAL", who=4 * address, length=17, place=3),
+            step("OPEN_SERVER", how=ONE_MORE),
+            step("DATAGRAM_SEAL", who=1 + 4 * address, how=ONE_MORE, length=1),
+            step("OPEN_CLIENT", who=1 + 8, how=MUCH_MORE, length=80),
+        ]
+    for less in (142, 143, 150):
+        yield begun() + [step("DATAGRAM_SEAL", who=who, length=0xFFFF - less) for who in (0, 1)]
+    yield begun() + [
+        step("DATAGRAM_SEAL", how=ONE_SHORT),
+        step("DATAGRAM_SEAL", how=NO_ROOM),
+        *(step("DATAGRAM_SEAL", place=place) for place in (0xF001, 0xF000)),
+        step("SET_WORD", who=8, place=3, value=FROM_END | 1),
+        step("DATAGRAM_SEAL"),
+        step("DATAGRAM_SEAL"),
+        step("SET_WORD", who=9, place=2, value=77),
+        step("DATAGRAM_SEAL", who=1),
+        step("SET_WORD", who=10, place=0, value=2),
+        step("DATAGRAM_SEAL", who=2),
+    ]
+
+
+def refused_datagrams():
+    for code, who in (("OPEN_SERVER", 0), ("OPEN_CLIENT", 1)):
+        yield begun() + [
+            step("DATAGRAM_SEAL", who=who, length=9),
+            step(code, who=who, how=ONE_SHORT),
+            step(code, fault("INPUT", FLIPPED), who=who, place=20),
+            step(code, fault("INPUT", FLIPPED), who=who, place=3),
+            *(step(code, fault("INPUT", AT_LENGTH), who=who, length=n) for n in (0, 31, 32, 40)),
+            step("CLOCK", value=AFTER | 31),
+            step(code, who=who),
+            step("CLOCK", value=BEFORE | 1),
+            step(code, who=who),
+            step("CLOCK", value=AFTER | 31),
+            step(code, who=who, value=99),
+        ]
+        yield begun() + [
+            step("DATAGRAM_SEAL", who=1 - who, length=20),
+            step(code, who=who),
+            *(step("CRAFT_DATAGRAM", who=who * 3, how=CUT | n) for n in (0, 10, 11)),
+            *(step(code, who=who + 8 * slot) for slot in (1, 2, 3)),
+            step("PATCH", who=2, place=9 + 8 * who, value=0xFFFF),
+            step("CRAFT_DATAGRAM", who=who * 3),
+            step(code, who=who),
+            step("CRAFT_DATAGRAM", who=who * 3 + 8 * 6),
+            step(code, who=who + 8),
+            step("DATAGRAM_SEAL", who=who),
+            step(code, who=who + 16, value=99),
+            step("FILL", who=who, value=1_000),
+            step(code, who=who + 16),
+            step("CLOCK", value=AFTER | 60),
+            step("CRAFT_DATAGRAM", who=who * 3),
+            step(code, who=who + 24),
+            step("CLOCK", value=AFTER | 1),
+            step("CRAFT_DATAGRAM", who=who * 3),
+            step(code, who=who),
+        ]
+
+
+EDGES = 300, 45, 44, 300, 555, 556, 300, 301, FROM_END, FROM_END | 1
+JUMPS = 1, 64, 65, 129, 194, 257, 385, 514, 706, 898, 1_153, 1_409, 1_666
+
+
+def windows():
+    for packets in (EDGES, JUMPS):
+        steps = begun()
+        for number, packet in enumerate(packets):
+            steps.append(step("SET_WORD", who=8, place=3, value=packet))
+            steps.append(step("CRAFT_DATAGRAM"))
+            steps.append(step("OPEN_SERVER", who=8 * (number % 4), length=number))
+        yield steps
+
+
+def several():
+    """Several sessions in one table, several salts in one pool."""
+    steps = begun()
+    for number in range(5):
+        steps.append(step("SET_WORD", who=8, place=1, value=number % 3))
+        steps.append(step("CRAFT_DATAGRAM"))
+        steps.append(step("OPEN_SERVER", who=8 * (number % 4)))
+    for value in (0, 1, 2, 0, 1, 2):
+        steps.append(step("SEAL_REQUEST", length=1, value=value))
+        steps.append(step("OPEN_REQUEST"))
+    yield steps
+    for record in (1, 2):
+        yield begun() + [
+            step("FILL", value=1_000),
+            step("SET_WORD", place=1 + 11 * record + 3, value=BEFORE | 61),
+            step("DATAGRAM_SEAL"),
+            step("OPEN_SERVER"),
+            step("FILL", who=2),
+            step("SET_WORD", who=4, place=1 + 6 * record + 1, value=BEFORE | 61),
+            step("SEAL_REQUEST", length=1),
+            step("OPEN_REQUEST"),
+        ]
+
+
+def requests():
+    for address in range(8):
+        yield begun() + [
+            step("SEAL_REQUEST", who=16 * address, length=5, place=3),
+            step("SEAL_CHUNK", length=7),
+            step("SEAL_CHUNK", how=ONE_MORE, length=0),
+            step("OPEN_REQUEST", who=1, how=ONE_MORE),
+            *[step("OPEN_CHUNK", who=1, how=MUCH_MORE)] * 5,
+        ]
+    yield begun() + [
+        step("SEAL_REQUEST", place=0),
+        step("SEAL_REQUEST", how=ONE_SHORT, place=1),
+        *(step("SEAL_REQUEST", place=place, value=1) for place in (900, 901, 0xF001, 0xF000)),
+    ]
+    yield begun() + [step("SEAL_REQUEST", length=0xFFFF - less) for less in (73, 74)]
+
+
+def refused_requests():
+    yield begun() + [
+        step("SEAL_REQUEST", length=5),
+        *(step("OPEN_REQUEST", fault("INPUT", AT_LENGTH), length=n) for n in (0, 42, 43, 59, 60)),
+        *(step("OPEN_REQUEST", fault("INPUT", FLIPPED), place=place) for place in (0, 20, 71)),
+        step("OPEN_REQUEST", how=NO_ROOM),
+        step("CLOCK", value=BEFORE | 31),
+        step("OPEN_REQUEST"),
+        step("CLOCK", value=AFTER | 31),
+        step("FILL", who=2),
+        step("OPEN_REQUEST"),
+        step("CLOCK", value=AFTER | 30),
+        step("POOL_NEW"),
+        step("OPEN_REQUEST"),
+    ]
+    steps = [step("PATCH", who=1, place=0x8000, value=1), step("CRAFT_HEAD", length=1)]
+    for value, cut in enumerate((0, 6, 8, 10)):  # odd ones would be responses
+        steps.append(step("OPEN_REQUEST"))
+        steps.append(step("CRAFT_HEAD", how=CUT | cut, length=5, value=value))
+    steps.append(step("OPEN_REQUEST"))
+    steps.append(step("PATCH", who=2, place=7, value=0x8503))
+    steps.append(step("CRAFT_HEAD", length=1_000))
+    yield [*begun(), *steps, step("OPEN_REQUEST")]
+
+
+def responses():
+    yield [
+        step("SEAL_RESPONSE", length=5, place=2),
+        step("SEAL_CHUNK", length=7),
+        step("OPEN_RESPONSE", who=1, place=1),
+        step("OPEN_RESPONSE", who=1, place=2),
+        step("OPEN_CHUNK", who=1, how=NO_ROOM),
+        *[step("OPEN_CHUNK", who=1)] * 4,
+        step("ANY_BYTES", how=1, length=40, place=3),
+        *[step("OPEN_CHUNK", who=1)] * 2,
+        step("SEAL_CHUNK", who=1),
+        step("SET_WORD", who=13, place=1, value=3),
+        step("OPEN_CHUNK", who=1),
+        step("SEAL_CHUNK", who=1),
+    ]
+    yield [
+        step("SEAL_RESPONSE", length=5),
+        *(step("OPEN_RESPONSE", fault("INPUT", AT_LENGTH), length=n) for n in (0, 58, 59, 90)),
+        step("OPEN_RESPONSE", fault("INPUT", FLIPPED), place=30),
+        step("CLOCK", value=AFTER | 31),
+        step("OPEN_RESPONSE"),
+        step("PATCH", who=1, place=0x8000, value=0),
+        step("CRAFT_HEAD", how=1),
+        step("OPEN_RESPONSE"),
+        step("SEAL_RESPONSE", how=ONE_SHORT),
+        *(step("SEAL_RESPONSE", length=0xFFFF - less) for less in (64, 65)),
+    ]
+
+
+def chunks():
+    yield [
+        step("SEAL_RESPONSE"),
+        step("SEAL_CHUNK", how=ONE_SHORT),
+        *(step("SEAL_CHUNK", length=0xFFFF - less) for less in (64, 65)),
+        *(
+            each
+            for less in (3, 2, 1, 0)
+            for each in (
+                step("SET_WORD", who=12, place=2, value=FROM_END | less),
+                step("SEAL_CHUNK", length=3),
+                step("SET_WORD", who=12, place=0, value=1),
+                step("SET_WORD", who=12, place=2, value=FROM_END | less),
+                step("OPEN_CHUNK"),
+                step("SET_WORD", who=12, place=0, value=3),
+            )
+        ),
+    ]
+    yield [
+        step("SEAL_RESPONSE", length=3),
+        step("OPEN_RESPONSE"),
+        step("OPEN_CHUNK"),
+        step("CRAFT_CHUNK", how=1, length=9, place=9),
+        step("OPEN_CHUNK"),
+        step("OPEN_CHUNK"),
+        step("CRAFT_CHUNK", how=1, length=8, place=9),
+        *[step("OPEN_CHUNK")] * 3,
+        step("SET_WORD", who=12, place=0, value=2),
+        step("SET_WORD", who=12, place=3, value=65_536),
+        step("OPEN_CHUNK"),
+        step("SET_WORD", who=12, place=3, value=9),
+        step("SET_WORD", who=12, place=2, value=FROM_END),
+        step("OPEN_CHUNK"),
+    ]
+
+
+GROUPS = (
+    settings,
+    sealed_datagrams,
+    refused_datagrams,
+    windows,
+    several,
+    requests,
+    refused_requests,
+    responses,
+    chunks,
+)
+
+
+def at_starts(each: bytes) -> bytes:
+    """A call with its buffers lent at the starts of their places, not at the ends."""
+    code, fault, who, how = each[:4]
+    return bytes([code, fault, who, how | 0xF8 if code < len(FUNCTIONS) else how]) + each[4:]
+
+
+def all_seeds():
+    for group in GROUPS:
+        for number, steps in enumerate(group()):
+            for method in (0, 1):
+                name = f"{group.__name__}-{number}-{method + 1}"
+                first = struct.pack("<BBBBHHQ", method, 0, 0, 0, 0, 0, CLOCK)
+                yield name, first + b"".join(steps)
+                yield f"{name}-starts", first + b"".join(map(at_starts, steps))
+
+
+def main() -> None:
+    if len(sys.argv) != 2:
+        sys.exit(f"usage: {sys.argv[0]} FOLDER")
+    folder = Path(sys.argv[1])
+    folder.mkdir(parents=True, exist_ok=True)
+    for name, content in all_seeds():
+        (folder / name).write_bytes(content)
+
+
+if __name__ == "__main__":
+    main()

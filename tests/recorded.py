@@ -1,0 +1,154 @@
+"""The calls of the proved programs vectors_datagram, vectors_sessions and vectors_streams, as
+calls of the library: every edge that they hold, through the exported functions."""
+
+from __future__ import annotations
+
+import importlib.util
+import sys
+from collections.abc import Iterator
+from types import ModuleType
+
+sys.dont_write_bytecode = True  # no __pycache__ in the tree
+from library import ROOT, Value  # noqa: E402
+
+sys.path[:0] = [str(ROOT / "reference"), str(ROOT / "tools")]
+import session_cases  # noqa: E402
+import stream_calls  # noqa: E402
+import stream_cases  # noqa: E402
+from relay import ANSWER_WORDS, CLIENT_SIDE, SERVER_SIDE, SESSION_WORDS  # noqa: E402
+from relay import STREAM_WORDS  # noqa: E402
+
+ANSWER = tuple(range(1_001, 1_001 + ANSWER_WORDS))
+SESSION = (99,) * SESSION_WORDS
+FILL = 0xA5
+
+Call = tuple[str, dict[str, Value]]
+
+
+def script(name: str) -> ModuleType:
+    """A script of tools/, which its name keeps from being imported."""
+    spec = importlib.util.spec_from_file_location(name, ROOT / "tools" / f"{name}.py")
+    module = importlib.util.module_from_spec(spec)
+    spec.loader.exec_module(module)
+    return module
+
+
+def groups_of(cases: ModuleType) -> Iterator[tuple]:
+    for groups in cases.make_files().values():
+        yield from groups
+
+
+# Sealed datagrams.
+
+
+def sealing(cases: ModuleType, call) -> Call:
+    sender = call.sender
+    side = CLIENT_SIDE if sender.client is None else SERVER_SIDE
+    return "relay_datagram_seal", {
+        "method": call.method,
+        "key": call.key,
+        "session": (side, sender.session, sender.client or 0, sender.packet),
+        "clock": call.time,
+        "address": call.address,
+        "padding": call.padding,
+        "payload": cases.payload(call.length, call.seed),
+        "out": bytes([FILL]) * call.room,
+        "answer": ANSWER,
+    }
+
+
+def beginning(case) -> Call:
+    if case.client is None:
+        return "relay_session_begin_client", {"id": case.session, "session": SESSION}
+    values = {"id": case.session, "client": case.client, "session": SESSION}
+    return "relay_session_begin_server", values
+
+
+def datagrams() -> Iterator[Call]:
+    cases = script("datagram-vectors")
+    for _, kind, records in groups_of(cases):
+        for record in records:
+            if kind == cases.BEGINNING:
+                yield beginning(record)
+            else:
+                yield sealing(cases, record.call)
+
+
+# Opened datagrams and the session table.
+
+
+def opening(record) -> Call:
+    call = session_cases.flipped(record.call, record.flip)
+    first, second, port = call.peer
+    values = {"method": call.method, "key": call.key, "clock": call.clock}
+    if call.client is not None:
+        values["client"] = call.client
+    values |= {"first": first, "second": second, "port": port, "datagram": call.datagram}
+    values |= {"table": record.before[: record.words], "out": call.output, "answer": ANSWER}
+    side = "server" if call.client is None else "client"
+    return f"relay_datagram_open_{side}", values
+
+
+def tables() -> Iterator[Call]:
+    for _, calls in groups_of(session_cases):
+        for record in calls.records:
+            if isinstance(record, session_cases.Opening):
+                yield opening(record)
+            elif isinstance(record, session_cases.Making):
+                lent = record.before[: record.words]
+                yield "relay_table_new", {"retention": record.retention, "table": lent}
+
+
+# Streams and the salt pool.
+
+NAMES = {
+    stream_calls.SEAL_REQUEST: "relay_stream_seal_request",
+    stream_calls.SEAL_RESPONSE: "relay_stream_seal_response",
+    stream_calls.SEAL_CHUNK: "relay_stream_seal_chunk",
+    stream_calls.OPEN_REQUEST: "relay_stream_open_request",
+    stream_calls.OPEN_RESPONSE: "relay_stream_open_response",
+    stream_calls.OPEN_CHUNK: "relay_stream_open_chunk",
+}
+
+# Where a call's data and its other string go.
+DATA = {kind: "payload" if kind in stream_calls.SEALING else "bytes" for kind in NAMES}
+OTHER = {stream_calls.SEAL_REQUEST: "address", stream_calls.SEAL_RESPONSE: "request_salt"}
+
+
+def streaming(record) -> Call:
+    call, words = record.call, record.before
+    start = stream_calls.slot_start(call.slot)
+    salt = "request_salt" if call.kind == stream_calls.OPEN_RESPONSE else "salt"
+    values = {
+        "method": call.method,
+        "key": call.key,
+        salt: call.salt,
+        "clock": call.clock,
+        "padding": call.padding,
+        "pool": words[: call.lent],
+        "out": bytes([FILL]) * call.room,
+        "stream": words[start : start + STREAM_WORDS],
+        "answer": ANSWER,
+        DATA[call.kind]: stream_calls.flipped(call.data, call.flip),
+    }
+    if call.kind in OTHER:
+        values[OTHER[call.kind]] = call.other
+    return NAMES[call.kind], values
+
+
+def streams() -> Iterator[Call]:
+    for _, calls in groups_of(stream_cases):
+        for record in calls.records:
+            if isinstance(record, stream_calls.Run):
+                yield streaming(record)
+            elif isinstance(record, stream_calls.Making):
+                yield "relay_pool_new", {
+                    "method": record.method,
+                    "pool": record.before[: record.words],
+                }
+
+
+def calls() -> Iterator[Call]:
+    yield from datagrams()
+    yield from tables()
+    yield from streams()

@@ -1,0 +1,341 @@
+/*
+ * A C program over librelay.a: seals, opens and is refused.
+ *
+ *     cc -Iinclude tests/smoke.c target/staticlib/librelay.a -o smoke && ./smoke
+ *
+ * All memory is the caller's. What stays between calls is arrays of words:
+ * tables, pools, sessions, streams.
+ */
+#include "relay.h"
+
+#include <stdio.h>
+#include <stdlib.h>
+#include <string.h>
+
+/* Fixed here, so that every run is the same. A real host takes keys from its
+ * settings, salts and session IDs from the system's random numbers, and the
+ * clock from time(). */
+static const uint8_t KEY[16] = "a 16-byte secret";
+static const uint8_t SALT[16] = "a request's salt";
+static const uint8_t OTHER_SALT[16] = "a response's one";
+static const uint64_t CLOCK = 1700000000;
+static const uint64_t CLIENT_ID = 0x0102030405060708;
+static const uint64_t SERVER_ID = 0x1112131415161718;
+
+/* SOCKS5: kind 3, a name with its length, the port. */
+static const uint8_t ADDRESS[] = "\003\013example.com\001\273";
+#define ADDRESS_LEN (sizeof ADDRESS - 1)
+
+#define METHOD RELAY_AES_128_GCM
+
+static void check(int holds, const char *what)
+{
+    if (!holds) {
+        fprintf(stderr, "smoke test failed: %s\n", what);
+        exit(1);
+    }
+}
+
+static void check_number(uint64_t number, uint64_t expected, const char *what)
+{
+    if (number != expected) {
+        fprintf(stderr, "smoke test failed: %s: %llu and not %llu\n", what,
+                (unsigned long long)number, (unsigned long long)expected);
+        exit(1);
+    }
+}
+
+static const uint8_t *text(const char *string)
+{
+    return (const uint8_t *)string;
+}
+
+static int all(const uint8_t *bytes, size_t len, uint8_t value)
+{
+    for (size_t i = 0; i < len; i++)
+        if (bytes[i] != value)
+            return 0;
+    return 1;
+}
+
+/* ---- datagrams */
+
+/* Seals "ping" or "pong" with a begun session. A refusal would leave the
+ * session as it was; here its next packet ID goes one up. */
+static size_t seal(uint64_t *session, const char *payload, uint8_t *out, size_t room)
+{
+    uint64_t answer[RELAY_ANSWER_WORDS];
+    uint64_t packet = session[3];
+    check_number(relay_datagram_seal(METHOD, KEY, sizeof KEY, session, RELAY_SESSION_WORDS, CLOCK,
+                                     ADDRESS, ADDRESS_LEN, 3, text(payload), strlen(payload), out,
+                                     room, answer, RELAY_ANSWER_WORDS),
+                 RELAY_OK, "sealing a datagram");
+    check(session[3] == packet + 1, "the next packet ID");
+    return (size_t)answer[RELAY_SEALED_LENGTH];
+}
+
+/* Opens for the server; the caller's address is the host's own numbering. */
+static uint64_t open_server(uint64_t clock, const uint8_t *datagram, size_t len, uint64_t *table,
+                            uint8_t *out, size_t room, uint64_t *answer)
+{
+    return relay_datagram_open_server(METHOD, KEY, sizeof KEY, clock, 10, 20, 30, datagram, len,
+                                      table, RELAY_TABLE_WORDS, out, room, answer,
+                                      RELAY_ANSWER_WORDS);
+}
+
+/* The payload is the end of the plaintext, behind header and padding. */
+static void check_header(const uint64_t *answer, const uint8_t *out, size_t due, uint64_t id,
+                         const char *payload)
+{
+    check(answer[RELAY_KIND] == 3 && answer[RELAY_SECOND] == 11, "a name of 11 bytes");
+    check(memcmp(out + answer[RELAY_FIRST], "example.com", 11) == 0, "the name in its place");
+    check(answer[RELAY_PORT] == 443 && answer[RELAY_PADDING] == 3, "port and padding");
+    check(answer[RELAY_SESSION_ID] == id && answer[RELAY_PACKET_ID] == 0, "session and packet");
+    check(answer[RELAY_TIMESTAMP] == CLOCK, "the time");
+    size_t place = (size_t)answer[RELAY_PAYLOAD];
+    check(due - place == strlen(payload) && memcmp(out + place, payload, due - place) == 0,
+          "the payload");
+}
+
+/* What is refused changes no table, and shows nothing of a plaintext. */
+static void refused_datagrams(uint8_t *datagram, size_t len, uint64_t *table)
+{
+    uint64_t before[RELAY_TABLE_WORDS];
+    uint64_t answer[RELAY_ANSWER_WORDS];
+    uint8_t out[200];
+    size_t due = len - 32;
+    memset(out, 0xa5, sizeof out);
+    memcpy(before, table, sizeof before);
+
+    /* A forgery: the tag is wrong, so nothing is written at all. */
+    datagram[len - 1] ^= 1;
+    check_number(open_server(CLOCK, datagram, len, table, out, sizeof out, answer),
+                 RELAY_NOT_AUTHENTIC, "a forged datagram");
+    check(all(out, sizeof out, 0xa5), "a forgery leaves the buffer as it was");
+    datagram[len - 1] ^= 1;
+
+    /* One byte of room too few. */
+    check_number(open_server(CLOCK, datagram, len, table, out, due - 1, answer), RELAY_ROOM,
+                 "too little room");
+    check(all(out, sizeof out, 0xa5), "and so does too little room");
+
+    /* Too late: the tag is good, and the plaintext's bytes are set to zero. */
+    check_number(open_server(CLOCK + 31, datagram, len, table, out, sizeof out, answer), RELAY_TIME,
+                 "a datagram that is 31 seconds old");
+    check(all(out, due, 0) && all(out + due, sizeof out - due, 0xa5), "exactly its bytes are zero");
+    check(memcmp(before, table, sizeof before) == 0, "refusals leave the table as it was");
+}
+
+static void client_to_server(void)
+{
+    uint64_t session[RELAY_SESSION_WORDS];
+    uint64_t table[RELAY_TABLE_WORDS];
+    uint64_t answer[RELAY_ANSWER_WORDS];
+    uint8_t datagram[200];
+    uint8_t out[200];
+
+    check_number(relay_session_begin_client(CLIENT_ID, session, RELAY_SESSION_WORDS), RELAY_OK,
+                 "beginning a client's session");
+    check_number(relay_table_new(0, table, RELAY_TABLE_WORDS), RELAY_OK, "making a table");
+    size_t len = seal(session, "ping", datagram, sizeof datagram);
+    refused_datagrams(datagram, len, table);
+
+    /* Accepted once, with exactly the room that it needs. */
+    check_number(open_server(CLOCK, datagram, len, table, out, len - 32, answer), RELAY_OK,
+                 "opening a client's datagram");
+    check_header(answer, out, len - 32, CLIENT_ID, "ping");
+    check_number(open_server(CLOCK, datagram, len, table, out, len - 32, answer), RELAY_REPLAY,
+                 "the same datagram again");
+    printf("client to server: %zu bytes opened; forged, late and replayed ones refused\n", len);
+}
+
+static void server_to_client(void)
+{
+    uint64_t session[RELAY_SESSION_WORDS];
+    uint64_t table[RELAY_TABLE_WORDS];
+    uint64_t answer[RELAY_ANSWER_WORDS];
+    uint8_t datagram[200];
+    uint8_t out[200];
+
+    check_number(relay_session_begin_server(CLIENT_ID, CLIENT_ID, session, RELAY_SESSION_WORDS),
+                 RELAY_ARGUMENT, "a server's session of its client's ID");
+    check_number(relay_session_begin_server(SERVER_ID, CLIENT_ID, session, RELAY_SESSION_WORDS),
+                 RELAY_OK, "beginning a server's session");
+    relay_table_new(60, table, RELAY_TABLE_WORDS);
+    size_t len = seal(session, "pong", datagram, sizeof datagram);
+
+    for (uint64_t client = CLIENT_ID - 1; client <= CLIENT_ID; client++) {
+        uint64_t expected = client == CLIENT_ID ? RELAY_OK : RELAY_BINDING;
+        check_number(relay_datagram_open_client(METHOD, KEY, sizeof KEY, CLOCK, client, 10, 20, 30,
+                                                datagram, len, table, RELAY_TABLE_WORDS, out,
+                                                sizeof out, answer, RELAY_ANSWER_WORDS),
+                     expected, "opening a server's datagram");
+    }
+    check_header(answer, out, len - 32, SERVER_ID, "pong");
+    printf("server to client: %zu bytes opened; refused for another client\n", len);
+}
+
+/* ---- streams */
+
+/* Opens one chunk: first its length, then its payload, from bytes that are all
+ * there. Gives the number of bytes used. */
+static size_t open_chunk(uint64_t *stream, const uint8_t *bytes, size_t len, const char *payload)
+{
+    uint64_t answer[RELAY_ANSWER_WORDS];
+    uint8_t out[100];
+    size_t used = 0;
+    for (int piece = 0; piece < 2; piece++) {
+        if (piece == 0 && stream[RELAY_TURN] == RELAY_TURN_PAYLOAD)
+            continue; /* behind a response's head a payload is next */
+        check_number(relay_stream_open_chunk(stream, RELAY_STREAM_WORDS, bytes + used, len - used,
+                                             out, sizeof out, answer, RELAY_ANSWER_WORDS),
+                     RELAY_OK, "opening a chunk");
+        used += (size_t)answer[RELAY_USED];
+    }
+    check(answer[RELAY_CHUNK_LENGTH] == strlen(payload) &&
+              memcmp(out, payload, strlen(payload)) == 0,
+          "a chunk's payload");
+    return used;
+}
+
+static size_t seal_chunk(uint64_t *stream, const char *payload, uint8_t *out, size_t room)
+{
+    uint64_t answer[RELAY_ANSWER_WORDS];
+    check_number(relay_stream_seal_chunk(stream, RELAY_STREAM_WORDS, text(payload), strlen(payload),
+                                         out, room, answer, RELAY_ANSWER_WORDS),
+                 RELAY_OK, "sealing a chunk");
+    return (size_t)answer[RELAY_SEALED_LENGTH];
+}
+
+static uint64_t open_request(const uint8_t *bytes, size_t len, uint64_t *pool, uint64_t *stream,
+                             uint64_t *answer, uint8_t *out, size_t room)
+{
+    return relay_stream_open_request(METHOD, KEY, sizeof KEY, CLOCK, bytes, len, pool,
+                                     RELAY_POOL_WORDS, out, room, stream, RELAY_STREAM_WORDS,
+                                     answer, RELAY_ANSWER_WORDS);
+}
+
+/* Seals a head with the first payload "GET", and two chunks. Gives the head's length. */
+static size_t seal_request(uint8_t *bytes, size_t room, size_t *len)
+{
+    uint64_t stream[RELAY_STREAM_WORDS];
+    uint64_t answer[RELAY_ANSWER_WORDS];
+    check_number(relay_stream_seal_request(METHOD, KEY, sizeof KEY, SALT, sizeof SALT, CLOCK,
+                                           ADDRESS, ADDRESS_LEN, 0, text("GET"), 3, bytes, room,
+                                           stream, RELAY_STREAM_WORDS, answer, RELAY_ANSWER_WORDS),
+                 RELAY_OK, "sealing a request's head");
+    size_t head = (size_t)answer[RELAY_SEALED_LENGTH];
+    *len = head + seal_chunk(stream, "first", bytes + head, room - head);
+    *len += seal_chunk(stream, "second", bytes + *len, room - *len);
+    return head;
+}
+
+/* Bytes come in by and by. A head asks for its fixed part first, which says how long it is, and
+ * then for all of it. */
+static void open_head(const uint8_t *bytes, size_t len, size_t head, uint64_t *pool,
+                      uint64_t *stream)
+{
+    uint64_t answer[RELAY_ANSWER_WORDS];
+    uint8_t out[100];
+    check_number(open_request(bytes, 10, pool, stream, answer, out, sizeof out), RELAY_MORE,
+                 "ten bytes");
+    check(answer[0] == 16 + 11 + 16, "salt, fixed header and tag are wanted");
+    check_number(open_request(bytes, 43, pool, stream, answer, out, sizeof out), RELAY_MORE,
+                 "the fixed part");
+    check(answer[0] == head, "the whole head is wanted");
+    check_number(open_request(bytes, len, pool, stream, answer, out, sizeof out), RELAY_OK,
+                 "opening a request's head");
+    check(answer[RELAY_PORT] == 443 && answer[RELAY_HEAD_USED] == head, "what the head says");
+    check(memcmp(out + answer[RELAY_HEAD_PAYLOAD], "GET", 3) == 0 &&
+              answer[RELAY_HEAD_LENGTH] == answer[RELAY_HEAD_PAYLOAD] + 3,
+          "the first payload");
+}
+
+static void request(void)
+{
+    uint64_t pool[RELAY_POOL_WORDS];
+    uint64_t stream[RELAY_STREAM_WORDS];
+    uint64_t answer[RELAY_ANSWER_WORDS];
+    uint8_t bytes[400];
+    uint8_t out[100];
+    size_t len;
+
+    check_number(relay_pool_new(METHOD, pool, RELAY_POOL_WORDS), RELAY_OK, "making a pool");
+    size_t head = seal_request(bytes, sizeof bytes, &len);
+    open_head(bytes, len, head, pool, stream);
+    size_t at = head;
+    at += open_chunk(stream, bytes + at, len - at, "first");
+    at += open_chunk(stream, bytes + at, len - at, "second");
+    check(at == len, "all bytes are used");
+
+    /* A wrong tag ends a stream, for good. The pool remembers the salt. */
+    for (int turn = 0; turn < 2; turn++)
+        check_number(relay_stream_open_chunk(stream, RELAY_STREAM_WORDS, bytes, len, out,
+                                             sizeof out, answer, RELAY_ANSWER_WORDS),
+                     RELAY_NOT_AUTHENTIC, "a chunk that is none");
+    check(stream[RELAY_TURN] == RELAY_TURN_ENDED, "the stream has ended");
+    check_number(open_request(bytes, len, pool, stream, answer, out, sizeof out), RELAY_REPLAY,
+                 "the same head again");
+    printf("request: head and 2 chunks, %zu bytes; replayed head and forged chunk refused\n", len);
+}
+
+static void response(void)
+{
+    uint64_t sender[RELAY_STREAM_WORDS];
+    uint64_t receiver[RELAY_STREAM_WORDS];
+    uint64_t answer[RELAY_ANSWER_WORDS];
+    uint8_t bytes[400];
+
+    check_number(relay_stream_seal_response(METHOD, KEY, sizeof KEY, OTHER_SALT, sizeof OTHER_SALT,
+                                            SALT, sizeof SALT, CLOCK, text("200"), 3, bytes,
+                                            sizeof bytes, sender, RELAY_STREAM_WORDS, answer,
+                                            RELAY_ANSWER_WORDS),
+                 RELAY_OK, "sealing a response's head");
+    size_t len = (size_t)answer[RELAY_SEALED_LENGTH];
+    len += seal_chunk(sender, "body", bytes + len, sizeof bytes - len);
+
+    /* It answers this request, and no other. */
+    check_number(relay_stream_open_response(METHOD, KEY, sizeof KEY, CLOCK, OTHER_SALT,
+                                            sizeof OTHER_SALT, bytes, len, receiver,
+                                            RELAY_STREAM_WORDS, answer, RELAY_ANSWER_WORDS),
+                 RELAY_BINDING, "a response to another request");
+    check_number(relay_stream_open_response(METHOD, KEY, sizeof KEY, CLOCK, SALT, sizeof SALT,
+                                            bytes, len, receiver, RELAY_STREAM_WORDS, answer,
+                                            RELAY_ANSWER_WORDS),
+                 RELAY_OK, "opening a response's head");
+    size_t at = (size_t)answer[RELAY_USED];
+    check(answer[RELAY_CHUNK_LENGTH] == 3, "the first payload's length");
+    at += open_chunk(receiver, bytes + at, len - at, "200");
+    at += open_chunk(receiver, bytes + at, len - at, "body");
+    check(at == len, "all bytes are used");
+    printf("response: head and 1 chunk, %zu bytes; refused for another request\n", len);
+}
+
+/* ---- wrong lengths */
+
+static void wrong_lengths(void)
+{
+    uint64_t words[RELAY_POOL_WORDS + 1];
+    memset(words, 0x5a, sizeof words);
+    check_number(relay_table_new(60, words, RELAY_TABLE_WORDS - 1), RELAY_SETTINGS, "a table");
+    check_number(relay_table_new(59, words, RELAY_TABLE_WORDS), RELAY_SETTINGS, "a retention");
+    check_number(relay_pool_new(METHOD, words, RELAY_POOL_WORDS + 1), RELAY_SETTINGS, "a pool");
+    check_number(relay_pool_new(3, words, RELAY_POOL_WORDS), RELAY_SETTINGS, "a method");
+    check_number(relay_session_begin_client(1, NULL, 0), RELAY_SETTINGS, "no session");
+    check_number(relay_stream_seal_chunk(words, RELAY_STREAM_WORDS, NULL, 0, NULL, 0, words + 9,
+                                         RELAY_ANSWER_WORDS - 1),
+                 RELAY_SETTINGS, "an answer of 8 words");
+    check(all((const uint8_t *)words, sizeof words, 0x5a), "nothing is written");
+    printf("wrong lengths: refused, and nothing is written\n");
+}
+
+int main(void)
+{
+    client_to_server();
+    server_to_client();
+    request();
+    response();
+    wrong_lengths();
+    printf("smoke test passed\n");
+    return 0;
+}
