@@ -7,6 +7,7 @@ HOST := --locked --manifest-path host/Cargo.toml
 
 # A busy morning through the relay, on data of its own: an hour of the simulated clock. ARGS="--minutes 5" for a short one.
 run: library
+	tools/need cargo=cargo-web
 	$(CARGO) run --release $(HOST) -p morning -- $(ARGS)
 
 # The merge gate.
@@ -15,7 +16,7 @@ test:
 
 # target/staticlib/librelay.a. What is not proved yet is proved first, and each crate says so when it is.
 library:
-	tools/need cc=gcc cargo=cargo-web
+	tools/need cc=gcc
 	rt staticlib relay
 
 # The C program of the README.

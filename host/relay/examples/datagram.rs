@@ -14,27 +14,44 @@ fn main() -> Result<(), Box<dyn Error>> {
     let key = Key::new(Method::Aes128Gcm, &random::<16>()?)?;
     let client = UdpSocket::bind("127.0.0.1:0")?;
     let server = UdpSocket::bind("127.0.0.1:0")?;
-    let mut wire = vec![0; MAX_DATAGRAM];
-    let mut plaintext = vec![0; MAX_DATAGRAM];
 
     // The client seals a question for a target behind the server.
     let mut session = SealSession::client(u64::from_be_bytes(random()?));
     let target = Address::name(b"time.example", 37)?;
+    let mut wire = vec![0; MAX_DATAGRAM];
     let length = session.seal(&key, now()?, &target, 0, b"What time is it?", &mut wire)?;
     client.send_to(&wire[..length], server.local_addr()?)?;
     println!("client   sends {length} bytes");
 
-    // The server opens it and remembers where it came from.
+    serve(&server, &key)?;
+
+    // The client has a table for the server's sessions.
+    let mut servers = Table::new(60)?;
+    let mut plaintext = vec![0; MAX_DATAGRAM];
+    let (length, caller) = client.recv_from(&mut wire)?;
+    let (own, peer) = (session.id(), Peer::from(caller));
+    let header = servers.open_client(&key, now()?, own, peer, &wire[..length], &mut plaintext)?;
+    let answer = String::from_utf8_lossy(header.payload(&plaintext));
+    let told_by = header.address(&plaintext);
+    println!("client   is told {answer:?} by {told_by}");
+    Ok(())
+}
+
+/// Opens one question, refuses a copy of it, and answers.
+fn serve(server: &UdpSocket, key: &Key) -> Result<(), Box<dyn Error>> {
+    let mut wire = vec![0; MAX_DATAGRAM];
+    let mut plaintext = vec![0; MAX_DATAGRAM];
+
+    // The table remembers where a session came from.
     let mut clients = Table::new(60)?;
     let (length, caller) = server.recv_from(&mut wire)?;
     let peer = Peer::from(caller);
-    let header = clients.open_server(&key, now()?, peer, &wire[..length], &mut plaintext)?;
+    let header = clients.open_server(key, now()?, peer, &wire[..length], &mut plaintext)?;
     let question = String::from_utf8_lossy(header.payload(&plaintext));
     let asked_for = header.address(&plaintext);
     println!("server   is asked {question:?} for {asked_for}");
 
-    // A copy of it is refused.
-    let copy = clients.open_server(&key, now()?, peer, &wire[..length], &mut plaintext);
+    let copy = clients.open_server(key, now()?, peer, &wire[..length], &mut plaintext);
     println!("server   refuses a copy: {}", copy.unwrap_err());
 
     // The answer goes to where the session was last heard.
@@ -42,17 +59,8 @@ fn main() -> Result<(), Box<dyn Error>> {
     let peer = clients.peer_of(replies_to, now()?).ok_or("forgotten")?;
     let mut replies = SealSession::server(u64::from_be_bytes(random()?), replies_to)?;
     let source = Address::from(SocketAddr::from(([192, 0, 2, 37], 37)));
-    let length = replies.seal(&key, now()?, &source, 0, b"Tea time.", &mut wire)?;
+    let length = replies.seal(key, now()?, &source, 0, b"Tea time.", &mut wire)?;
     server.send_to(&wire[..length], SocketAddr::from(peer))?;
-
-    // The client has a table for the server's sessions.
-    let mut servers = Table::new(60)?;
-    let (length, caller) = client.recv_from(&mut wire)?;
-    let (own, peer) = (session.id(), Peer::from(caller));
-    let header = servers.open_client(&key, now()?, own, peer, &wire[..length], &mut plaintext)?;
-    let answer = String::from_utf8_lossy(header.payload(&plaintext));
-    let told_by = header.address(&plaintext);
-    println!("client   is told {answer:?} by {told_by}");
     Ok(())
 }
 

@@ -16,23 +16,31 @@ const PIECE: usize = 50;
 fn main() -> Result<(), Box<dyn Error>> {
     let key = Key::new(Method::Aes256Gcm, &random::<32>()?)?;
     let request_salt = random::<32>()?;
-    let mut out = vec![0; 65_535];
+    let wire = request(&key, &request_salt)?;
+    println!("client   sends {} bytes", wire.len());
+    serve(&key, &wire)?;
+    respond(&key, &request_salt)
+}
 
-    // The client sends a head with its first payload, and one more chunk.
+/// The client sends a head with its first payload, and one more chunk.
+fn request(key: &Key, salt: &[u8]) -> Result<Vec<u8>, Box<dyn Error>> {
     let target = Address::name(b"www.example", 80)?;
     let mut wire = vec![0; 1_000];
     let first = b"GET / HTTP/1.1\r\n";
     let (mut client, mut length) =
-        RequestStream::seal(&key, &request_salt, now()?, &target, 64, first, &mut wire)?;
+        RequestStream::seal(key, salt, now()?, &target, 64, first, &mut wire)?;
     length += client.seal_chunk(b"Host: www.example\r\n\r\n", &mut wire[length..])?;
     wire.truncate(length);
-    println!("client   sends {length} bytes");
+    Ok(wire)
+}
 
-    // The server waits until it has the whole head.
+/// The server waits until it has the whole head, and then opens chunk by chunk.
+fn serve(key: &Key, wire: &[u8]) -> Result<(), Box<dyn Error>> {
     let mut pool = Pool::new(key.method());
+    let mut out = vec![0; 65_535];
     let mut arrived = 0;
     let (mut server, header) = loop {
-        match RequestStream::open(&key, now()?, &wire[..arrived], &mut pool, &mut out) {
+        match RequestStream::open(key, now()?, &wire[..arrived], &mut pool, &mut out) {
             Err(Refusal::More { wanted }) => println!("server   has {arrived} of {wanted}"),
             other => break other?,
         }
@@ -48,12 +56,16 @@ fn main() -> Result<(), Box<dyn Error>> {
             print!("{}", String::from_utf8_lossy(&out[..length]));
         }
     }
+    Ok(())
+}
 
-    // The response is bound to the request by its salt.
+/// The response is bound to the request by its salt.
+fn respond(key: &Key, request_salt: &[u8]) -> Result<(), Box<dyn Error>> {
     let mut wire = vec![0; 1_000];
+    let mut out = vec![0; 65_535];
     let (salt, body) = (random::<32>()?, b"HTTP/1.1 204 No Content\r\n\r\n");
-    let (_, length) = ResponseStream::seal(&key, &salt, &request_salt, now()?, body, &mut wire)?;
-    let (mut client, header) = ResponseStream::open(&key, now()?, &request_salt, &wire[..length])?;
+    let (_, length) = ResponseStream::seal(key, &salt, request_salt, now()?, body, &mut wire)?;
+    let (mut client, header) = ResponseStream::open(key, now()?, request_salt, &wire[..length])?;
     client.open_chunk(&wire[header.used..length], &mut out)?;
     println!("client   is told");
     print!("{}", String::from_utf8_lossy(&out[..header.length]));
