@@ -27,9 +27,10 @@ fn hashed(h: Element, c: &[u8]) -> Element
     requires { ⌜ length (now c) ≤ maxText ⌝ }
     ensures { λ r. ⌜ blockOf r ≡ spec.hashed (blockOf h) (now (c .entry)) ⌝ }
 {
-    let y = ghash::ghash(h, Element { hi: 0, lo: 0 }, c);
+    let t = ghash::product::table_of(h);
+    let y = ghash::over(&t, Element { hi: 0, lo: 0 }, c);
     let bits = 8 * c.len() as u64;
-    ghash::mul(ghash::add(y, Element { hi: 0, lo: bits }), h)
+    ghash::product::mul(&t, ghash::add(y, Element { hi: 0, lo: bits }))
 }
 
 // The bytes of a block.

@@ -1,11 +1,11 @@
--- An element of two words: its bits, its shift by one, and its bytes.
+-- An element of two words: bits of its low word, its shift by one, and its bytes.
 -- Assumes nothing.
 use mathlib.Core.Path.{_≡_, sym, ap, ap₂, _∙_}
 use mathlib.Core.List.{List, _++_}
 use Prim.Native.Nat.{ℕ, _+_, _-_, _*_, _/_, _%_, _^_, _<_, _≤_}
 use native.Mathlib.Nat.{mul-assoc, add-zero, zero-add}
 use native.Mathlib.Omega.{arith}
-use lib.Pow.{shr-shr, high, low, field, mod-mod-pow}
+use lib.Pow.{low, field, mod-mod-pow}
 use lib.Bits.{bitXor, xor-block, xor-zero-r, block-half, block-odd}
 use lib.Arith.{digits-div}
 use lib.ListN.{length, drop}
@@ -14,15 +14,11 @@ use Rattle.octets.specs.Buffers.{put}
 use Rattle.octets.specs.Numbers.{be, toBe}
 use Rattle.octets.proofs.BufferLaws.{put-put}
 use Rattle.octets.proofs.NumberLaws.{be-add, length-toBe, toBe-add, toBe-high}
-use Rattle.ghash.specs.Field.{bitAt, R, next}
+use Rattle.ghash.specs.Field.{R, next}
 use Rattle.ghash.specs.Words.{words}
 
 module _ (hi lo : ℕ) (fits : lo < 2 ^ 64) where
-  -- j bits of a block that stand in one of its words
-  pub field-high : (j m : ℕ) → hi / 2 ^ m % 2 ^ j ≡ words hi lo / 2 ^ (64 + m) % 2 ^ j
-  field-high j m =
-      ap (λ (x : ℕ). x / 2 ^ m % 2 ^ j) (sym (high hi 64 fits)) ∙ ap (λ (x : ℕ). x % 2 ^ j) (shr-shr (words hi lo) 64 m)
-
+  -- j bits of a block that stand in its low word
   pub field-low : (j m : ℕ) → j + m ≤ 64 → lo / 2 ^ m % 2 ^ j ≡ words hi lo / 2 ^ m % 2 ^ j
   field-low j m h =
       let e : (64 - (j + m)) + (j + m) ≡ 64 = omega arith in
@@ -30,14 +26,6 @@ module _ (hi lo : ℕ) (fits : lo < 2 ^ 64) where
       ∙ ap (λ (x : ℕ). x % 2 ^ (j + m) / 2 ^ m) (sym (low hi 64 fits) ∙ ap (λ (n : ℕ). words hi lo % 2 ^ n) (sym e))
       ∙ ap (λ (x : ℕ). x / 2 ^ m) (mod-mod-pow (words hi lo) (64 - (j + m)) (j + m))
       ∙ field (words hi lo) j m
-
-  pub bit-high : (i : ℕ) → i < 64 → hi / 2 ^ (63 - i) % 2 ≡ bitAt (words hi lo) i
-  bit-high i h =
-      let e : 64 + (63 - i) ≡ 127 - i = omega arith in
-      field-high 1 (63 - i) ∙ ap (λ (k : ℕ). words hi lo / 2 ^ k % 2) e
-
-  pub bit-low : (i : ℕ) → 64 ≤ i → i < 128 → lo / 2 ^ (127 - i) % 2 ≡ bitAt (words hi lo) i
-  bit-low i l h = field-low 1 (127 - i) (omega arith)
 
   pub next-words : words (bitXor (hi / 2) (lo % 2 * 0xe100_0000_0000_0000)) (hi % 2 * 0x8000_0000_0000_0000 + lo / 2) ≡ next (words hi lo)
   unfolding next

@@ -1,2 +1,7 @@
 pub mod ElementLaws
+pub mod FieldLaws
+pub mod StepLaws
+pub mod TableLaws
+pub mod DoubledLaws
+pub mod GatherLaws
 pub mod GhashLaws

@@ -1,3 +1,4 @@
 pub mod Field
 pub mod Ghash
+pub mod Table
 pub mod Words

@@ -1,14 +1,16 @@
 // GHASH of SP 800-38D. An element of GCM's field is a block of two words, the first bit of the block the highest of hi; bit i
 // is the coefficient of x^i.
 ghost use mathlib.Core.Path.{_≡_};
-ghost use Prim.Native.Nat.{_*_, _<_, _≤_};
+ghost use Prim.Native.Nat.{ℕ, _≤_};
 ghost use lib.Bits.{bitXor};
 ghost use lib.ListN.{length, drop};
 ghost use Rattle.octets.specs.Buffers.{put};
 ghost use Rattle.octets.specs.Numbers.{be, toBe};
-ghost use Rattle.ghash.specs.Field as field;
 ghost use Rattle.ghash.specs.Ghash.{blocks, ghashFrom};
+ghost use Rattle.ghash.specs.Table.{TableFor};
 ghost use Rattle.ghash.specs.Words.{blockOf};
+
+pub mod product;
 
 pub struct Element {
     pub hi: u64,
@@ -23,52 +25,6 @@ pub fn add(a: Element, b: Element) -> Element
         hi: a.hi ^ b.hi,
         lo: a.lo ^ b.lo,
     }
-}
-
-// The bit x_i.
-fn bit(x: Element, i: u64) -> u64
-    requires { ⌜ i < 128 ⌝ }
-    ensures { λ r. ⌜ r ≡ field.bitAt (blockOf x) i ⌝ }
-{
-    if i < 64 {
-        (x.hi >> (63 - i)) % 2
-    } else {
-        (x.lo >> (127 - i)) % 2
-    }
-}
-
-// v where b is 1, and zero where it is 0, without a branch on b.
-fn times_bit(b: u64, v: Element) -> Element
-    requires { ⌜ b < 2 ⌝ }
-    ensures { λ r. ⌜ blockOf r ≡ b * blockOf v ⌝ }
-{
-    Element {
-        hi: b * v.hi,
-        lo: b * v.lo,
-    }
-}
-
-// v >> 1, and ⊕ R where the last bit of v is 1.
-fn next(v: Element) -> Element
-    ensures { λ r. ⌜ blockOf r ≡ field.next (blockOf v) ⌝ }
-{
-    Element {
-        hi: (v.hi / 2) ^ (v.lo % 2 * 0xe100_0000_0000_0000),
-        lo: v.hi % 2 * 0x8000_0000_0000_0000 + v.lo / 2,
-    }
-}
-
-// x • y, bit by bit: Algorithm 1.
-pub fn mul(x: Element, y: Element) -> Element
-    ensures { λ r. ⌜ blockOf r ≡ field.mul (blockOf x) (blockOf y) ⌝ }
-{
-    let mut z = Element { hi: 0, lo: 0 };
-    let mut v = y;
-    for i in 0..128 {
-        z = add(z, times_bit(bit(x, i), v));
-        v = next(v);
-    }
-    z
 }
 
 // The block at a place, with zeros for what is past the end.
@@ -91,14 +47,22 @@ pub fn write_element(out: &mut [u8], x: Element)
     octets::write_u64_be(out, 8, x.lo);
 }
 
-// GHASH from y on over the bytes of s, the last block filled up with zeros.
-pub fn ghash(h: Element, y: Element, s: &[u8]) -> Element
-    ensures { λ r. ⌜ blockOf r ≡ ghashFrom (blockOf h) (blockOf y) (blocks (now (s .entry))) ⌝ }
+// GHASH from y on over the bytes of s, the last block filled up with zeros, with the table for the hash key.
+pub fn over(t: &[u64; 32], y: Element, s: &[u8]) -> Element
+    ensures { λ r. ⌜ ((h : ℕ) → TableFor (now (t .entry)) h → blockOf r ≡ ghashFrom h (blockOf y) (blocks (now (s .entry)))) ⌝ }
 {
     let n = (s.len() + 15) / 16;
     let mut z = y;
     for i in 0..n {
-        z = mul(add(z, block_at(s, 16 * i)), h);
+        z = product::mul(t, add(z, block_at(s, 16 * i)));
     }
     z
+}
+
+// The same under a hash key.
+pub fn ghash(h: Element, y: Element, s: &[u8]) -> Element
+    ensures { λ r. ⌜ blockOf r ≡ ghashFrom (blockOf h) (blockOf y) (blocks (now (s .entry))) ⌝ }
+{
+    let t = product::table_of(h);
+    over(&t, y, s)
 }

@@ -1,8 +1,8 @@
 use borrow.Author.Needs.{needs}
 use native.Mathlib.Omega.{arith}
 use Rattle.ghash.proofs.ElementLaws.{next-words}
-use Rattle.ghash.proofs.next.Statement.{statement}
-use Rattle.ghash.proofs.next.Tie as tie
+use Rattle.ghash.proofs.product.next.Statement.{statement}
+use Rattle.ghash.proofs.product.next.Tie as tie
 
 mul-t4 : tie.Need-mul-t4
 mul-t4 c = search needs
