@@ -8,6 +8,19 @@ use lib.Bits.{bitXor, xor-self, xor-shr}
 use Rattle.octets.proofs.XorLaws.{digit-lt, xor-parity, xor-medial, differ-mul}
 use Rattle.ghash.specs.Field.{bitAt, R, next, stepV, stepZ, mul}
 
+-- ---- what is linear, at zero and at a digit's multiple
+
+module _ (f : ℕ → ℕ) (linear : (v w : ℕ) → f (bitXor v w) ≡ bitXor (f v) (f w)) where
+  pub linear-zero : f 0 ≡ 0
+  linear-zero = linear 0 0 ∙ xor-self (f 0)
+
+  pub linear-digit : (b v : ℕ) → b < 2 → f (b * v) ≡ b * f v
+  linear-digit zero v h = ap f (zero-mul v) ∙ linear-zero ∙ sym (zero-mul (f v))
+  linear-digit (suc zero) v h = ap f (one-mul v) ∙ sym (one-mul (f v))
+  linear-digit (suc (suc b)) v h = absurd (omega arith)
+
+-- ---- V's step
+
 pub next-xor : (v w : ℕ) → next (bitXor v w) ≡ bitXor (next v) (next w)
 unfolding next
 next-xor v w =
@@ -15,13 +28,12 @@ next-xor v w =
     ∙ xor-medial (v / 2) (w / 2) (v % 2 * R) (w % 2 * R)
 
 pub next-zero : next 0 ≡ 0
-unfolding next
-next-zero = refl
+next-zero = linear-zero next next-xor
 
 pub next-digit : (b v : ℕ) → b < 2 → next (b * v) ≡ b * next v
-next-digit zero v h = ap next (zero-mul v) ∙ next-zero ∙ sym (zero-mul (next v))
-next-digit (suc zero) v h = ap next (one-mul v) ∙ sym (one-mul (next v))
-next-digit (suc (suc b)) v h = absurd (omega arith)
+next-digit = linear-digit next next-xor
+
+-- ---- the product, in its first factor
 
 pub bit-lt : (x i : ℕ) → bitAt x i < 2
 bit-lt x i = digit-lt (x / 2 ^ (127 - i))
@@ -41,4 +53,4 @@ unfolding mul
 mul-xor-left x y z = stepZ-xor x y z 128
 
 pub mul-zero-left : (y : ℕ) → mul 0 y ≡ 0
-mul-zero-left y = mul-xor-left 0 0 y ∙ xor-self (mul 0 y)
+mul-zero-left y = linear-zero (λ (x : ℕ). mul x y) (λ v w. mul-xor-left v w y)

@@ -1,0 +1,5 @@
+pub mod SwapLaws
+pub mod BlockLaws
+pub mod OneLaws
+pub mod GhashLaws
+pub mod Laws
