@@ -28,7 +28,7 @@ quickstart: library
 
 # The table of speeds and its plot, in target/bench. ARGS=--quick for a short run.
 bench:
-	tools/need cc=gcc cargo=cargo-web libcrypto.so=libssl-dev
+	tools/need cc=gcc cargo=cargo-web libcrypto.so=libssl-dev libnettle.so=nettle-dev
 	rt staticlib bench
 	$(CARGO) run --release $(HOST) -p bench -- $(ARGS)
 

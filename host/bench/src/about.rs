@@ -2,6 +2,7 @@
 
 use std::fs;
 
+use crate::nettle;
 use crate::numbers::grouped;
 
 /// As the table and the plot name it.
@@ -12,6 +13,8 @@ pub struct About {
     /// The processor instructions of each OpenSSL, in its notation.
     pub with: String,
     pub without: String,
+    /// nettle's version.
+    pub nettle: String,
     /// How many cases were compared.
     pub compared: usize,
     pub rounds: usize,
@@ -19,12 +22,12 @@ pub struct About {
 
 /// Whom ours is measured against.
 const AGAINST: &str = "\
-Against  OpenSSL alone for GCM bodies, chunks, AES, and GHASH as it has it: the tag of additional data, one AES block more
-         OpenSSL with plain Rust around it for whole datagrams: headers, addresses, subkey (BLAKE3), sessions and windows
+Against  OpenSSL and nettle alone for GCM bodies, chunks, AES, and GHASH as they have it: the tag of additional data, one AES block more
+         with plain Rust around them for whole datagrams: headers, addresses, subkey (BLAKE3), sessions and windows
          plain Rust for subkeys; the key of their context is computed before the calls";
 
 const RATIO: &str = "\
-Ratio    of speeds in the same round, median (quartiles): above 1 ours is the faster";
+Ratio    of speeds in the same round to the best other's, median (quartiles): above 1 ours is the faster";
 
 impl About {
     /// The lines above the table.
@@ -35,13 +38,19 @@ impl About {
             format!("OpenSSL  {}", self.openssl),
             format!("         with processor instructions:    {with}"),
             format!("         without processor instructions: {without}"),
+            format!(
+                "nettle   {}; without processor instructions: {}={}",
+                self.nettle,
+                nettle::CAPABILITIES,
+                nettle::NO_CAPABILITIES
+            ),
             AGAINST.to_string(),
             format!(
                 "Outputs  compared byte for byte in {} cases before all else: equal",
                 self.compared
             ),
             format!(
-                "Speed    MB/s ({} bytes), median of {} interleaved rounds (quartiles); \
+                "Speed    MB/s ({} bytes), median of {} interleaved rounds (quartiles of ours); \
                  warm buffers; keys are expanded and subkeys derived at each call",
                 grouped(1_000_000),
                 self.rounds

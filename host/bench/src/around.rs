@@ -1,10 +1,10 @@
-//! Datagrams as one would write them without the proved library: OpenSSL's ciphers
-//! with plain Rust around them.
+//! Datagrams as one would write them without the proved library: another library's
+//! ciphers with plain Rust around them.
 //!
 //! A call does the work of one of ours: it is given the key as bytes, expands it
 //! and derives the session's subkey. Refusals come in the same order.
 
-use crate::openssl::{AesBlock, AesGcm, TAG_LENGTH};
+use crate::ciphers::{Block, Ciphers, Gcm, TAG_LENGTH};
 use crate::plain::{Address, DeriveKey, Peer, Refusal, Sessions};
 
 /// The separate header in front of the body.
@@ -43,20 +43,20 @@ pub struct Header {
 }
 
 /// Clients' datagrams of the method with one key length.
-pub struct Datagrams {
-    block: AesBlock,
-    gcm: AesGcm,
+pub struct Datagrams<C: Ciphers> {
+    block: C::Block,
+    gcm: C::Gcm,
     subkeys: DeriveKey,
 }
 
-impl Datagrams {
+impl<C: Ciphers> Datagrams<C> {
     /// # Panics
     ///
     /// If no method has that key length.
     pub fn new(key_length: usize) -> Self {
         Self {
-            block: AesBlock::new(key_length),
-            gcm: AesGcm::new(key_length),
+            block: C::Block::new(key_length),
+            gcm: C::Gcm::new(key_length),
             subkeys: DeriveKey::new(SUBKEY_CONTEXT),
         }
     }
@@ -106,8 +106,8 @@ impl Datagrams {
         self.block.encrypt(key, front);
     }
 
-    /// Opens a datagram to the front of `out`. OpenSSL writes the text before it
-    /// looks at the tag, so `out` is written where the datagram is not authentic.
+    /// Opens a datagram to the front of `out`. The libraries write the text before
+    /// the tag is looked at, so `out` is written where the datagram is not authentic.
     pub fn open(
         &self,
         key: &[u8],
@@ -216,6 +216,9 @@ fn read_main(separate: Separate, clock: u64, plain: &[u8]) -> Result<Header, Ref
 #[cfg(test)]
 mod tests {
     use super::{Datagrams, Separate};
+    use crate::ciphers::Ciphers;
+    use crate::nettle::Nettle;
+    use crate::openssl::OpenSsl;
     use crate::plain::{Address, Peer, Refusal, Sessions};
 
     const KEY: [u8; 32] = [7; 32];
@@ -225,10 +228,9 @@ mod tests {
         packet: 5,
     };
 
-    #[test]
-    fn what_is_sealed_opens_once() {
+    fn what_is_sealed_opens_once<C: Ciphers>() {
         for key in [&KEY[..16], &KEY] {
-            let datagrams = Datagrams::new(key.len());
+            let datagrams = Datagrams::<C>::new(key.len());
             let mut sealed = [0; 64];
             let length = datagrams.seal(key, SEPARATE, 1_000, &ADDRESS, b"hello", &mut sealed);
             let sealed = &sealed[..length.expect("it is sealed")];
@@ -251,8 +253,14 @@ mod tests {
     }
 
     #[test]
+    fn what_a_library_sealed_opens_once() {
+        what_is_sealed_opens_once::<OpenSsl>();
+        what_is_sealed_opens_once::<Nettle>();
+    }
+
+    #[test]
     fn sealing_refuses_what_ours_refuses() {
-        let datagrams = Datagrams::new(16);
+        let datagrams = Datagrams::<OpenSsl>::new(16);
         let seal = |packet, address: &[u8], payload: &[u8], room: usize| {
             let separate = Separate { packet, ..SEPARATE };
             let mut out = vec![0; room];

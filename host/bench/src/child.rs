@@ -1,5 +1,6 @@
-//! A second process of this program, whose OpenSSL was loaded without processor
-//! instructions: that is decided when the library is loaded, once for a process.
+//! A second process of this program, whose OpenSSL and nettle were loaded without
+//! processor instructions: that is decided when a library is loaded, once for a
+//! process.
 //!
 //! A request is a line on the child's standard input: `capabilities`, or `output`
 //! or `time` with a row and a contestant. The answer on its standard output is a
@@ -11,6 +12,7 @@ use std::process::{self, ChildStdin, ChildStdout, Command, Stdio};
 use std::str::FromStr;
 
 use crate::measure::{Here, Pace, Runner};
+use crate::nettle;
 use crate::openssl;
 use crate::options;
 use crate::rows::Row;
@@ -31,6 +33,7 @@ impl<'a> Child<'a> {
             .arg(options::CHILD)
             .args(quick)
             .env(openssl::CAPABILITIES, openssl::NO_CAPABILITIES)
+            .env(nettle::CAPABILITIES, nettle::NO_CAPABILITIES)
             .stdin(Stdio::piped())
             .stdout(Stdio::piped())
             .spawn()?;

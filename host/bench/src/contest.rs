@@ -12,28 +12,39 @@ use crate::rows::{Library, Row};
 #[derive(Clone, Copy, Debug, PartialEq, Eq)]
 pub enum Column {
     Ours,
-    /// OpenSSL without processor instructions.
-    Without,
-    /// OpenSSL with processor instructions.
-    With,
+    /// Without processor instructions.
+    OpenSslWithout,
+    NettleWithout,
+    /// With processor instructions.
+    OpenSslWith,
+    NettleWith,
     Plain,
 }
 
 #[derive(Clone, Copy)]
 enum Process {
     Here,
-    /// The one whose OpenSSL uses no processor instructions.
+    /// The one whose libraries use no processor instructions.
     Child,
 }
 
 impl Column {
-    pub const ALL: [Column; 4] = [Column::Ours, Column::Without, Column::With, Column::Plain];
+    pub const ALL: [Column; 6] = [
+        Column::Ours,
+        Column::OpenSslWithout,
+        Column::NettleWithout,
+        Column::OpenSslWith,
+        Column::NettleWith,
+        Column::Plain,
+    ];
 
     pub fn title(self) -> &'static str {
         match self {
             Column::Ours => "ours",
-            Column::Without => "without instructions",
-            Column::With => "with instructions",
+            Column::OpenSslWithout => "OpenSSL without instructions",
+            Column::NettleWithout => "nettle without instructions",
+            Column::OpenSslWith => "OpenSSL with instructions",
+            Column::NettleWith => "nettle with instructions",
             Column::Plain => "plain Rust",
         }
     }
@@ -41,15 +52,16 @@ impl Column {
     fn library(self) -> Library {
         match self {
             Column::Ours => Library::Ours,
-            Column::Without | Column::With => Library::OpenSsl,
+            Column::OpenSslWithout | Column::OpenSslWith => Library::OpenSsl,
+            Column::NettleWithout | Column::NettleWith => Library::Nettle,
             Column::Plain => Library::Plain,
         }
     }
 
     fn process(self) -> Process {
         match self {
-            Column::Without => Process::Child,
-            Column::Ours | Column::With | Column::Plain => Process::Here,
+            Column::OpenSslWithout | Column::NettleWithout => Process::Child,
+            _ => Process::Here,
         }
     }
 }

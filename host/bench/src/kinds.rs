@@ -105,13 +105,4 @@ impl Section {
             Section::Subkeys => "Subkeys",
         }
     }
-
-    /// Whom ours is measured against.
-    pub fn opponent(self) -> &'static str {
-        match self {
-            Section::Datagrams | Section::Forgeries => "OpenSSL with plain Rust around it",
-            Section::Bodies | Section::Chunks | Section::Primitives => "OpenSSL",
-            Section::Subkeys => "plain Rust",
-        }
-    }
 }

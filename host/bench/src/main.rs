@@ -1,6 +1,6 @@
-//! Speed of the proved code beside OpenSSL's, with and without processor
-//! instructions, and for what OpenSSL has not beside plain Rust, in one table of
-//! one run and as a plot.
+//! Speed of the proved code beside OpenSSL's and nettle's, with and without
+//! processor instructions, and for what they have not beside plain Rust, in one
+//! table of one run and as a plot.
 //!
 //! All outputs are compared first; a difference ends the run with exit status 1.
 //! No speed does.
@@ -10,9 +10,12 @@
 mod about;
 mod around;
 mod child;
+mod ciphers;
 mod contest;
 mod kinds;
 mod measure;
+#[allow(unsafe_code)]
+mod nettle;
 mod numbers;
 #[allow(unsafe_code)]
 mod openssl;
@@ -61,12 +64,13 @@ fn perform(task: Task) -> Result<(), Box<dyn Error>> {
 }
 
 fn run(pace: Pace, out: &Path) -> Result<(), Box<dyn Error>> {
-    if env::var_os(openssl::CAPABILITIES).is_some() {
-        return Err(format!(
-            "{} is set: it would take instructions from the column that has them",
-            openssl::CAPABILITIES
-        )
-        .into());
+    for name in [openssl::CAPABILITIES, nettle::CAPABILITIES] {
+        if env::var_os(name).is_some() {
+            return Err(format!(
+                "{name} is set: it would take instructions from the column that has them"
+            )
+            .into());
+        }
     }
     let rows = rows::all();
     let mut contest = Contest::new(&rows, pace)?;
@@ -75,6 +79,7 @@ fn run(pace: Pace, out: &Path) -> Result<(), Box<dyn Error>> {
         openssl: openssl::version(),
         with: openssl::capabilities(),
         without: contest.child.capabilities()?,
+        nettle: nettle::version(),
         compared: contest.compare()?,
         rounds: pace.rounds,
     };

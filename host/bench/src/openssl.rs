@@ -6,11 +6,24 @@ mod gcm;
 
 pub use block::AesBlock;
 pub use ctr::AesCtr;
-pub use gcm::{AesGcm, TAG_LENGTH};
+pub use gcm::AesGcm;
 
 use std::ffi::CStr;
 use std::os::raw::{c_char, c_int, c_uchar, c_void};
 use std::ptr;
+
+use crate::ciphers::Ciphers;
+use crate::rows::Library;
+
+/// OpenSSL's ciphers.
+pub struct OpenSsl;
+
+impl Ciphers for OpenSsl {
+    const LIBRARY: Library = Library::OpenSsl;
+    type Block = AesBlock;
+    type Counter = AesCtr;
+    type Gcm = AesGcm;
+}
 
 /// The environment variable from which OpenSSL learns, when it is loaded, which
 /// processor instructions it may use.

@@ -24,7 +24,7 @@ pub enum Task {
         pace: Pace,
         out: PathBuf,
     },
-    /// To be the process whose OpenSSL has no processor instructions.
+    /// To be the process whose libraries have no processor instructions.
     Serve {
         pace: Pace,
     },

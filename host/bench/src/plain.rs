@@ -1,5 +1,5 @@
 //! What one would write in plain Rust around a library of ciphers: something to be
-//! measured against where OpenSSL has nothing.
+//! measured against where the libraries have nothing.
 
 mod address;
 mod blake3;

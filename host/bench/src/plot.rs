@@ -1,7 +1,7 @@
 //! The results as a picture: a panel for each method, sealing and opening, with
 //! speed over the datagram's length, and one for the parts alone.
 //!
-//! Speeds of OpenSSL with processor instructions are a hundred times the others, so
+//! Speeds with processor instructions are a hundred times the others, so
 //! all axes are logarithmic. All panels of datagrams have the same, to be compared.
 
 mod bars;
@@ -21,10 +21,21 @@ use style::{ASKED, DARK, GREY};
 use svg::{Font, Point, Svg};
 
 const WIDTH: f64 = 1_360.0;
-const HEIGHT: f64 = 800.0;
+const HEIGHT: f64 = 890.0;
 const MARGIN: f64 = 28.0;
 
-const TITLE: &str = "Bhajnolith beside OpenSSL: speed of Shadowsocks 2022 datagrams";
+const TITLE: &str = "Bhajnolith beside OpenSSL and nettle: speed of Shadowsocks 2022 datagrams";
+
+/// The legend's rows, and the widths of its places before the last.
+const LEGEND: [[Column; 3]; 2] = [
+    [Column::Ours, Column::OpenSslWithout, Column::NettleWithout],
+    [Column::Plain, Column::OpenSslWith, Column::NettleWith],
+];
+const CELLS: [f64; 3] = [170.0, 340.0, 330.0];
+
+/// Where the panels' names stand, and where the panels begin.
+const NAMES: f64 = 168.0;
+const PANELS: f64 = 184.0;
 
 /// The place of a panel, with its title and labels.
 #[derive(Clone, Copy)]
@@ -48,9 +59,10 @@ pub fn draw(about: &About, lines: &[Line]) -> String {
 fn head(svg: &mut Svg, about: &About) {
     svg.text((MARGIN, 38.0), TITLE, Font::new(22, DARK).bold());
     let run = format!(
-        "{}, {}, one thread. Median of {} interleaved rounds, whiskers from quartile to quartile.",
+        "{}, {}, {}, one thread. Median of {} interleaved rounds, whiskers from quartile to quartile.",
         about.cpu,
         about.openssl_number(),
+        about.nettle,
         about.rounds
     );
     svg.text((MARGIN, 62.0), &run, Font::new(13, GREY));
@@ -62,26 +74,32 @@ fn head(svg: &mut Svg, about: &About) {
     svg.text((MARGIN, 82.0), &scales, Font::new(13, GREY));
 }
 
-/// A sample of each column's line, in one row.
-fn legend(svg: &mut Svg, y: f64) {
-    let mut left = MARGIN;
-    for column in Column::ALL {
-        let style = style::of(column);
-        let (from, to) = ((left, y - 4.0), (left + 36.0, y - 4.0));
-        svg.line(from, to, style.stroke());
-        svg.marker(style.shape, (left + 18.0, y - 4.0), style.color);
-        svg.text((left + 44.0, y), style.label, Font::new(13, DARK));
-        left += 44.0 + svg::width(style.label, 13) + 26.0;
+/// A sample of each line, a place of the grid for each.
+fn legend(svg: &mut Svg, top: f64) {
+    let place = |row: usize, cell: usize| {
+        let left = MARGIN + CELLS[..cell].iter().sum::<f64>();
+        (left, top + 20.0 * row as f64)
+    };
+    for (row, columns) in LEGEND.iter().enumerate() {
+        for (cell, &column) in columns.iter().enumerate() {
+            let ((left, y), style) = (place(row, cell), style::of(column));
+            let (from, to) = ((left, y - 4.0), (left + 36.0, y - 4.0));
+            svg.line(from, to, style.stroke());
+            svg.marker(style.shape, (left + 18.0, y - 4.0), style.color);
+            svg.text((left + 44.0, y), style.label, Font::new(13, DARK));
+        }
     }
     let asked = format!("asked for: {} MB/s", rounded(worst::SPEED));
+    let (left, y) = place(0, CELLS.len());
     svg.line((left, y - 4.0), (left + 36.0, y - 4.0), ASKED);
     svg.text((left + 44.0, y), &asked, Font::new(13, DARK));
 }
 
 /// Four panels: a row for each method, sealing left and opening right.
 fn datagrams(svg: &mut Svg, lines: &[Line]) {
-    let note = "Whole datagrams. OpenSSL has plain Rust around it: headers, BLAKE3, sessions.";
-    svg.text((MARGIN, 150.0), note, Font::new(14, DARK).bold());
+    let note =
+        "Whole datagrams. The libraries have plain Rust around them: headers, BLAKE3, sessions.";
+    svg.text((MARGIN, NAMES), note, Font::new(14, DARK).bold());
     let of = |kind| lines.iter().filter(move |line| line.kind == kind);
     let kinds = METHODS.map(|method| [Call::Seal, Call::Open].map(|call| (method, call)));
     let shown = kinds.as_flattened().iter();
@@ -91,9 +109,9 @@ fn datagrams(svg: &mut Svg, lines: &[Line]) {
         for (place, &(method, call)) in calls.iter().enumerate() {
             let frame = Frame {
                 left: MARGIN + 476.0 * place as f64,
-                top: 166.0 + 312.0 * row as f64,
+                top: PANELS + 346.0 * row as f64,
                 width: 460.0,
-                height: 300.0,
+                height: 334.0,
             };
             let title = format!(
                 "{}, method {} (AES-{})",
@@ -111,12 +129,12 @@ fn datagrams(svg: &mut Svg, lines: &[Line]) {
 fn parts(svg: &mut Svg, lines: &[Line]) {
     let frame = Frame {
         left: 2.0 * 476.0 + MARGIN + 16.0,
-        top: 166.0,
+        top: PANELS,
         width: WIDTH - 2.0 * 476.0 - 2.0 * MARGIN - 16.0,
-        height: 612.0,
+        height: HEIGHT - PANELS - MARGIN + 6.0,
     };
     let note = "Ciphers and hashes alone, MB/s";
-    svg.text((frame.left, 150.0), note, Font::new(14, DARK).bold());
+    svg.text((frame.left, NAMES), note, Font::new(14, DARK).bold());
     let seal = |key_length| Kind::Gcm {
         key_length,
         call: Call::Seal,
@@ -210,8 +228,8 @@ mod tests {
     }
 
     #[test]
-    fn each_panel_has_a_line_for_each_of_three() {
-        assert_eq!(drawn().matches("<polyline").count(), 4 * 3);
+    fn each_panel_has_a_line_for_each_of_five() {
+        assert_eq!(drawn().matches("<polyline").count(), 4 * 5);
     }
 
     #[test]

@@ -65,6 +65,14 @@ impl Line {
         self.ratios[column as usize]
     }
 
+    /// The fastest of some columns, at the median speed.
+    pub fn best(&self, columns: impl IntoIterator<Item = Column>) -> Option<Column> {
+        let columns = columns.into_iter();
+        let medians = columns.filter_map(|column| Some((column, self.speed(column)?.median)));
+        let best = medians.max_by(|(_, a), (_, b)| a.total_cmp(b));
+        best.map(|(column, _)| column)
+    }
+
     /// Calls a second of ours, at the median speed.
     pub fn rate(&self) -> Option<f64> {
         let speed = self.speed(Column::Ours)?;
@@ -77,6 +85,7 @@ mod tests {
     use super::{Line, Summary};
     use crate::contest::Column;
     use crate::kinds::Kind;
+    use crate::samples::times_of;
 
     #[test]
     fn quartiles_are_samples() {
@@ -91,12 +100,16 @@ mod tests {
     #[test]
     fn speeds_and_rates_come_from_times() {
         // 1,000 bytes in 10 microseconds.
-        let times = [vec![1e4], vec![2e4], vec![5e3], vec![]];
+        let times = times_of([
+            (Column::Ours, vec![1e4]),
+            (Column::OpenSslWithout, vec![2e4]),
+            (Column::OpenSslWith, vec![5e3]),
+        ]);
         let line = Line::new(Kind::Ghash, 1_000, &times);
         let speed = |column| line.speed(column).map(|speed| speed.median);
         assert_eq!(speed(Column::Ours), Some(100.0));
-        assert_eq!(speed(Column::Without), Some(50.0));
-        assert_eq!(speed(Column::With), Some(200.0));
+        assert_eq!(speed(Column::OpenSslWithout), Some(50.0));
+        assert_eq!(speed(Column::OpenSslWith), Some(200.0));
         assert_eq!(speed(Column::Plain), None);
         assert_eq!(line.rate(), Some(1e5));
     }
@@ -104,10 +117,28 @@ mod tests {
     #[test]
     fn ratios_are_taken_round_by_round() {
         // Twice as fast in each round, while the machine's speed changes.
-        let times = [vec![1.0, 5.0, 2.0], vec![2.0, 10.0, 4.0], vec![], vec![]];
+        let times = times_of([
+            (Column::Ours, vec![1.0, 5.0, 2.0]),
+            (Column::OpenSslWithout, vec![2.0, 10.0, 4.0]),
+        ]);
         let line = Line::new(Kind::Ghash, 1, &times);
-        let ratio = line.ratio(Column::Without).expect("both have samples");
+        let ratio = line
+            .ratio(Column::OpenSslWithout)
+            .expect("both have samples");
         assert_eq!((ratio.lower, ratio.median, ratio.upper), (2.0, 2.0, 2.0));
-        assert_eq!(line.ratio(Column::With), None);
+        assert_eq!(line.ratio(Column::OpenSslWith), None);
+    }
+
+    #[test]
+    fn the_best_is_the_fastest_of_those_measured() {
+        let times = times_of([
+            (Column::Ours, vec![1.0]),
+            (Column::OpenSslWithout, vec![4.0]),
+            (Column::NettleWithout, vec![3.0]),
+        ]);
+        let line = Line::new(Kind::Ghash, 1, &times);
+        let without = [Column::OpenSslWithout, Column::NettleWithout];
+        assert_eq!(line.best(without), Some(Column::NettleWithout));
+        assert_eq!(line.best([Column::Plain]), None);
     }
 }

@@ -17,7 +17,9 @@ pub enum Library {
     Ours,
     /// With plain Rust around it where it does only a part of the work.
     OpenSsl,
-    /// This program's own, for what OpenSSL has not.
+    /// Likewise.
+    Nettle,
+    /// This program's own, for what the others have not.
     Plain,
 }
 

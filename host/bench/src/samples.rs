@@ -1,6 +1,7 @@
 //! Made-up results for the tests of the table and the plot.
 
 use crate::about::About;
+use crate::contest::{Column, Samples};
 use crate::kinds::{Call, Kind, METHODS};
 use crate::results::Line;
 
@@ -10,6 +11,7 @@ pub fn about() -> About {
         openssl: "OpenSSL 0.0.0 1 Jan 2000".to_string(),
         with: "OPENSSL_ia32cap=0xffffffffffffffff:0xffffffffffffffff".to_string(),
         without: "OPENSSL_ia32cap=0x400:0x0 env:0:0".to_string(),
+        nettle: "nettle 0.0".to_string(),
         compared: 100,
         rounds: 5,
     }
@@ -23,35 +25,51 @@ pub fn lines() -> Vec<Line> {
             let kind = Kind::Datagram(method, call);
             lines.extend([64, 512, 1_400, 9_000, 65_507].map(|size| {
                 let growth = (size as f64).sqrt();
-                line(kind, size, [30.0, 35.0, 20.0 * growth])
+                line(kind, size, [30.0, 35.0, 33.0, 20.0 * growth, 9.0 * growth])
             }));
             let key_length = method.key_length;
             let kind = Kind::Gcm { key_length, call };
-            lines.push(line(kind, 65_507, [30.0, 90.0, 12_345.0]));
+            lines.push(line(kind, 65_507, [30.0, 90.0, 110.0, 12_345.0, 2_345.0]));
         }
         lines.push(line(
             Kind::Chunk(method, Call::Seal),
             1_400,
-            [30.0, 60.0, 900.0],
+            [30.0, 60.0, 70.0, 900.0, 700.0],
         ));
     }
     for key_length in [16, 24, 32] {
         let kind = Kind::Counter { key_length };
-        lines.push(line(kind, 65_504, [200.0, 100.0, 6_000.0]));
+        lines.push(line(kind, 65_504, [200.0, 100.0, 150.0, 6_000.0, 3_000.0]));
     }
-    lines.push(line(Kind::Ghash, 65_504, [40.0, 400.0, 9_000.0]));
+    lines.push(line(
+        Kind::Ghash,
+        65_504,
+        [40.0, 400.0, 500.0, 9_000.0, 4_000.0],
+    ));
     lines.push(subkey());
     lines
 }
 
-fn line(kind: Kind, size: usize, speeds: [f64; 3]) -> Line {
-    let [ours, without, with] = speeds.map(|speed| times(size, speed));
-    Line::new(kind, size, &[ours, without, with, Vec::new()])
+/// The speeds are those of all columns but plain Rust, in their order.
+fn line(kind: Kind, size: usize, speeds: [f64; 5]) -> Line {
+    let columns = Column::ALL.into_iter();
+    let times = columns.zip(speeds.map(|speed| times(size, speed)));
+    Line::new(kind, size, &times_of(times))
 }
 
 fn subkey() -> Line {
-    let times = [times(64, 200.0), vec![], vec![], times(64, 150.0)];
+    let (ours, plain) = (times(64, 200.0), times(64, 150.0));
+    let times = times_of([(Column::Ours, ours), (Column::Plain, plain)]);
     Line::new(Kind::Subkey, 64, &times)
+}
+
+/// These columns' samples, and none of the others.
+pub fn times_of(columns: impl IntoIterator<Item = (Column, Vec<f64>)>) -> Samples {
+    let mut samples = Samples::default();
+    for (column, times) in columns {
+        samples[column as usize] = times;
+    }
+    samples
 }
 
 /// Nanoseconds of calls around a speed.

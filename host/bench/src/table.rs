@@ -8,13 +8,98 @@ use crate::results::{Line, Summary};
 use crate::worst;
 
 /// Widths of a row's name, its size, a speed with its quartiles, calls a second, a
-/// time, and a ratio with its quartiles.
+/// time, the speeds of a group of others, the name of the best of them, and a ratio
+/// with its quartiles.
 const NAME: usize = 18;
-const SIZE: usize = 8;
-const SPEED: usize = 23;
+const SIZE: usize = 7;
+const SPEED: usize = 21;
 const RATE: usize = 12;
-const TIME: usize = 9;
+const TIME: usize = 8;
+const OTHERS: usize = 20;
+const BEST: usize = 9;
 const RATIO: usize = 21;
+
+/// Others that ours is measured against, and the name of the ratio to their best.
+struct Group {
+    title: &'static str,
+    columns: &'static [(Column, &'static str)],
+    ratio: &'static str,
+    /// Whether the best is named beside its ratio.
+    named: bool,
+}
+
+const SOFTWARE: Group = Group {
+    title: "no instructions",
+    columns: &[
+        (Column::OpenSslWithout, "OpenSSL"),
+        (Column::NettleWithout, "nettle"),
+    ],
+    ratio: "ours / without",
+    named: true,
+};
+
+const INSTRUCTIONS: Group = Group {
+    title: "instructions",
+    columns: &[
+        (Column::OpenSslWith, "OpenSSL"),
+        (Column::NettleWith, "nettle"),
+    ],
+    ratio: "ours / with",
+    named: false,
+};
+
+const PLAIN: Group = Group {
+    title: "plain Rust",
+    columns: &[(Column::Plain, "MB/s")],
+    ratio: "ours / theirs",
+    named: false,
+};
+
+impl Group {
+    /// The width of one of its columns.
+    fn column(&self) -> usize {
+        OTHERS / self.columns.len()
+    }
+
+    fn ratio_width(&self) -> usize {
+        if self.named {
+            BEST + RATIO
+        } else {
+            RATIO
+        }
+    }
+
+    /// The speeds of a line.
+    fn speeds(&self, line: &Line) -> String {
+        let width = self.column();
+        let speeds = self.columns.iter().map(|(column, _)| {
+            let speed = or_dash(line.speed(*column), |speed| rounded(speed.median));
+            format!("{speed:>width$}")
+        });
+        speeds.collect()
+    }
+
+    /// The ratio of a line to the best.
+    fn ratio(&self, line: &Line) -> String {
+        let best = line.best(self.columns.iter().map(|(column, _)| *column));
+        let ratio = format!("{:>RATIO$}", cell(best.and_then(|best| line.ratio(best))));
+        if !self.named {
+            return ratio;
+        }
+        let name = self
+            .columns
+            .iter()
+            .find(|(column, _)| Some(*column) == best);
+        let name = or_dash(name, |(_, name)| name.to_string());
+        format!("{name:>BEST$}{ratio}")
+    }
+
+    fn ratio_head(&self) -> String {
+        let best = if self.named { "best" } else { "" };
+        let width = self.ratio_width() - RATIO;
+        format!("{best:>width$}{:>RATIO$}", "ratio")
+    }
+}
 
 /// All of it: what it was made on, the sections, and the worst case.
 pub fn text(about: &About, lines: &[Line]) -> String {
@@ -31,41 +116,42 @@ pub fn text(about: &About, lines: &[Line]) -> String {
     text.join("\n")
 }
 
-/// The columns that a section's rows are measured against, each with its head.
-fn opponents(section: Section) -> &'static [(Column, &'static str)] {
+fn groups(section: Section) -> &'static [Group] {
     match section {
-        Section::Subkeys => &[(Column::Plain, "")],
-        _ => &[
-            (Column::Without, "no instructions"),
-            (Column::With, "with instructions"),
-        ],
+        Section::Subkeys => &[PLAIN],
+        _ => &[SOFTWARE, INSTRUCTIONS],
     }
 }
 
 /// A line with the names of groups of columns, and one with those of the columns.
 fn heads(section: Section) -> [String; 2] {
-    let opponents = opponents(section);
     let rate = match section {
         Section::Datagrams | Section::Forgeries => "datagrams/s",
         _ => "calls/s",
     };
-    let mut groups = format!("{:width$}", section.title(), width = NAME + SIZE);
-    groups += &group(SPEED + RATE + TIME, "ours");
-    groups += &group(SPEED * opponents.len(), section.opponent());
-    groups += &group(RATIO * opponents.len(), "ours / theirs");
+    let mut titles = format!("{:width$}", section.title(), width = NAME + SIZE);
+    titles += &title(SPEED + RATE + TIME, "ours");
     let mut heads = format!("{:NAME$}{:>SIZE$}", "", "bytes");
     heads += &format!("{:>SPEED$}{rate:>RATE$}{:>TIME$}", "MB/s", "µs");
-    for (_, head) in opponents {
-        heads += &format!("{head:>SPEED$}");
+    for group in groups(section) {
+        titles += &title(OTHERS, group.title);
+        let width = group.column();
+        heads.extend(
+            group
+                .columns
+                .iter()
+                .map(|(_, head)| format!("{head:>width$}")),
+        );
     }
-    for (_, head) in opponents {
-        heads += &format!("{head:>RATIO$}");
+    for group in groups(section) {
+        titles += &title(group.ratio_width(), group.ratio);
+        heads += &group.ratio_head();
     }
-    [groups, heads].map(|line| line.trim_end().to_string())
+    [titles, heads].map(|line| line.trim_end().to_string())
 }
 
 /// A name over the columns that it holds for, with a gap before them.
-fn group(width: usize, name: &str) -> String {
+fn title(width: usize, name: &str) -> String {
     let name = format!(" {name} ");
     format!("  {name:─^width$}", width = width - 2)
 }
@@ -76,12 +162,9 @@ fn row(section: Section, line: &Line) -> String {
     let rate = line.rate();
     text += &format!("{:>RATE$}", or_dash(rate, |rate| grouped(rate as usize)));
     text += &format!("{:>TIME$}", or_dash(rate, |rate| rounded(1e6 / rate)));
-    for &(column, _) in opponents(section) {
-        text += &format!("{:>SPEED$}", cell(line.speed(column)));
-    }
-    for &(column, _) in opponents(section) {
-        text += &format!("{:>RATIO$}", cell(line.ratio(column)));
-    }
+    let groups = groups(section).iter();
+    text.extend(groups.clone().map(|group| group.speeds(line)));
+    text.extend(groups.map(|group| group.ratio(line)));
     text
 }
 
@@ -109,6 +192,7 @@ fn or_dash<T>(value: Option<T>, write: impl Fn(T) -> String) -> String {
 #[cfg(test)]
 mod tests {
     use super::{heads, row, text};
+    use crate::contest::Column;
     use crate::kinds::{Kind, Section};
     use crate::results::Line;
     use crate::samples;
@@ -122,23 +206,39 @@ mod tests {
 
     #[test]
     fn a_row_has_speeds_and_ratios() {
-        let times = [vec![1e4], vec![2e4], vec![1e3], vec![]];
+        let times = samples::times_of([
+            (Column::Ours, vec![1e4]),
+            (Column::OpenSslWithout, vec![4e4]),
+            (Column::NettleWithout, vec![2e4]),
+            (Column::OpenSslWith, vec![1e3]),
+        ]);
         let line = Line::new(Kind::Ghash, 1_000, &times);
         let row = row(Section::Primitives, &line);
         let words: Vec<&str> = row.split_whitespace().collect();
         let ours = ["GHASH", "1,000", "100", "(100–100)", "100,000", "10.0"];
-        let theirs = ["50.0", "(50.0–50.0)", "1,000", "(1,000–1,000)"];
-        let ratios = ["2.00", "(2.00–2.00)", "0.100", "(0.100–0.100)"];
+        let theirs = ["25.0", "50.0", "1,000", "-"];
+        let ratios = ["nettle", "2.00", "(2.00–2.00)", "0.100", "(0.100–0.100)"];
         assert_eq!(words, [&ours[..], &theirs, &ratios].concat());
     }
 
     #[test]
     fn heads_name_whom_ours_is_measured_against() {
         let [groups, columns] = heads(Section::Datagrams);
-        assert!(groups.contains("OpenSSL with plain Rust around it"));
+        assert!(groups.contains(" no instructions ") && groups.contains("─ instructions "));
         assert!(columns.contains("datagrams/s"));
+        assert_eq!(columns.matches("OpenSSL").count(), 2);
+        assert_eq!(columns.matches("nettle").count(), 2);
         let [groups, columns] = heads(Section::Subkeys);
-        assert!(!groups.contains("OpenSSL") && groups.contains("plain Rust"));
-        assert!(!columns.contains("instructions"));
+        assert!(groups.contains("plain Rust") && !groups.contains("instructions"));
+        assert!(!columns.contains("OpenSSL"));
+    }
+
+    #[test]
+    fn heads_are_as_wide_as_rows() {
+        for line in samples::lines() {
+            let section = line.kind.section();
+            let width = row(section, &line).chars().count();
+            assert_eq!(heads(section).map(|head| head.chars().count()), [width; 2]);
+        }
     }
 }

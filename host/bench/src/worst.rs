@@ -49,12 +49,14 @@ fn slowest(lines: &[Line]) -> Option<(Kind, f64, f64)> {
 #[cfg(test)]
 mod tests {
     use super::{statement, SIZE};
+    use crate::contest::Column;
     use crate::kinds::{Call, Kind, METHODS};
     use crate::results::Line;
+    use crate::samples::times_of;
 
     /// A line of ours with so many datagrams a second.
     fn line(call: Call, size: usize, rate: f64) -> Line {
-        let times = [vec![1e9 / rate], vec![], vec![], vec![]];
+        let times = times_of([(Column::Ours, vec![1e9 / rate])]);
         Line::new(Kind::Datagram(METHODS[0], call), size, &times)
     }
 

@@ -4,6 +4,7 @@ use std::os::raw::{c_int, c_void};
 use std::ptr;
 
 use super::{Context, Direction, EvpCipher, EvpCipherCtx};
+use crate::ciphers::{Gcm, TAG_LENGTH};
 
 extern "C" {
     fn EVP_aes_128_gcm() -> *const EvpCipher;
@@ -21,16 +22,10 @@ extern "C" {
 const EVP_CTRL_AEAD_GET_TAG: c_int = 0x10;
 const EVP_CTRL_AEAD_SET_TAG: c_int = 0x11;
 
-pub const TAG_LENGTH: usize = 16;
-
-/// AES-GCM with one key length and nonces of 12 bytes.
 pub struct AesGcm(Context<12>);
 
-impl AesGcm {
-    /// # Panics
-    ///
-    /// If the key length is not 16 or 32.
-    pub fn new(key_length: usize) -> Self {
+impl Gcm for AesGcm {
+    fn new(key_length: usize) -> Self {
         // SAFETY: the functions answer static descriptions, of ciphers with that key
         // length and IVs of 12 bytes unless others are asked for.
         unsafe {
@@ -43,27 +38,14 @@ impl AesGcm {
         }
     }
 
-    /// Seals `text` to `out`: ciphertext and tag. The key is expanded at each call.
-    ///
-    /// # Panics
-    ///
-    /// If the key has another length than the context, or `out` not that of text and
-    /// tag.
-    pub fn seal(&self, key: &[u8], nonce: &[u8; 12], text: &[u8], out: &mut [u8]) {
+    fn seal(&self, key: &[u8], nonce: &[u8; 12], text: &[u8], out: &mut [u8]) {
         let (ciphertext, tag) = out.split_last_chunk_mut().expect("out has a tag");
         self.message(Direction::Encrypt, key, nonce, text, ciphertext);
         assert!(self.finish(), "EVP_CipherFinal_ex failed");
         self.tag(EVP_CTRL_AEAD_GET_TAG, tag);
     }
 
-    /// Seals the text at the front of `body` where it stands; the last 16 bytes are
-    /// room for the tag. The key is expanded at each call.
-    ///
-    /// # Panics
-    ///
-    /// If the key has another length than the context, or `body` has no room for a
-    /// tag.
-    pub fn seal_in_place(&self, key: &[u8], nonce: &[u8; 12], body: &mut [u8]) {
+    fn seal_in_place(&self, key: &[u8], nonce: &[u8; 12], body: &mut [u8]) {
         let (text, tag) = body.split_last_chunk_mut().expect("body has a tag");
         self.0.start(Direction::Encrypt, key, nonce);
         let place = text.as_mut_ptr();
@@ -73,19 +55,7 @@ impl AesGcm {
         self.tag(EVP_CTRL_AEAD_GET_TAG, tag);
     }
 
-    /// Writes the tag of additional data without a text, which is known as GMAC.
-    /// The key is expanded at each call.
-    ///
-    /// # Panics
-    ///
-    /// If the key has another length than the context.
-    pub fn authenticate(
-        &self,
-        key: &[u8],
-        nonce: &[u8; 12],
-        data: &[u8],
-        tag: &mut [u8; TAG_LENGTH],
-    ) {
+    fn authenticate(&self, key: &[u8], nonce: &[u8; 12], data: &[u8], tag: &mut [u8; TAG_LENGTH]) {
         self.0.start(Direction::Encrypt, key, nonce);
         // SAFETY: without output, `data` is only read.
         unsafe { self.0.update(data.as_ptr(), ptr::null_mut(), data.len()) }
@@ -93,14 +63,7 @@ impl AesGcm {
         self.tag(EVP_CTRL_AEAD_GET_TAG, tag);
     }
 
-    /// Opens `sealed` to `out`, and answers whether the tag is right; `out` is
-    /// written in any case. The key is expanded at each call.
-    ///
-    /// # Panics
-    ///
-    /// If the key has another length than the context, or `sealed` not that of `out`
-    /// and tag.
-    pub fn open(&self, key: &[u8], nonce: &[u8; 12], sealed: &[u8], out: &mut [u8]) -> bool {
+    fn open(&self, key: &[u8], nonce: &[u8; 12], sealed: &[u8], out: &mut [u8]) -> bool {
         let (ciphertext, tag) = sealed.split_last_chunk().expect("sealed has a tag");
         self.message(Direction::Decrypt, key, nonce, ciphertext, out);
         // The command takes a mutable place, and only reads it.
@@ -108,7 +71,9 @@ impl AesGcm {
         self.tag(EVP_CTRL_AEAD_SET_TAG, &mut received);
         self.finish()
     }
+}
 
+impl AesGcm {
     /// A message up to its end, which needs the tag first where it is opened.
     fn message(
         &self,

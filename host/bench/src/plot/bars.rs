@@ -14,9 +14,9 @@ const RIGHT: f64 = 44.0;
 const BOTTOM: f64 = 26.0;
 
 /// The heights of a group's name, of a bar, and of the gap behind a group.
-const NAME: f64 = 20.0;
-const BAR: f64 = 17.0;
-const GAP: f64 = 12.0;
+const NAME: f64 = 19.0;
+const BAR: f64 = 14.0;
+const GAP: f64 = 9.0;
 
 /// A group for each line, from the top on.
 pub fn draw(svg: &mut Svg, frame: Frame, lines: &[&Line]) {
@@ -43,7 +43,7 @@ pub fn draw(svg: &mut Svg, frame: Frame, lines: &[&Line]) {
 fn group(svg: &mut Svg, scale: Scale, left: f64, top: f64, line: &Line) -> f64 {
     let mut name = format!("{}, {} bytes", line.kind.name(), grouped(line.size));
     if line.kind == Kind::Ghash {
-        name += " (OpenSSL: GMAC)";
+        name += " (the others: GMAC)";
     }
     svg.text((left + 6.0, top + 14.0), &name, Font::new(12, DARK));
     let mut top = top + NAME;
@@ -59,7 +59,7 @@ fn group(svg: &mut Svg, scale: Scale, left: f64, top: f64, line: &Line) -> f64 {
 fn bar(svg: &mut Svg, scale: Scale, left: f64, top: f64, column: Column, speed: Summary) {
     let style = style::of(column);
     let (end, middle) = (scale.place(speed.median), top + BAR / 2.0);
-    svg.rectangle((left, top + 3.0), end - left, BAR - 6.0, style.color);
+    svg.rectangle((left, top + 2.5), end - left, BAR - 5.0, style.color);
     let (from, to) = (scale.place(speed.lower), scale.place(speed.upper));
     whisker(svg, (from, middle), (to, middle));
     svg.marker(style.shape, (end, middle), style.color);

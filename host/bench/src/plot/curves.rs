@@ -38,7 +38,7 @@ pub fn draw(svg: &mut Svg, frame: Frame, title: &str, speeds: Domain, lines: &[&
     let asked = axes.speeds.place(worst::SPEED);
     svg.line((axes.left, asked), (axes.right, asked), ASKED);
     // Ours last, so that it lies above the others.
-    for column in [Column::With, Column::Without, Column::Ours] {
+    for column in Column::ALL.into_iter().rev() {
         axes.draw_curve(svg, column, lines);
     }
     axes.draw_ends(svg, lines);

@@ -41,33 +41,26 @@ impl Style {
 }
 
 pub fn of(column: Column) -> Style {
-    match column {
-        Column::Ours => Style {
-            label: "ours, proved",
-            color: "#0072b2",
-            dash: "",
-            shape: Shape::Circle,
-        },
-        Column::Without => Style {
-            label: "OpenSSL without processor instructions",
-            color: "#d55e00",
-            dash: "9 4",
-            shape: Shape::Square,
-        },
-        Column::With => Style {
-            label: "OpenSSL with processor instructions",
-            color: "#333333",
-            dash: "2 4",
-            shape: Shape::Triangle,
-        },
-        Column::Plain => Style {
-            label: "plain Rust",
-            color: "#cc79a7",
-            dash: "12 3 2 3",
-            shape: Shape::Diamond,
-        },
+    let (label, color, dash, shape) = match column {
+        Column::Ours => ("ours, proved", "#0072b2", "", Shape::Circle),
+        Column::OpenSslWithout => (OPENSSL_WITHOUT, "#d55e00", "9 4", Shape::Square),
+        Column::NettleWithout => (NETTLE_WITHOUT, "#009e73", "14 4 3 4", Shape::Wedge),
+        Column::OpenSslWith => (OPENSSL_WITH, "#333333", "2 4", Shape::Triangle),
+        Column::NettleWith => (NETTLE_WITH, "#cc79a7", "5 3", Shape::Diamond),
+        Column::Plain => ("plain Rust", "#e69f00", "12 3 2 3", Shape::Plus),
+    };
+    Style {
+        label,
+        color,
+        dash,
+        shape,
     }
 }
+
+const OPENSSL_WITHOUT: &str = "OpenSSL without processor instructions";
+const NETTLE_WITHOUT: &str = "nettle without processor instructions";
+const OPENSSL_WITH: &str = "OpenSSL with processor instructions";
+const NETTLE_WITH: &str = "nettle with processor instructions";
 
 pub fn verb(call: Call) -> &'static str {
     match call {

@@ -19,6 +19,9 @@ pub enum Shape {
     Square,
     Triangle,
     Diamond,
+    /// A triangle on its tip.
+    Wedge,
+    Plus,
 }
 
 #[derive(Clone, Copy)]
@@ -55,11 +58,6 @@ impl Font {
         let anchor = "end";
         Self { anchor, ..self }
     }
-}
-
-/// About the width of a text: fonts differ, and there is none to ask.
-pub fn width(text: &str, size: u32) -> f64 {
-    text.chars().count() as f64 * f64::from(size) * 0.53
 }
 
 /// A picture in the making.
@@ -109,6 +107,8 @@ impl Svg {
             Shape::Square => Some([(-r, -r), (r, -r), (r, r), (-r, r)].to_vec()),
             Shape::Triangle => Some([(0.0, -r), (r, r), (-r, r)].to_vec()),
             Shape::Diamond => Some([(0.0, -r), (r, 0.0), (0.0, r), (-r, 0.0)].to_vec()),
+            Shape::Wedge => Some([(0.0, r), (r, -r), (-r, -r)].to_vec()),
+            Shape::Plus => Some(plus(r, r / 2.5)),
         };
         let paint = format!(r##"fill="{color}" stroke="#ffffff" stroke-width="1""##);
         match corners(5.0) {
@@ -167,6 +167,18 @@ impl Stroke {
         }
         text
     }
+}
+
+/// Two bars across each other, so long and so thick to each side.
+fn plus(long: f64, thick: f64) -> Vec<Point> {
+    let arm = [(-thick, -long), (thick, -long), (thick, -thick)];
+    let mut corners = Vec::new();
+    let mut turned = arm;
+    for _ in 0..4 {
+        corners.extend(turned);
+        turned = turned.map(|(x, y)| (-y, x));
+    }
+    corners
 }
 
 fn list(points: &[Point]) -> String {

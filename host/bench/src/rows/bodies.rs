@@ -3,8 +3,10 @@
 use std::cell::RefCell;
 
 use super::{forged, text, Contestant, Library, Row, KEY, NONCE};
+use crate::ciphers::{Ciphers, Gcm, TAG_LENGTH};
 use crate::kinds::{Call, Kind, METHODS};
-use crate::openssl::{AesGcm, TAG_LENGTH};
+use crate::nettle::Nettle;
+use crate::openssl::{AesGcm, OpenSsl};
 use crate::ours;
 
 /// A short datagram's body, one that fits an Ethernet frame, one that fits a jumbo
@@ -25,7 +27,6 @@ pub fn rows() -> Vec<Row> {
 
 fn seal(key_length: usize, size: usize) -> Row {
     let key = &KEY[..key_length];
-    let context = AesGcm::new(key_length);
     let call = Call::Seal;
     Row {
         kind: Kind::Gcm { key_length, call },
@@ -37,21 +38,26 @@ fn seal(key_length: usize, size: usize) -> Row {
             Contestant::new(Library::Ours, move |text, out| {
                 ours::gcm_seal(key, &NONCE, text, out);
             }),
-            Contestant::new(Library::OpenSsl, move |text, out| {
-                context.seal(key, &NONCE, text, out);
-            }),
+            seal_with::<OpenSsl>(key),
+            seal_with::<Nettle>(key),
         ],
     }
 }
 
+fn seal_with<C: Ciphers>(key: &'static [u8]) -> Contestant {
+    let context = C::Gcm::new(key.len());
+    Contestant::new(C::LIBRARY, move |text, out| {
+        context.seal(key, &NONCE, text, out);
+    })
+}
+
 fn open(key_length: usize, size: usize) -> Row {
     let key = &KEY[..key_length];
-    let context = AesGcm::new(key_length);
     let call = Call::Open;
     Row {
         kind: Kind::Gcm { key_length, call },
         size,
-        input: sealed(&context, key, size),
+        input: sealed(key, size),
         buffer: size,
         special: None,
         contestants: vec![
@@ -59,25 +65,28 @@ fn open(key_length: usize, size: usize) -> Row {
                 let opened = ours::gcm_open(key, &NONCE, sealed, out);
                 assert!(opened, "sealed text refused");
             }),
-            Contestant::new(Library::OpenSsl, move |sealed, out| {
-                let opened = context.open(key, &NONCE, sealed, out);
-                assert!(opened, "sealed text refused");
-            }),
+            open_with::<OpenSsl>(key),
+            open_with::<Nettle>(key),
         ],
     }
+}
+
+fn open_with<C: Ciphers>(key: &'static [u8]) -> Contestant {
+    let context = C::Gcm::new(key.len());
+    Contestant::new(C::LIBRARY, move |sealed, out| {
+        let opened = context.open(key, &NONCE, sealed, out);
+        assert!(opened, "sealed text refused");
+    })
 }
 
 /// The tag is wrong in its last bit: all refuse it, and the buffer stays as it was.
 fn refuse(key_length: usize, size: usize) -> Row {
     let key = &KEY[..key_length];
-    let context = AesGcm::new(key_length);
     let call = Call::Refuse;
-    // For OpenSSL, which writes the text before it looks at the tag.
-    let scratch = RefCell::new(vec![0; size]);
     Row {
         kind: Kind::Gcm { key_length, call },
         size,
-        input: forged(sealed(&context, key, size)),
+        input: forged(sealed(key, size)),
         buffer: size,
         special: None,
         contestants: vec![
@@ -85,16 +94,25 @@ fn refuse(key_length: usize, size: usize) -> Row {
                 let opened = ours::gcm_open(key, &NONCE, forged, out);
                 assert!(!opened, "forged text taken");
             }),
-            Contestant::new(Library::OpenSsl, move |forged, _| {
-                let out = &mut scratch.borrow_mut();
-                let opened = context.open(key, &NONCE, forged, out);
-                assert!(!opened, "forged text taken");
-            }),
+            refuse_with::<OpenSsl>(key, size),
+            refuse_with::<Nettle>(key, size),
         ],
     }
 }
 
-fn sealed(context: &AesGcm, key: &[u8], size: usize) -> Vec<u8> {
+fn refuse_with<C: Ciphers>(key: &'static [u8], size: usize) -> Contestant {
+    let context = C::Gcm::new(key.len());
+    // The libraries write the text before the tag is looked at.
+    let scratch = RefCell::new(vec![0; size]);
+    Contestant::new(C::LIBRARY, move |forged, _| {
+        let out = &mut scratch.borrow_mut();
+        let opened = context.open(key, &NONCE, forged, out);
+        assert!(!opened, "forged text taken");
+    })
+}
+
+fn sealed(key: &[u8], size: usize) -> Vec<u8> {
+    let context = AesGcm::new(key.len());
     let mut sealed = vec![0; size + TAG_LENGTH];
     context.seal(key, &NONCE, &text(size), &mut sealed);
     sealed

@@ -5,8 +5,10 @@ use std::hint::black_box;
 
 use super::{forged, text, Contestant, Library, Row, KEY};
 use crate::around::{Datagrams, Separate, FIXED_LENGTH, SEPARATE_LENGTH};
+use crate::ciphers::{Ciphers, TAG_LENGTH};
 use crate::kinds::{Call, Kind, Method, METHODS};
-use crate::openssl::TAG_LENGTH;
+use crate::nettle::Nettle;
+use crate::openssl::OpenSsl;
 use crate::ours;
 use crate::plain::{Peer, Refusal, Sessions};
 
@@ -42,7 +44,6 @@ pub fn rows() -> Vec<Row> {
 /// The input is the payload.
 fn seal(method: Method, size: usize) -> Row {
     let key = &KEY[..method.key_length];
-    let datagrams = Datagrams::new(method.key_length);
     Row {
         kind: Kind::Datagram(method, Call::Seal),
         size,
@@ -54,20 +55,24 @@ fn seal(method: Method, size: usize) -> Row {
                 let session = FIRST.session;
                 ours::datagram_seal(method.number, key, session, CLOCK, &ADDRESS, payload, out);
             }),
-            Contestant::new(Library::OpenSsl, move |payload, out| {
-                let length = datagrams.seal(key, FIRST, CLOCK, &ADDRESS, payload, out);
-                assert_eq!(length, Ok(out.len()), "datagram not sealed");
-            }),
+            seal_with::<OpenSsl>(key),
+            seal_with::<Nettle>(key),
         ],
     }
+}
+
+fn seal_with<C: Ciphers>(key: &'static [u8]) -> Contestant {
+    let datagrams = Datagrams::<C>::new(key.len());
+    Contestant::new(C::LIBRARY, move |payload, out| {
+        let length = datagrams.seal(key, FIRST, CLOCK, &ADDRESS, payload, out);
+        assert_eq!(length, Ok(out.len()), "datagram not sealed");
+    })
 }
 
 /// Opened as the first one of its session, which is forgotten before each call.
 fn open(method: Method, size: usize) -> Row {
     let key = &KEY[..method.key_length];
     let table = RefCell::new(new_table());
-    let sessions = RefCell::new(new_sessions());
-    let datagrams = Datagrams::new(method.key_length);
     Row {
         kind: Kind::Datagram(method, Call::Open),
         size,
@@ -82,26 +87,29 @@ fn open(method: Method, size: usize) -> Row {
                 let refused = ours::datagram_open(method.number, key, CLOCK, datagram, table, out);
                 assert_eq!(refused, 0, "sealed datagram refused");
             }),
-            Contestant::new(Library::OpenSsl, move |datagram, out| {
-                let sessions = &mut sessions.borrow_mut();
-                sessions.forget_first();
-                let peer = Peer::default();
-                let header = datagrams.open(key, CLOCK, peer, datagram, sessions, out);
-                // Its reader would use all of it.
-                black_box(header.expect("a sealed datagram is opened"));
-            }),
+            open_with::<OpenSsl>(key),
+            open_with::<Nettle>(key),
         ],
     }
+}
+
+fn open_with<C: Ciphers>(key: &'static [u8]) -> Contestant {
+    let datagrams = Datagrams::<C>::new(key.len());
+    let sessions = RefCell::new(new_sessions());
+    Contestant::new(C::LIBRARY, move |datagram, out| {
+        let sessions = &mut sessions.borrow_mut();
+        sessions.forget_first();
+        let peer = Peer::default();
+        let header = datagrams.open(key, CLOCK, peer, datagram, sessions, out);
+        // Its reader would use all of it.
+        black_box(header.expect("a sealed datagram is opened"));
+    })
 }
 
 /// The tag is wrong in its last bit: all refuse it, and the buffer stays as it was.
 fn refuse(method: Method, size: usize) -> Row {
     let key = &KEY[..method.key_length];
     let table = RefCell::new(new_table());
-    let sessions = RefCell::new(new_sessions());
-    let datagrams = Datagrams::new(method.key_length);
-    // For OpenSSL, which writes the text before it looks at the tag.
-    let scratch = RefCell::new(vec![0; size]);
     Row {
         kind: Kind::Datagram(method, Call::Refuse),
         size,
@@ -115,19 +123,28 @@ fn refuse(method: Method, size: usize) -> Row {
                 let expected = Refusal::NotAuthentic as u64;
                 assert_eq!(refused, expected, "forged datagram taken");
             }),
-            Contestant::new(Library::OpenSsl, move |datagram, _| {
-                let (sessions, out) = (&mut sessions.borrow_mut(), &mut scratch.borrow_mut());
-                let peer = Peer::default();
-                let header = datagrams.open(key, CLOCK, peer, datagram, sessions, out);
-                let refusal = header.err();
-                assert_eq!(
-                    refusal,
-                    Some(Refusal::NotAuthentic),
-                    "forged datagram taken"
-                );
-            }),
+            refuse_with::<OpenSsl>(key, size),
+            refuse_with::<Nettle>(key, size),
         ],
     }
+}
+
+fn refuse_with<C: Ciphers>(key: &'static [u8], size: usize) -> Contestant {
+    let datagrams = Datagrams::<C>::new(key.len());
+    let sessions = RefCell::new(new_sessions());
+    // The libraries write the text before the tag is looked at.
+    let scratch = RefCell::new(vec![0; size]);
+    Contestant::new(C::LIBRARY, move |datagram, _| {
+        let (sessions, out) = (&mut sessions.borrow_mut(), &mut scratch.borrow_mut());
+        let peer = Peer::default();
+        let header = datagrams.open(key, CLOCK, peer, datagram, sessions, out);
+        let refusal = header.err();
+        assert_eq!(
+            refusal,
+            Some(Refusal::NotAuthentic),
+            "forged datagram taken"
+        );
+    })
 }
 
 /// What a datagram of a size has room for.

@@ -1,11 +1,13 @@
 //! Datagrams in an order and with headers that a relay refuses: whether the plain
-//! Rust around OpenSSL does all of the work that ours does.
+//! Rust around the other libraries does all of the work that ours does.
 
 use super::datagrams::{new_sessions, new_table, ADDRESS, CLOCK};
 use super::{Contestant, Library, Row, KEY};
 use crate::around::{Datagrams, Separate, FIXED_LENGTH, SEPARATE_LENGTH};
+use crate::ciphers::{Ciphers, TAG_LENGTH};
 use crate::kinds::{Call, Kind, Method, METHODS};
-use crate::openssl::TAG_LENGTH;
+use crate::nettle::Nettle;
+use crate::openssl::OpenSsl;
 use crate::ours;
 use crate::plain::Peer;
 
@@ -44,7 +46,7 @@ impl Coming {
         }
     }
 
-    fn sealed(self, datagrams: &Datagrams, key: &[u8]) -> [u8; SIZE] {
+    fn sealed(self, datagrams: &Datagrams<OpenSsl>, key: &[u8]) -> [u8; SIZE] {
         let mut datagram = [0; SIZE];
         let text = &mut datagram[SEPARATE_LENGTH..];
         text[0] = self.kind;
@@ -91,8 +93,8 @@ fn row(method: Method) -> Row {
     let key = &KEY[..method.key_length];
     let datagrams = Datagrams::new(method.key_length);
     let list = coming();
-    let clocks: Vec<u64> = list.iter().map(|coming| coming.clock).collect();
-    let same_clocks = clocks.clone();
+    let clocks = || -> Vec<u64> { list.iter().map(|coming| coming.clock).collect() };
+    let our_clocks = clocks();
     let sealed = list
         .iter()
         .flat_map(|coming| coming.sealed(&datagrams, key));
@@ -105,20 +107,26 @@ fn row(method: Method) -> Row {
         contestants: vec![
             Contestant::new(Library::Ours, move |input, answers| {
                 let mut table = new_table();
-                each(input, &clocks, answers, |clock, datagram, out| {
+                each(input, &our_clocks, answers, |clock, datagram, out| {
                     ours::datagram_open(method.number, key, clock, datagram, &mut table, out)
                 });
             }),
-            Contestant::new(Library::OpenSsl, move |input, answers| {
-                let mut sessions = new_sessions();
-                each(input, &same_clocks, answers, |clock, datagram, out| {
-                    let peer = Peer::default();
-                    let header = datagrams.open(key, clock, peer, datagram, &mut sessions, out);
-                    header.map_or_else(|refusal| refusal as u64, |_| 0)
-                });
-            }),
+            open_with::<OpenSsl>(key, clocks()),
+            open_with::<Nettle>(key, clocks()),
         ],
     }
+}
+
+fn open_with<C: Ciphers>(key: &'static [u8], clocks: Vec<u64>) -> Contestant {
+    let datagrams = Datagrams::<C>::new(key.len());
+    Contestant::new(C::LIBRARY, move |input, answers| {
+        let mut sessions = new_sessions();
+        each(input, &clocks, answers, |clock, datagram, out| {
+            let peer = Peer::default();
+            let header = datagrams.open(key, clock, peer, datagram, &mut sessions, out);
+            header.map_or_else(|refusal| refusal as u64, |_| 0)
+        });
+    })
 }
 
 /// Opens one datagram after the other, and notes the answers.

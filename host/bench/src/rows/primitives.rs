@@ -2,8 +2,10 @@
 
 use super::{text, Contestant, Library, Row, KEY, NONCE};
 use crate::around::SUBKEY_CONTEXT;
+use crate::ciphers::{Block, Ciphers, Counter, Gcm, TAG_LENGTH};
 use crate::kinds::Kind;
-use crate::openssl::{AesBlock, AesCtr, AesGcm, TAG_LENGTH};
+use crate::nettle::Nettle;
+use crate::openssl::{AesBlock, OpenSsl};
 use crate::ours;
 use crate::plain::DeriveKey;
 
@@ -18,7 +20,7 @@ pub const WHOLE_BLOCKS: usize = 65_504;
 /// The same in whole blocks.
 const HASHED: [usize; 3] = [64, 1_392, WHOLE_BLOCKS];
 
-/// The key length with which OpenSSL is asked for GHASH.
+/// The key length with which the other libraries are asked for GHASH.
 const GMAC_KEY: usize = 16;
 
 /// The counter of GCM's first block of text.
@@ -52,7 +54,6 @@ pub fn rows() -> Vec<Row> {
 
 fn aes_ctr(key_length: usize, size: usize, counter: u32) -> Row {
     let key = &KEY[..key_length];
-    let context = AesCtr::new(key_length);
     Row {
         kind: Kind::Counter { key_length },
         size,
@@ -63,19 +64,24 @@ fn aes_ctr(key_length: usize, size: usize, counter: u32) -> Row {
             Contestant::new(Library::Ours, move |_, data| {
                 ours::aes_ctr(key, &NONCE, counter, data);
             }),
-            Contestant::new(Library::OpenSsl, move |_, data| {
-                context.apply(key, &NONCE, counter, data);
-            }),
+            aes_ctr_with::<OpenSsl>(key, counter),
+            aes_ctr_with::<Nettle>(key, counter),
         ],
     }
 }
 
-/// OpenSSL has no function for GHASH alone. Nearest is the tag of additional data
+fn aes_ctr_with<C: Ciphers>(key: &'static [u8], counter: u32) -> Contestant {
+    let context = C::Counter::new(key.len());
+    Contestant::new(C::LIBRARY, move |_, data| {
+        context.apply(key, &NONCE, counter, data);
+    })
+}
+
+/// The others have no function for GHASH alone. Nearest is the tag of additional data
 /// without a text: the data's GHASH with a block of lengths behind it, added to an
 /// AES block, which ours is given.
 fn ghash(size: usize) -> Row {
     let key = &KEY[..GMAC_KEY];
-    let context = AesGcm::new(GMAC_KEY);
     let (hash_subkey, mask) = tag_blocks(key);
     let data = size - 16;
     let mut input = text(size);
@@ -93,12 +99,18 @@ fn ghash(size: usize) -> Row {
                     *byte ^= mask;
                 }
             }),
-            Contestant::new(Library::OpenSsl, move |text, out| {
-                let tag = out.first_chunk_mut().expect("out has room for a tag");
-                context.authenticate(key, &NONCE, &text[..data], tag);
-            }),
+            ghash_with::<OpenSsl>(key, data),
+            ghash_with::<Nettle>(key, data),
         ],
     }
+}
+
+fn ghash_with<C: Ciphers>(key: &'static [u8], data: usize) -> Contestant {
+    let context = C::Gcm::new(key.len());
+    Contestant::new(C::LIBRARY, move |text, out| {
+        let tag = out.first_chunk_mut().expect("out has room for a tag");
+        context.authenticate(key, &NONCE, &text[..data], tag);
+    })
 }
 
 /// GCM's hash subkey, and the block that is added to a tag's hash.

@@ -1,8 +1,10 @@
 //! Chunks of a stream.
 
 use super::{text, Contestant, Library, Row, KEY};
+use crate::ciphers::{Ciphers, Gcm, TAG_LENGTH};
 use crate::kinds::{Call, Kind, Method, METHODS};
-use crate::openssl::{AesGcm, TAG_LENGTH};
+use crate::nettle::Nettle;
+use crate::openssl::{AesGcm, OpenSsl};
 use crate::ours;
 
 /// The payloads: one that fits an Ethernet frame, and the longest.
@@ -24,7 +26,6 @@ pub fn rows() -> Vec<Row> {
 /// count from 0.
 fn seal(method: Method, length: u16) -> Row {
     let key = &KEY[..method.key_length];
-    let context = AesGcm::new(method.key_length);
     let size = usize::from(length);
     Row {
         kind: Kind::Chunk(method, Call::Seal),
@@ -36,13 +37,19 @@ fn seal(method: Method, length: u16) -> Row {
             Contestant::new(Library::Ours, move |payload, out| {
                 ours::chunk_seal(method.number, key, payload, out);
             }),
-            Contestant::new(Library::OpenSsl, move |payload, out| {
-                let (front, rest) = out.split_at_mut(SEALED_LENGTH);
-                context.seal(key, &nonce(0), &length.to_be_bytes(), front);
-                context.seal(key, &nonce(1), payload, rest);
-            }),
+            seal_with::<OpenSsl>(key, length),
+            seal_with::<Nettle>(key, length),
         ],
     }
+}
+
+fn seal_with<C: Ciphers>(key: &'static [u8], length: u16) -> Contestant {
+    let context = C::Gcm::new(key.len());
+    Contestant::new(C::LIBRARY, move |payload, out| {
+        let (front, rest) = out.split_at_mut(SEALED_LENGTH);
+        context.seal(key, &nonce(0), &length.to_be_bytes(), front);
+        context.seal(key, &nonce(1), payload, rest);
+    })
 }
 
 /// The payload of a stream's first chunk is opened.
@@ -63,12 +70,18 @@ fn open(method: Method, length: u16) -> Row {
                 let refused = ours::chunk_open(method.number, key, length, sealed, out);
                 assert_eq!(refused, 0, "sealed chunk refused");
             }),
-            Contestant::new(Library::OpenSsl, move |sealed, out| {
-                let opened = context.open(key, &nonce(1), sealed, out);
-                assert!(opened, "sealed chunk refused");
-            }),
+            open_with::<OpenSsl>(key),
+            open_with::<Nettle>(key),
         ],
     }
+}
+
+fn open_with<C: Ciphers>(key: &'static [u8]) -> Contestant {
+    let context = C::Gcm::new(key.len());
+    Contestant::new(C::LIBRARY, move |sealed, out| {
+        let opened = context.open(key, &nonce(1), sealed, out);
+        assert!(opened, "sealed chunk refused");
+    })
 }
 
 /// The counter in 12 bytes, little-endian.

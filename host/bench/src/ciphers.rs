@@ -1,0 +1,191 @@
+//! What the contestants ask of a library of ciphers, whichever it is.
+//!
+//! The key is given as bytes and expanded at each call, as ours does it.
+
+use crate::rows::Library;
+
+pub const TAG_LENGTH: usize = 16;
+
+pub trait Ciphers: 'static {
+    const LIBRARY: Library;
+    type Block: Block;
+    type Counter: Counter;
+    type Gcm: Gcm;
+}
+
+/// AES on single blocks with one key length.
+pub trait Block {
+    /// # Panics
+    ///
+    /// If the key length is not 16 or 32.
+    fn new(key_length: usize) -> Self;
+
+    /// Encrypts the block in place.
+    ///
+    /// # Panics
+    ///
+    /// If the key has another length than the context.
+    fn encrypt(&self, key: &[u8], block: &mut [u8; 16]);
+
+    /// Decrypts the block in place.
+    ///
+    /// # Panics
+    ///
+    /// If the key has another length than the context.
+    fn decrypt(&self, key: &[u8], block: &mut [u8; 16]);
+}
+
+/// AES in counter mode with one key length.
+pub trait Counter {
+    /// # Panics
+    ///
+    /// If the key length is not 16, 24 or 32.
+    fn new(key_length: usize) -> Self;
+
+    /// Encrypts `data` in place, counting in all 16 bytes from `iv` on.
+    ///
+    /// # Panics
+    ///
+    /// If the key has another length than the context.
+    fn message(&self, key: &[u8], iv: [u8; 16], data: &mut [u8]);
+
+    /// Encrypts `data` in place from `counter` on, a 32-bit counter that wraps.
+    ///
+    /// # Panics
+    ///
+    /// If the key has another length than the context.
+    fn apply(&self, key: &[u8], nonce: &[u8; 12], counter: u32, data: &mut [u8]) {
+        // The libraries would carry into the nonce, so what lies beyond the wrap is
+        // a second message whose counter starts at 0.
+        let before_wrap = ((1 << 32) - u64::from(counter)) * 16;
+        let before_wrap = usize::try_from(before_wrap).map_or(data.len(), |n| n.min(data.len()));
+        let (head, tail) = data.split_at_mut(before_wrap);
+        self.message(key, first_block(nonce, counter), head);
+        if !tail.is_empty() {
+            self.message(key, first_block(nonce, 0), tail);
+        }
+    }
+}
+
+fn first_block(nonce: &[u8; 12], counter: u32) -> [u8; 16] {
+    let mut iv = [0; 16];
+    iv[..12].copy_from_slice(nonce);
+    iv[12..].copy_from_slice(&counter.to_be_bytes());
+    iv
+}
+
+/// AES-GCM with one key length and nonces of 12 bytes.
+pub trait Gcm {
+    /// # Panics
+    ///
+    /// If the key length is not 16 or 32.
+    fn new(key_length: usize) -> Self;
+
+    /// Seals `text` to `out`: ciphertext and tag.
+    ///
+    /// # Panics
+    ///
+    /// If the key has another length than the context, or `out` not that of text and
+    /// tag.
+    fn seal(&self, key: &[u8], nonce: &[u8; 12], text: &[u8], out: &mut [u8]);
+
+    /// Seals the text at the front of `body` where it stands; the last 16 bytes are
+    /// room for the tag.
+    ///
+    /// # Panics
+    ///
+    /// If the key has another length than the context, or `body` has no room for a
+    /// tag.
+    fn seal_in_place(&self, key: &[u8], nonce: &[u8; 12], body: &mut [u8]);
+
+    /// Writes the tag of additional data without a text, which is known as GMAC.
+    ///
+    /// # Panics
+    ///
+    /// If the key has another length than the context.
+    fn authenticate(&self, key: &[u8], nonce: &[u8; 12], data: &[u8], tag: &mut [u8; TAG_LENGTH]);
+
+    /// Opens `sealed` to `out`, and answers whether the tag is right; `out` is
+    /// written in any case.
+    ///
+    /// # Panics
+    ///
+    /// If the key has another length than the context, or `sealed` not that of `out`
+    /// and tag.
+    fn open(&self, key: &[u8], nonce: &[u8; 12], sealed: &[u8], out: &mut [u8]) -> bool;
+}
+
+#[cfg(test)]
+mod tests {
+    use super::{Block, Ciphers, Counter, Gcm};
+    use crate::nettle::Nettle;
+    use crate::openssl::OpenSsl;
+
+    /// The examples of FIPS 197, appendix C: the key counts up from 0, the text is
+    /// 00 11 22 and so on.
+    fn examples_of_fips_197<C: Ciphers>() {
+        let key: [u8; 32] = std::array::from_fn(|i| i as u8);
+        let text: [u8; 16] = std::array::from_fn(|i| 0x11 * i as u8);
+        for (length, expected) in [
+            (16, 0x69c4_e0d8_6a7b_0430_d8cd_b780_70b4_c55a_u128),
+            (32, 0x8ea2_b7ca_5167_45bf_eafc_4990_4b49_6089),
+        ] {
+            let cipher = C::Block::new(length);
+            let mut block = text;
+            cipher.encrypt(&key[..length], &mut block);
+            assert_eq!(block, expected.to_be_bytes());
+            cipher.decrypt(&key[..length], &mut block);
+            assert_eq!(block, text);
+        }
+    }
+
+    /// Test case 2 of GCM's specification: key, nonce and text are zero.
+    fn an_example_of_gcm<C: Ciphers>() {
+        let (ciphertext, tag) = (
+            0x0388_dace_60b6_a392_f328_c2b9_71b2_fe78_u128,
+            0xab6e_47d4_2cec_13bd_f53a_67b2_1257_bddf_u128,
+        );
+        let expected = [ciphertext.to_be_bytes(), tag.to_be_bytes()].concat();
+        let (key, nonce) = ([0; 16], [0; 12]);
+        let gcm = C::Gcm::new(16);
+        let (mut sealed, mut in_place) = ([1; 32], [0; 32]);
+        gcm.seal(&key, &nonce, &[0; 16], &mut sealed);
+        assert_eq!(sealed[..], expected);
+        gcm.seal_in_place(&key, &nonce, &mut in_place);
+        assert_eq!(in_place[..], expected);
+        let mut text = [1; 16];
+        assert!(gcm.open(&key, &nonce, &sealed, &mut text));
+        assert_eq!(text, [0; 16]);
+        sealed[31] ^= 1;
+        assert!(!gcm.open(&key, &nonce, &sealed, &mut text));
+    }
+
+    /// Behind the wrap of the counter comes what its start gives.
+    fn a_counter_wraps<C: Ciphers>() {
+        for length in [16, 24, 32] {
+            let (key, nonce) = (&[7; 32][..length], &[9; 12]);
+            let counter = C::Counter::new(length);
+            let (mut wrapped, mut last, mut start) = ([0; 48], [0; 16], [0; 32]);
+            counter.apply(key, nonce, u32::MAX, &mut wrapped);
+            counter.apply(key, nonce, u32::MAX, &mut last);
+            counter.apply(key, nonce, 0, &mut start);
+            assert_eq!(wrapped[..16], last);
+            assert_eq!(wrapped[16..], start);
+            assert_ne!(last, start[..16]);
+        }
+    }
+
+    #[test]
+    fn openssl_is_bound_as_it_is() {
+        examples_of_fips_197::<OpenSsl>();
+        an_example_of_gcm::<OpenSsl>();
+        a_counter_wraps::<OpenSsl>();
+    }
+
+    #[test]
+    fn nettle_is_bound_as_it_is() {
+        examples_of_fips_197::<Nettle>();
+        an_example_of_gcm::<Nettle>();
+        a_counter_wraps::<Nettle>();
+    }
+}
