@@ -2,6 +2,7 @@
 
 use std::fs;
 
+use crate::bearssl;
 use crate::nettle;
 use crate::numbers::grouped;
 
@@ -22,7 +23,8 @@ pub struct About {
 
 /// Whom ours is measured against.
 const AGAINST: &str = "\
-Against  OpenSSL and nettle alone for GCM bodies, chunks, AES, and GHASH as they have it: the tag of additional data, one AES block more
+Against  OpenSSL, nettle and BearSSL alone for GCM bodies, chunks, AES, and GHASH: BearSSL has it alone, the others as the tag of
+         additional data, which is one AES block more
          with plain Rust around them for whole datagrams: headers, addresses, subkey (BLAKE3), sessions and windows
          plain Rust for subkeys; the key of their context is computed before the calls";
 
@@ -43,6 +45,11 @@ impl About {
                 self.nettle,
                 nettle::CAPABILITIES,
                 nettle::NO_CAPABILITIES
+            ),
+            format!(
+                "BearSSL  {}; without processor instructions: {}",
+                bearssl::WITH,
+                bearssl::WITHOUT
             ),
             AGAINST.to_string(),
             format!(

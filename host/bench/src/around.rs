@@ -216,6 +216,7 @@ fn read_main(separate: Separate, clock: u64, plain: &[u8]) -> Result<Header, Ref
 #[cfg(test)]
 mod tests {
     use super::{Datagrams, Separate};
+    use crate::bearssl::BearSslWithout;
     use crate::ciphers::Ciphers;
     use crate::nettle::Nettle;
     use crate::openssl::OpenSsl;
@@ -256,6 +257,7 @@ mod tests {
     fn what_a_library_sealed_opens_once() {
         what_is_sealed_opens_once::<OpenSsl>();
         what_is_sealed_opens_once::<Nettle>();
+        what_is_sealed_opens_once::<BearSslWithout>();
     }
 
     #[test]

@@ -11,6 +11,11 @@ pub trait Ciphers: 'static {
     type Block: Block;
     type Counter: Counter;
     type Gcm: Gcm;
+
+    /// Whether the processor has the instructions that they need.
+    fn are_there() -> bool {
+        true
+    }
 }
 
 /// AES on single blocks with one key length.
@@ -42,7 +47,8 @@ pub trait Counter {
     /// If the key length is not 16, 24 or 32.
     fn new(key_length: usize) -> Self;
 
-    /// Encrypts `data` in place, counting in all 16 bytes from `iv` on.
+    /// Encrypts `data` in place, counting from `iv` on. Whether the last four bytes
+    /// carry into the others when they wrap is the library's choice.
     ///
     /// # Panics
     ///
@@ -55,8 +61,8 @@ pub trait Counter {
     ///
     /// If the key has another length than the context.
     fn apply(&self, key: &[u8], nonce: &[u8; 12], counter: u32, data: &mut [u8]) {
-        // The libraries would carry into the nonce, so what lies beyond the wrap is
-        // a second message whose counter starts at 0.
+        // A library could carry into the nonce, so what lies beyond the wrap is a
+        // second message whose counter starts at 0.
         let before_wrap = ((1 << 32) - u64::from(counter)) * 16;
         let before_wrap = usize::try_from(before_wrap).map_or(data.len(), |n| n.min(data.len()));
         let (head, tail) = data.split_at_mut(before_wrap);
@@ -98,13 +104,6 @@ pub trait Gcm {
     /// tag.
     fn seal_in_place(&self, key: &[u8], nonce: &[u8; 12], body: &mut [u8]);
 
-    /// Writes the tag of additional data without a text, which is known as GMAC.
-    ///
-    /// # Panics
-    ///
-    /// If the key has another length than the context.
-    fn authenticate(&self, key: &[u8], nonce: &[u8; 12], data: &[u8], tag: &mut [u8; TAG_LENGTH]);
-
     /// Opens `sealed` to `out`, and answers whether the tag is right; `out` is
     /// written in any case.
     ///
@@ -115,9 +114,20 @@ pub trait Gcm {
     fn open(&self, key: &[u8], nonce: &[u8; 12], sealed: &[u8], out: &mut [u8]) -> bool;
 }
 
+/// For a library that has no function for GHASH alone.
+pub trait Gmac: Gcm {
+    /// Writes the tag of additional data without a text, which is known as GMAC.
+    ///
+    /// # Panics
+    ///
+    /// If the key has another length than the context.
+    fn authenticate(&self, key: &[u8], nonce: &[u8; 12], data: &[u8], tag: &mut [u8; TAG_LENGTH]);
+}
+
 #[cfg(test)]
 mod tests {
     use super::{Block, Ciphers, Counter, Gcm};
+    use crate::bearssl::{BearSslWith, BearSslWithout};
     use crate::nettle::Nettle;
     use crate::openssl::OpenSsl;
 
@@ -175,17 +185,27 @@ mod tests {
         }
     }
 
+    fn is_bound_as_it_is<C: Ciphers>() {
+        examples_of_fips_197::<C>();
+        an_example_of_gcm::<C>();
+        a_counter_wraps::<C>();
+    }
+
     #[test]
     fn openssl_is_bound_as_it_is() {
-        examples_of_fips_197::<OpenSsl>();
-        an_example_of_gcm::<OpenSsl>();
-        a_counter_wraps::<OpenSsl>();
+        is_bound_as_it_is::<OpenSsl>();
     }
 
     #[test]
     fn nettle_is_bound_as_it_is() {
-        examples_of_fips_197::<Nettle>();
-        an_example_of_gcm::<Nettle>();
-        a_counter_wraps::<Nettle>();
+        is_bound_as_it_is::<Nettle>();
+    }
+
+    #[test]
+    fn bearssl_is_bound_as_it_is() {
+        is_bound_as_it_is::<BearSslWithout>();
+        if BearSslWith::are_there() {
+            is_bound_as_it_is::<BearSslWith>();
+        }
     }
 }

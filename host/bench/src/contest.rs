@@ -15,26 +15,39 @@ pub enum Column {
     /// Without processor instructions.
     OpenSslWithout,
     NettleWithout,
+    BearSslWithout,
     /// With processor instructions.
     OpenSslWith,
     NettleWith,
+    BearSslWith,
     Plain,
 }
 
 #[derive(Clone, Copy)]
 enum Process {
     Here,
-    /// The one whose libraries use no processor instructions.
+    /// The one whose OpenSSL and nettle use no processor instructions. BearSSL needs
+    /// none: its caller chooses.
     Child,
 }
 
 impl Column {
-    pub const ALL: [Column; 6] = [
+    pub const ALL: [Column; 8] = [
         Column::Ours,
         Column::OpenSslWithout,
         Column::NettleWithout,
+        Column::BearSslWithout,
         Column::OpenSslWith,
         Column::NettleWith,
+        Column::BearSslWith,
+        Column::Plain,
+    ];
+
+    /// Those of the others that use no processor instructions.
+    pub const WITHOUT: [Column; 4] = [
+        Column::OpenSslWithout,
+        Column::NettleWithout,
+        Column::BearSslWithout,
         Column::Plain,
     ];
 
@@ -43,9 +56,22 @@ impl Column {
             Column::Ours => "ours",
             Column::OpenSslWithout => "OpenSSL without instructions",
             Column::NettleWithout => "nettle without instructions",
+            Column::BearSslWithout => "BearSSL without instructions",
             Column::OpenSslWith => "OpenSSL with instructions",
             Column::NettleWith => "nettle with instructions",
+            Column::BearSslWith => "BearSSL with instructions",
             Column::Plain => "plain Rust",
+        }
+    }
+
+    /// Short, where it is clear which of a library's columns is meant.
+    pub fn library_name(self) -> &'static str {
+        match self.library() {
+            Library::Ours => "ours",
+            Library::OpenSsl => "OpenSSL",
+            Library::Nettle => "nettle",
+            Library::BearSslWithout | Library::BearSslWith => "BearSSL",
+            Library::Plain => "plain Rust",
         }
     }
 
@@ -54,6 +80,8 @@ impl Column {
             Column::Ours => Library::Ours,
             Column::OpenSslWithout | Column::OpenSslWith => Library::OpenSsl,
             Column::NettleWithout | Column::NettleWith => Library::Nettle,
+            Column::BearSslWithout => Library::BearSslWithout,
+            Column::BearSslWith => Library::BearSslWith,
             Column::Plain => Library::Plain,
         }
     }

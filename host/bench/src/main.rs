@@ -1,6 +1,6 @@
-//! Speed of the proved code beside OpenSSL's and nettle's, with and without
-//! processor instructions, and for what they have not beside plain Rust, in one
-//! table of one run and as a plot.
+//! Speed of the proved code beside OpenSSL's, nettle's and BearSSL's, with and
+//! without processor instructions, and for what they have not beside plain Rust, in
+//! one table of one run and as a plot.
 //!
 //! All outputs are compared first; a difference ends the run with exit status 1.
 //! No speed does.
@@ -9,6 +9,8 @@
 
 mod about;
 mod around;
+#[allow(unsafe_code)]
+mod bearssl;
 mod child;
 mod ciphers;
 mod contest;
@@ -25,9 +27,11 @@ mod ours;
 mod plain;
 mod plot;
 mod results;
+mod room;
 mod rows;
 #[cfg(test)]
 mod samples;
+mod standing;
 mod table;
 mod worst;
 

@@ -12,7 +12,6 @@ pub use block::AesBlock;
 pub use ctr::AesCtr;
 pub use gcm::AesGcm;
 
-use std::cell::RefCell;
 use std::os::raw::{c_char, c_int, c_uint, c_void};
 
 use crate::ciphers::Ciphers;
@@ -99,18 +98,4 @@ fn aes(key_length: usize) -> &'static Cipher {
     let sizes = (cipher.key_size as usize, cipher.block_size);
     assert_eq!(sizes, (key_length, 16), "nettle describes another cipher");
     cipher
-}
-
-/// Room for a context, aligned for whatever it holds.
-struct Room(RefCell<Vec<u128>>);
-
-impl Room {
-    fn new(bytes: c_uint) -> Self {
-        Self(RefCell::new(vec![0; bytes.div_ceil(16) as usize]))
-    }
-
-    /// Lends the room to one use at a time.
-    fn with<T>(&self, work: impl FnOnce(*mut c_void) -> T) -> T {
-        work(self.0.borrow_mut().as_mut_ptr().cast())
-    }
 }

@@ -21,17 +21,28 @@ use style::{ASKED, DARK, GREY};
 use svg::{Font, Point, Svg};
 
 const WIDTH: f64 = 1_360.0;
-const HEIGHT: f64 = 890.0;
+const HEIGHT: f64 = 1_004.0;
 const MARGIN: f64 = 28.0;
 
-const TITLE: &str = "Bhajnolith beside OpenSSL and nettle: speed of Shadowsocks 2022 datagrams";
+const TITLE: &str =
+    "Bhajnolith beside OpenSSL, nettle and BearSSL: speed of Shadowsocks 2022 datagrams";
 
 /// The legend's rows, and the widths of its places before the last.
-const LEGEND: [[Column; 3]; 2] = [
-    [Column::Ours, Column::OpenSslWithout, Column::NettleWithout],
-    [Column::Plain, Column::OpenSslWith, Column::NettleWith],
+const LEGEND: [[Column; 4]; 2] = [
+    [
+        Column::Ours,
+        Column::OpenSslWithout,
+        Column::NettleWithout,
+        Column::BearSslWithout,
+    ],
+    [
+        Column::Plain,
+        Column::OpenSslWith,
+        Column::NettleWith,
+        Column::BearSslWith,
+    ],
 ];
-const CELLS: [f64; 3] = [170.0, 340.0, 330.0];
+const CELLS: [f64; 4] = [154.0, 314.0, 302.0, 314.0];
 
 /// Where the panels' names stand, and where the panels begin.
 const NAMES: f64 = 168.0;
@@ -109,9 +120,9 @@ fn datagrams(svg: &mut Svg, lines: &[Line]) {
         for (place, &(method, call)) in calls.iter().enumerate() {
             let frame = Frame {
                 left: MARGIN + 476.0 * place as f64,
-                top: PANELS + 346.0 * row as f64,
+                top: PANELS + 403.0 * row as f64,
                 width: 460.0,
-                height: 334.0,
+                height: 391.0,
             };
             let title = format!(
                 "{}, method {} (AES-{})",
@@ -228,8 +239,8 @@ mod tests {
     }
 
     #[test]
-    fn each_panel_has_a_line_for_each_of_five() {
-        assert_eq!(drawn().matches("<polyline").count(), 4 * 5);
+    fn each_panel_has_a_line_for_each_of_seven() {
+        assert_eq!(drawn().matches("<polyline").count(), 4 * 7);
     }
 
     #[test]

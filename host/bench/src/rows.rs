@@ -3,6 +3,26 @@
 //! A new primitive is one more [`Kind`] with a function that makes its rows, a new
 //! library one more [`Library`] with its contestants and its column.
 
+/// Ours, and what a function makes of each other library's ciphers. A macro, because
+/// a function cannot be given one that is generic.
+macro_rules! contestants {
+    ($ours:expr, $with:ident $arguments:tt) => {{
+        use crate::bearssl::{BearSslWith, BearSslWithout};
+        use crate::nettle::Nettle;
+        use crate::openssl::OpenSsl;
+        let mut contestants = vec![
+            Contestant::new(Library::Ours, $ours),
+            $with::<OpenSsl> $arguments,
+            $with::<Nettle> $arguments,
+            $with::<BearSslWithout> $arguments,
+        ];
+        if BearSslWith::are_there() {
+            contestants.push($with::<BearSslWith> $arguments);
+        }
+        contestants
+    }};
+}
+
 mod bodies;
 mod datagrams;
 mod disorder;
@@ -19,6 +39,10 @@ pub enum Library {
     OpenSsl,
     /// Likewise.
     Nettle,
+    /// Likewise, and without processor instructions: BearSSL leaves that to its caller.
+    BearSslWithout,
+    /// With them, where the processor has them.
+    BearSslWith,
     /// This program's own, for what the others have not.
     Plain,
 }
@@ -106,4 +130,24 @@ fn text(size: usize) -> Vec<u8> {
 fn forged(mut sealed: Vec<u8>) -> Vec<u8> {
     *sealed.last_mut().expect("a tag is not empty") ^= 1;
     sealed
+}
+
+#[cfg(test)]
+mod tests {
+    use super::{all, Library};
+    use crate::bearssl::BearSslWith;
+    use crate::ciphers::Ciphers;
+
+    #[test]
+    fn the_other_libraries_stand_in_the_same_rows() {
+        for row in all() {
+            let stands = |library| row.contestant(library).is_some();
+            let openssl = stands(Library::OpenSsl);
+            assert_eq!(stands(Library::Nettle), openssl, "{}", row.name());
+            assert_eq!(stands(Library::BearSslWithout), openssl, "{}", row.name());
+            let with = openssl && BearSslWith::are_there();
+            assert_eq!(stands(Library::BearSslWith), with, "{}", row.name());
+            assert_eq!(stands(Library::Plain), !openssl, "{}", row.name());
+        }
+    }
 }

@@ -24,34 +24,42 @@ pub fn lines() -> Vec<Line> {
         for call in [Call::Seal, Call::Open, Call::Refuse] {
             let kind = Kind::Datagram(method, call);
             lines.extend([64, 512, 1_400, 9_000, 65_507].map(|size| {
-                let growth = (size as f64).sqrt();
-                line(kind, size, [30.0, 35.0, 33.0, 20.0 * growth, 9.0 * growth])
+                let [a, b, c] = [20.0, 9.0, 7.0].map(|speed| speed * (size as f64).sqrt());
+                line(kind, size, [30.0, 35.0, 33.0, 28.0, a, b, c])
             }));
             let key_length = method.key_length;
             let kind = Kind::Gcm { key_length, call };
-            lines.push(line(kind, 65_507, [30.0, 90.0, 110.0, 12_345.0, 2_345.0]));
+            lines.push(line(
+                kind,
+                65_507,
+                [30.0, 90.0, 110.0, 80.0, 12_345.0, 2_345.0, 1_234.0],
+            ));
         }
         lines.push(line(
             Kind::Chunk(method, Call::Seal),
             1_400,
-            [30.0, 60.0, 70.0, 900.0, 700.0],
+            [30.0, 60.0, 70.0, 50.0, 900.0, 700.0, 500.0],
         ));
     }
     for key_length in [16, 24, 32] {
         let kind = Kind::Counter { key_length };
-        lines.push(line(kind, 65_504, [200.0, 100.0, 150.0, 6_000.0, 3_000.0]));
+        lines.push(line(
+            kind,
+            65_504,
+            [200.0, 100.0, 150.0, 120.0, 6_000.0, 3_000.0, 2_000.0],
+        ));
     }
     lines.push(line(
         Kind::Ghash,
         65_504,
-        [40.0, 400.0, 500.0, 9_000.0, 4_000.0],
+        [40.0, 400.0, 500.0, 300.0, 9_000.0, 4_000.0, 5_000.0],
     ));
     lines.push(subkey());
     lines
 }
 
 /// The speeds are those of all columns but plain Rust, in their order.
-fn line(kind: Kind, size: usize, speeds: [f64; 5]) -> Line {
+fn line(kind: Kind, size: usize, speeds: [f64; 7]) -> Line {
     let columns = Column::ALL.into_iter();
     let times = columns.zip(speeds.map(|speed| times(size, speed)));
     Line::new(kind, size, &times_of(times))

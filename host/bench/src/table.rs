@@ -5,54 +5,59 @@ use crate::contest::Column;
 use crate::kinds::Section;
 use crate::numbers::{grouped, rounded};
 use crate::results::{Line, Summary};
+use crate::standing;
 use crate::worst;
 
 /// Widths of a row's name, its size, a speed with its quartiles, calls a second, a
-/// time, the speeds of a group of others, the name of the best of them, and a ratio
-/// with its quartiles.
+/// time, the speeds of a group of others, the name of the best of them, a ratio with its
+/// quartiles, and one without them.
 const NAME: usize = 18;
 const SIZE: usize = 7;
-const SPEED: usize = 21;
+const SPEED: usize = 19;
 const RATE: usize = 12;
-const TIME: usize = 8;
-const OTHERS: usize = 20;
+const TIME: usize = 7;
+const OTHERS: usize = 24;
 const BEST: usize = 9;
 const RATIO: usize = 21;
+const MEDIAN: usize = 8;
 
 /// Others that ours is measured against, and the name of the ratio to their best.
 struct Group {
     title: &'static str,
-    columns: &'static [(Column, &'static str)],
+    columns: &'static [Column],
     ratio: &'static str,
     /// Whether the best is named beside its ratio.
     named: bool,
+    /// Whether the ratio has its quartiles.
+    quartiles: bool,
 }
 
 const SOFTWARE: Group = Group {
     title: "no instructions",
     columns: &[
-        (Column::OpenSslWithout, "OpenSSL"),
-        (Column::NettleWithout, "nettle"),
+        Column::OpenSslWithout,
+        Column::NettleWithout,
+        Column::BearSslWithout,
     ],
-    ratio: "ours / without",
+    ratio: "ours / best without",
     named: true,
+    quartiles: true,
 };
 
 const INSTRUCTIONS: Group = Group {
     title: "instructions",
-    columns: &[
-        (Column::OpenSslWith, "OpenSSL"),
-        (Column::NettleWith, "nettle"),
-    ],
+    columns: &[Column::OpenSslWith, Column::NettleWith, Column::BearSslWith],
     ratio: "ours / with",
-    named: false,
+    named: true,
+    quartiles: false,
 };
 
 const PLAIN: Group = Group {
     title: "plain Rust",
-    columns: &[(Column::Plain, "MB/s")],
+    columns: &[Column::Plain],
     ratio: "ours / theirs",
     named: false,
+    quartiles: true,
 };
 
 impl Group {
@@ -61,18 +66,26 @@ impl Group {
         OTHERS / self.columns.len()
     }
 
-    fn ratio_width(&self) -> usize {
+    fn best_width(&self) -> usize {
         if self.named {
-            BEST + RATIO
+            BEST
         } else {
+            0
+        }
+    }
+
+    fn ratio_width(&self) -> usize {
+        if self.quartiles {
             RATIO
+        } else {
+            MEDIAN
         }
     }
 
     /// The speeds of a line.
     fn speeds(&self, line: &Line) -> String {
         let width = self.column();
-        let speeds = self.columns.iter().map(|(column, _)| {
+        let speeds = self.columns.iter().map(|column| {
             let speed = or_dash(line.speed(*column), |speed| rounded(speed.median));
             format!("{speed:>width$}")
         });
@@ -81,27 +94,40 @@ impl Group {
 
     /// The ratio of a line to the best.
     fn ratio(&self, line: &Line) -> String {
-        let best = line.best(self.columns.iter().map(|(column, _)| *column));
-        let ratio = format!("{:>RATIO$}", cell(best.and_then(|best| line.ratio(best))));
-        if !self.named {
-            return ratio;
-        }
-        let name = self
-            .columns
-            .iter()
-            .find(|(column, _)| Some(*column) == best);
-        let name = or_dash(name, |(_, name)| name.to_string());
-        format!("{name:>BEST$}{ratio}")
+        let best = line.best(self.columns.iter().copied());
+        let ratio = best.and_then(|best| line.ratio(best));
+        let ratio = if self.quartiles {
+            cell(ratio)
+        } else {
+            or_dash(ratio, |ratio| rounded(ratio.median))
+        };
+        let name = if self.named {
+            or_dash(best, |best| best.library_name().to_string())
+        } else {
+            String::new()
+        };
+        let (best, width) = (self.best_width(), self.ratio_width());
+        format!("{name:>best$}{ratio:>width$}")
+    }
+
+    /// The names of its columns.
+    fn heads(&self) -> String {
+        let width = self.column();
+        let heads = self.columns.iter().map(|column| match column {
+            Column::Plain => format!("{:>width$}", "MB/s"),
+            column => format!("{:>width$}", column.library_name()),
+        });
+        heads.collect()
     }
 
     fn ratio_head(&self) -> String {
-        let best = if self.named { "best" } else { "" };
-        let width = self.ratio_width() - RATIO;
-        format!("{best:>width$}{:>RATIO$}", "ratio")
+        let (best, width) = (self.best_width(), self.ratio_width());
+        let name = if self.named { "best" } else { "" };
+        format!("{name:>best$}{:>width$}", "ratio")
     }
 }
 
-/// All of it: what it was made on, the sections, and the worst case.
+/// All of it: what it was made on, the sections, where ours stands, and the worst case.
 pub fn text(about: &About, lines: &[Line]) -> String {
     let mut text = about.lines();
     for section in Section::ALL {
@@ -110,6 +136,8 @@ pub fn text(about: &About, lines: &[Line]) -> String {
         text.extend(heads(section));
         text.extend(rows.map(|line| row(section, line)));
     }
+    text.push(String::new());
+    text.extend(standing::lines(lines));
     text.push(String::new());
     text.push(worst::statement(lines));
     text.push(String::new());
@@ -135,16 +163,10 @@ fn heads(section: Section) -> [String; 2] {
     heads += &format!("{:>SPEED$}{rate:>RATE$}{:>TIME$}", "MB/s", "µs");
     for group in groups(section) {
         titles += &title(OTHERS, group.title);
-        let width = group.column();
-        heads.extend(
-            group
-                .columns
-                .iter()
-                .map(|(_, head)| format!("{head:>width$}")),
-        );
+        heads += &group.heads();
     }
     for group in groups(section) {
-        titles += &title(group.ratio_width(), group.ratio);
+        titles += &title(group.best_width() + group.ratio_width(), group.ratio);
         heads += &group.ratio_head();
     }
     [titles, heads].map(|line| line.trim_end().to_string())
@@ -210,14 +232,15 @@ mod tests {
             (Column::Ours, vec![1e4]),
             (Column::OpenSslWithout, vec![4e4]),
             (Column::NettleWithout, vec![2e4]),
+            (Column::BearSslWithout, vec![5e4]),
             (Column::OpenSslWith, vec![1e3]),
         ]);
         let line = Line::new(Kind::Ghash, 1_000, &times);
         let row = row(Section::Primitives, &line);
         let words: Vec<&str> = row.split_whitespace().collect();
         let ours = ["GHASH", "1,000", "100", "(100–100)", "100,000", "10.0"];
-        let theirs = ["25.0", "50.0", "1,000", "-"];
-        let ratios = ["nettle", "2.00", "(2.00–2.00)", "0.100", "(0.100–0.100)"];
+        let theirs = ["25.0", "50.0", "20.0", "1,000", "-", "-"];
+        let ratios = ["nettle", "2.00", "(2.00–2.00)", "OpenSSL", "0.100"];
         assert_eq!(words, [&ours[..], &theirs, &ratios].concat());
     }
 
@@ -226,8 +249,9 @@ mod tests {
         let [groups, columns] = heads(Section::Datagrams);
         assert!(groups.contains(" no instructions ") && groups.contains("─ instructions "));
         assert!(columns.contains("datagrams/s"));
-        assert_eq!(columns.matches("OpenSSL").count(), 2);
-        assert_eq!(columns.matches("nettle").count(), 2);
+        for library in ["OpenSSL", "nettle", "BearSSL"] {
+            assert_eq!(columns.matches(library).count(), 2, "{library}");
+        }
         let [groups, columns] = heads(Section::Subkeys);
         assert!(groups.contains("plain Rust") && !groups.contains("instructions"));
         assert!(!columns.contains("OpenSSL"));

@@ -1,7 +1,8 @@
 //! AES on one block.
 
-use super::{aes, Apply, Cipher, Room, SetKey};
+use super::{aes, Apply, Cipher, SetKey};
 use crate::ciphers::Block;
+use crate::room::Room;
 
 pub struct AesBlock {
     cipher: &'static Cipher,
@@ -11,7 +12,7 @@ pub struct AesBlock {
 impl Block for AesBlock {
     fn new(key_length: usize) -> Self {
         let cipher = aes(key_length);
-        let room = Room::new(cipher.context_size);
+        let room = Room::new(cipher.context_size as usize);
         Self { cipher, room }
     }
 

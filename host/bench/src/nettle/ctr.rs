@@ -2,8 +2,9 @@
 
 use std::os::raw::c_void;
 
-use super::{aes, Apply, Cipher, Room};
+use super::{aes, Apply, Cipher};
 use crate::ciphers::Counter;
+use crate::room::Room;
 
 extern "C" {
     fn nettle_ctr_crypt(
@@ -25,7 +26,7 @@ pub struct AesCtr {
 impl Counter for AesCtr {
     fn new(key_length: usize) -> Self {
         let cipher = aes(key_length);
-        let room = Room::new(cipher.context_size);
+        let room = Room::new(cipher.context_size as usize);
         Self { cipher, room }
     }
 

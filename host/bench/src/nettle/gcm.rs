@@ -2,8 +2,9 @@
 
 use std::os::raw::{c_char, c_int, c_uint, c_void};
 
-use super::{check_version, Room, SetKey};
-use crate::ciphers::{Gcm, TAG_LENGTH};
+use super::{check_version, SetKey};
+use crate::ciphers::{Gcm, Gmac, TAG_LENGTH};
+use crate::room::Room;
 
 type Update = unsafe extern "C" fn(ctx: *mut c_void, length: usize, data: *const u8);
 type Apply = unsafe extern "C" fn(ctx: *mut c_void, length: usize, dst: *mut u8, src: *const u8);
@@ -54,7 +55,7 @@ impl Gcm for AesGcm {
         let sizes = [aead.key_size, aead.nonce_size, aead.digest_size].map(|size| size as usize);
         let expected = [key_length, 12, TAG_LENGTH];
         assert_eq!(sizes, expected, "nettle describes another cipher");
-        let room = Room::new(aead.context_size);
+        let room = Room::new(aead.context_size as usize);
         Self { aead, room }
     }
 
@@ -77,13 +78,6 @@ impl Gcm for AesGcm {
         });
     }
 
-    fn authenticate(&self, key: &[u8], nonce: &[u8; 12], data: &[u8], tag: &mut [u8; TAG_LENGTH]) {
-        // SAFETY: `data` is only read.
-        *tag = self.message(key, nonce, |context| unsafe {
-            (self.aead.update)(context, data.len(), data.as_ptr());
-        });
-    }
-
     fn open(&self, key: &[u8], nonce: &[u8; 12], sealed: &[u8], out: &mut [u8]) -> bool {
         let (ciphertext, tag) = sealed.split_last_chunk().expect("sealed has a tag");
         let tag: &[u8; TAG_LENGTH] = tag;
@@ -95,6 +89,15 @@ impl Gcm for AesGcm {
         });
         // SAFETY: both tags have that length, and are only read.
         unsafe { nettle_memeql_sec(tag.as_ptr().cast(), due.as_ptr().cast(), TAG_LENGTH) == 1 }
+    }
+}
+
+impl Gmac for AesGcm {
+    fn authenticate(&self, key: &[u8], nonce: &[u8; 12], data: &[u8], tag: &mut [u8; TAG_LENGTH]) {
+        // SAFETY: `data` is only read.
+        *tag = self.message(key, nonce, |context| unsafe {
+            (self.aead.update)(context, data.len(), data.as_ptr());
+        });
     }
 }
 

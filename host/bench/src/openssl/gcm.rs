@@ -4,7 +4,7 @@ use std::os::raw::{c_int, c_void};
 use std::ptr;
 
 use super::{Context, Direction, EvpCipher, EvpCipherCtx};
-use crate::ciphers::{Gcm, TAG_LENGTH};
+use crate::ciphers::{Gcm, Gmac, TAG_LENGTH};
 
 extern "C" {
     fn EVP_aes_128_gcm() -> *const EvpCipher;
@@ -55,14 +55,6 @@ impl Gcm for AesGcm {
         self.tag(EVP_CTRL_AEAD_GET_TAG, tag);
     }
 
-    fn authenticate(&self, key: &[u8], nonce: &[u8; 12], data: &[u8], tag: &mut [u8; TAG_LENGTH]) {
-        self.0.start(Direction::Encrypt, key, nonce);
-        // SAFETY: without output, `data` is only read.
-        unsafe { self.0.update(data.as_ptr(), ptr::null_mut(), data.len()) }
-        assert!(self.finish(), "EVP_CipherFinal_ex failed");
-        self.tag(EVP_CTRL_AEAD_GET_TAG, tag);
-    }
-
     fn open(&self, key: &[u8], nonce: &[u8; 12], sealed: &[u8], out: &mut [u8]) -> bool {
         let (ciphertext, tag) = sealed.split_last_chunk().expect("sealed has a tag");
         self.message(Direction::Decrypt, key, nonce, ciphertext, out);
@@ -70,6 +62,16 @@ impl Gcm for AesGcm {
         let mut received = *tag;
         self.tag(EVP_CTRL_AEAD_SET_TAG, &mut received);
         self.finish()
+    }
+}
+
+impl Gmac for AesGcm {
+    fn authenticate(&self, key: &[u8], nonce: &[u8; 12], data: &[u8], tag: &mut [u8; TAG_LENGTH]) {
+        self.0.start(Direction::Encrypt, key, nonce);
+        // SAFETY: without output, `data` is only read.
+        unsafe { self.0.update(data.as_ptr(), ptr::null_mut(), data.len()) }
+        assert!(self.finish(), "EVP_CipherFinal_ex failed");
+        self.tag(EVP_CTRL_AEAD_GET_TAG, tag);
     }
 }
 

@@ -15,7 +15,7 @@ const BOTTOM: f64 = 26.0;
 
 /// The heights of a group's name, of a bar, and of the gap behind a group.
 const NAME: f64 = 19.0;
-const BAR: f64 = 14.0;
+const BAR: f64 = 13.0;
 const GAP: f64 = 9.0;
 
 /// A group for each line, from the top on.
@@ -43,7 +43,7 @@ pub fn draw(svg: &mut Svg, frame: Frame, lines: &[&Line]) {
 fn group(svg: &mut Svg, scale: Scale, left: f64, top: f64, line: &Line) -> f64 {
     let mut name = format!("{}, {} bytes", line.kind.name(), grouped(line.size));
     if line.kind == Kind::Ghash {
-        name += " (the others: GMAC)";
+        name += " (OpenSSL, nettle: GMAC)";
     }
     svg.text((left + 6.0, top + 14.0), &name, Font::new(12, DARK));
     let mut top = top + NAME;

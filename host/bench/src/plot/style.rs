@@ -1,8 +1,8 @@
 //! Colours, lines and marks.
 //!
 //! The colours are of a set that people with any colour vision tell apart (Okabe
-//! and Ito), and differ in grey too; dashes and marks tell the lines apart without
-//! them.
+//! and Ito), its yellow darkened to be read on white, and differ in grey too; dashes
+//! and marks tell the lines apart without them.
 
 use super::svg::{Shape, Stroke};
 use crate::contest::Column;
@@ -45,9 +45,11 @@ pub fn of(column: Column) -> Style {
         Column::Ours => ("ours, proved", "#0072b2", "", Shape::Circle),
         Column::OpenSslWithout => (OPENSSL_WITHOUT, "#d55e00", "9 4", Shape::Square),
         Column::NettleWithout => (NETTLE_WITHOUT, "#009e73", "14 4 3 4", Shape::Wedge),
+        Column::BearSslWithout => (BEARSSL_WITHOUT, "#e69f00", "4 3", Shape::Cross),
         Column::OpenSslWith => (OPENSSL_WITH, "#333333", "2 4", Shape::Triangle),
         Column::NettleWith => (NETTLE_WITH, "#cc79a7", "5 3", Shape::Diamond),
-        Column::Plain => ("plain Rust", "#e69f00", "12 3 2 3", Shape::Plus),
+        Column::BearSslWith => (BEARSSL_WITH, "#8f7c00", "10 3 3 3 3 3", Shape::Post),
+        Column::Plain => ("plain Rust", "#56b4e9", "12 3 2 3", Shape::Plus),
     };
     Style {
         label,
@@ -61,6 +63,8 @@ const OPENSSL_WITHOUT: &str = "OpenSSL without processor instructions";
 const NETTLE_WITHOUT: &str = "nettle without processor instructions";
 const OPENSSL_WITH: &str = "OpenSSL with processor instructions";
 const NETTLE_WITH: &str = "nettle with processor instructions";
+const BEARSSL_WITHOUT: &str = "BearSSL without processor instructions";
+const BEARSSL_WITH: &str = "BearSSL with processor instructions";
 
 pub fn verb(call: Call) -> &'static str {
     match call {

@@ -22,6 +22,10 @@ pub enum Shape {
     /// A triangle on its tip.
     Wedge,
     Plus,
+    /// A plus turned by half a right angle.
+    Cross,
+    /// A bar on its short side.
+    Post,
 }
 
 #[derive(Clone, Copy)]
@@ -109,6 +113,11 @@ impl Svg {
             Shape::Diamond => Some([(0.0, -r), (r, 0.0), (0.0, r), (-r, 0.0)].to_vec()),
             Shape::Wedge => Some([(0.0, r), (r, -r), (-r, -r)].to_vec()),
             Shape::Plus => Some(plus(r, r / 2.5)),
+            Shape::Cross => Some(turned(&plus(1.2 * r, r / 2.5))),
+            Shape::Post => {
+                let (w, h) = (r / 2.0, 1.3 * r);
+                Some([(-w, -h), (w, -h), (w, h), (-w, h)].to_vec())
+            }
         };
         let paint = format!(r##"fill="{color}" stroke="#ffffff" stroke-width="1""##);
         match corners(5.0) {
@@ -179,6 +188,15 @@ fn plus(long: f64, thick: f64) -> Vec<Point> {
         turned = turned.map(|(x, y)| (-y, x));
     }
     corners
+}
+
+/// By half a right angle around the middle.
+fn turned(corners: &[Point]) -> Vec<Point> {
+    let turn = std::f64::consts::FRAC_1_SQRT_2;
+    let corners = corners.iter();
+    corners
+        .map(|(x, y)| (turn * (x - y), turn * (x + y)))
+        .collect()
 }
 
 fn list(points: &[Point]) -> String {

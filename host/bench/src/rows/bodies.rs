@@ -5,8 +5,7 @@ use std::cell::RefCell;
 use super::{forged, text, Contestant, Library, Row, KEY, NONCE};
 use crate::ciphers::{Ciphers, Gcm, TAG_LENGTH};
 use crate::kinds::{Call, Kind, METHODS};
-use crate::nettle::Nettle;
-use crate::openssl::{AesGcm, OpenSsl};
+use crate::openssl::AesGcm;
 use crate::ours;
 
 /// A short datagram's body, one that fits an Ethernet frame, one that fits a jumbo
@@ -34,13 +33,12 @@ fn seal(key_length: usize, size: usize) -> Row {
         input: text(size),
         buffer: size + TAG_LENGTH,
         special: None,
-        contestants: vec![
-            Contestant::new(Library::Ours, move |text, out| {
+        contestants: contestants!(
+            move |text, out| {
                 ours::gcm_seal(key, &NONCE, text, out);
-            }),
-            seal_with::<OpenSsl>(key),
-            seal_with::<Nettle>(key),
-        ],
+            },
+            seal_with(key)
+        ),
     }
 }
 
@@ -60,14 +58,13 @@ fn open(key_length: usize, size: usize) -> Row {
         input: sealed(key, size),
         buffer: size,
         special: None,
-        contestants: vec![
-            Contestant::new(Library::Ours, move |sealed, out| {
+        contestants: contestants!(
+            move |sealed, out| {
                 let opened = ours::gcm_open(key, &NONCE, sealed, out);
                 assert!(opened, "sealed text refused");
-            }),
-            open_with::<OpenSsl>(key),
-            open_with::<Nettle>(key),
-        ],
+            },
+            open_with(key)
+        ),
     }
 }
 
@@ -89,14 +86,13 @@ fn refuse(key_length: usize, size: usize) -> Row {
         input: forged(sealed(key, size)),
         buffer: size,
         special: None,
-        contestants: vec![
-            Contestant::new(Library::Ours, move |forged, out| {
+        contestants: contestants!(
+            move |forged, out| {
                 let opened = ours::gcm_open(key, &NONCE, forged, out);
                 assert!(!opened, "forged text taken");
-            }),
-            refuse_with::<OpenSsl>(key, size),
-            refuse_with::<Nettle>(key, size),
-        ],
+            },
+            refuse_with(key, size)
+        ),
     }
 }
 

@@ -7,8 +7,6 @@ use super::{forged, text, Contestant, Library, Row, KEY};
 use crate::around::{Datagrams, Separate, FIXED_LENGTH, SEPARATE_LENGTH};
 use crate::ciphers::{Ciphers, TAG_LENGTH};
 use crate::kinds::{Call, Kind, Method, METHODS};
-use crate::nettle::Nettle;
-use crate::openssl::OpenSsl;
 use crate::ours;
 use crate::plain::{Peer, Refusal, Sessions};
 
@@ -50,14 +48,13 @@ fn seal(method: Method, size: usize) -> Row {
         input: payload(size),
         buffer: size,
         special: None,
-        contestants: vec![
-            Contestant::new(Library::Ours, move |payload, out| {
+        contestants: contestants!(
+            move |payload, out| {
                 let session = FIRST.session;
                 ours::datagram_seal(method.number, key, session, CLOCK, &ADDRESS, payload, out);
-            }),
-            seal_with::<OpenSsl>(key),
-            seal_with::<Nettle>(key),
-        ],
+            },
+            seal_with(key)
+        ),
     }
 }
 
@@ -79,17 +76,16 @@ fn open(method: Method, size: usize) -> Row {
         input: sealed(method, size),
         buffer: size,
         special: None,
-        contestants: vec![
-            Contestant::new(Library::Ours, move |datagram, out| {
+        contestants: contestants!(
+            move |datagram, out| {
                 let table = &mut table.borrow_mut();
                 // The first record's word in use.
                 table[1] = 0;
                 let refused = ours::datagram_open(method.number, key, CLOCK, datagram, table, out);
                 assert_eq!(refused, 0, "sealed datagram refused");
-            }),
-            open_with::<OpenSsl>(key),
-            open_with::<Nettle>(key),
-        ],
+            },
+            open_with(key)
+        ),
     }
 }
 
@@ -116,16 +112,15 @@ fn refuse(method: Method, size: usize) -> Row {
         input: forged(sealed(method, size)),
         buffer: size,
         special: None,
-        contestants: vec![
-            Contestant::new(Library::Ours, move |datagram, out| {
+        contestants: contestants!(
+            move |datagram, out| {
                 let table = &mut table.borrow_mut();
                 let refused = ours::datagram_open(method.number, key, CLOCK, datagram, table, out);
                 let expected = Refusal::NotAuthentic as u64;
                 assert_eq!(refused, expected, "forged datagram taken");
-            }),
-            refuse_with::<OpenSsl>(key, size),
-            refuse_with::<Nettle>(key, size),
-        ],
+            },
+            refuse_with(key, size)
+        ),
     }
 }
 

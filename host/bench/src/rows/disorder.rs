@@ -6,7 +6,6 @@ use super::{Contestant, Library, Row, KEY};
 use crate::around::{Datagrams, Separate, FIXED_LENGTH, SEPARATE_LENGTH};
 use crate::ciphers::{Ciphers, TAG_LENGTH};
 use crate::kinds::{Call, Kind, Method, METHODS};
-use crate::nettle::Nettle;
 use crate::openssl::OpenSsl;
 use crate::ours;
 use crate::plain::Peer;
@@ -104,16 +103,15 @@ fn row(method: Method) -> Row {
         input: sealed.collect(),
         buffer: list.len(),
         special: Some("in disorder"),
-        contestants: vec![
-            Contestant::new(Library::Ours, move |input, answers| {
+        contestants: contestants!(
+            move |input, answers| {
                 let mut table = new_table();
                 each(input, &our_clocks, answers, |clock, datagram, out| {
                     ours::datagram_open(method.number, key, clock, datagram, &mut table, out)
                 });
-            }),
-            open_with::<OpenSsl>(key, clocks()),
-            open_with::<Nettle>(key, clocks()),
-        ],
+            },
+            open_with(key, clocks())
+        ),
     }
 }
 

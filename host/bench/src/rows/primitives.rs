@@ -2,7 +2,8 @@
 
 use super::{text, Contestant, Library, Row, KEY, NONCE};
 use crate::around::SUBKEY_CONTEXT;
-use crate::ciphers::{Block, Ciphers, Counter, Gcm, TAG_LENGTH};
+use crate::bearssl::{BearSsl, Ghash};
+use crate::ciphers::{Block, Ciphers, Counter, Gcm, Gmac, TAG_LENGTH};
 use crate::kinds::Kind;
 use crate::nettle::Nettle;
 use crate::openssl::{AesBlock, OpenSsl};
@@ -20,7 +21,7 @@ pub const WHOLE_BLOCKS: usize = 65_504;
 /// The same in whole blocks.
 const HASHED: [usize; 3] = [64, 1_392, WHOLE_BLOCKS];
 
-/// The key length with which the other libraries are asked for GHASH.
+/// The key length with which OpenSSL and nettle are asked for GHASH.
 const GMAC_KEY: usize = 16;
 
 /// The counter of GCM's first block of text.
@@ -60,13 +61,12 @@ fn aes_ctr(key_length: usize, size: usize, counter: u32) -> Row {
         input: Vec::new(),
         buffer: size,
         special: None,
-        contestants: vec![
-            Contestant::new(Library::Ours, move |_, data| {
+        contestants: contestants!(
+            move |_, data| {
                 ours::aes_ctr(key, &NONCE, counter, data);
-            }),
-            aes_ctr_with::<OpenSsl>(key, counter),
-            aes_ctr_with::<Nettle>(key, counter),
-        ],
+            },
+            aes_ctr_with(key, counter)
+        ),
     }
 }
 
@@ -77,40 +77,64 @@ fn aes_ctr_with<C: Ciphers>(key: &'static [u8], counter: u32) -> Contestant {
     })
 }
 
-/// The others have no function for GHASH alone. Nearest is the tag of additional data
-/// without a text: the data's GHASH with a block of lengths behind it, added to an
-/// AES block, which ours is given.
+/// OpenSSL and nettle have no function for GHASH alone. Nearest is the tag of
+/// additional data without a text: the data's GHASH with a block of lengths behind it,
+/// added to an AES block, which ours and BearSSL's are given.
 fn ghash(size: usize) -> Row {
     let key = &KEY[..GMAC_KEY];
     let (hash_subkey, mask) = tag_blocks(key);
     let data = size - 16;
     let mut input = text(size);
     input[data..].copy_from_slice(&((8 * data as u128) << 64).to_be_bytes());
+    let mut contestants = vec![
+        Contestant::new(Library::Ours, move |text, out| {
+            ours::ghash(&hash_subkey, text, out);
+            add(&mask, out);
+        }),
+        gmac_with::<OpenSsl>(key, data),
+        gmac_with::<Nettle>(key, data),
+    ];
+    contestants.extend(ghash_of_bearssl::<false>(hash_subkey, mask));
+    contestants.extend(ghash_of_bearssl::<true>(hash_subkey, mask));
     Row {
         kind: Kind::Ghash,
         size,
         input,
         buffer: TAG_LENGTH,
         special: None,
-        contestants: vec![
-            Contestant::new(Library::Ours, move |text, out| {
-                ours::ghash(&hash_subkey, text, out);
-                for (byte, mask) in out.iter_mut().zip(mask) {
-                    *byte ^= mask;
-                }
-            }),
-            ghash_with::<OpenSsl>(key, data),
-            ghash_with::<Nettle>(key, data),
-        ],
+        contestants,
     }
 }
 
-fn ghash_with<C: Ciphers>(key: &'static [u8], data: usize) -> Contestant {
+fn gmac_with<C: Ciphers>(key: &'static [u8], data: usize) -> Contestant
+where
+    C::Gcm: Gmac,
+{
     let context = C::Gcm::new(key.len());
     Contestant::new(C::LIBRARY, move |text, out| {
         let tag = out.first_chunk_mut().expect("out has room for a tag");
         context.authenticate(key, &NONCE, &text[..data], tag);
     })
+}
+
+/// `None` where the processor has not the instructions.
+fn ghash_of_bearssl<const INSTRUCTIONS: bool>(
+    hash_subkey: [u8; 16],
+    mask: [u8; 16],
+) -> Option<Contestant> {
+    let ghash = Ghash::<INSTRUCTIONS>::new()?;
+    let library = BearSsl::<INSTRUCTIONS>::LIBRARY;
+    Some(Contestant::new(library, move |text, out| {
+        out.copy_from_slice(&ghash.hash(&hash_subkey, text));
+        add(&mask, out);
+    }))
+}
+
+/// GCM's addition, which is exclusive or.
+fn add(mask: &[u8; 16], out: &mut [u8]) {
+    for (byte, mask) in out.iter_mut().zip(mask) {
+        *byte ^= mask;
+    }
 }
 
 /// GCM's hash subkey, and the block that is added to a tag's hash.

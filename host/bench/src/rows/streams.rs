@@ -3,8 +3,7 @@
 use super::{text, Contestant, Library, Row, KEY};
 use crate::ciphers::{Ciphers, Gcm, TAG_LENGTH};
 use crate::kinds::{Call, Kind, Method, METHODS};
-use crate::nettle::Nettle;
-use crate::openssl::{AesGcm, OpenSsl};
+use crate::openssl::AesGcm;
 use crate::ours;
 
 /// The payloads: one that fits an Ethernet frame, and the longest.
@@ -33,13 +32,12 @@ fn seal(method: Method, length: u16) -> Row {
         input: text(size),
         buffer: SEALED_LENGTH + size + TAG_LENGTH,
         special: None,
-        contestants: vec![
-            Contestant::new(Library::Ours, move |payload, out| {
+        contestants: contestants!(
+            move |payload, out| {
                 ours::chunk_seal(method.number, key, payload, out);
-            }),
-            seal_with::<OpenSsl>(key, length),
-            seal_with::<Nettle>(key, length),
-        ],
+            },
+            seal_with(key, length)
+        ),
     }
 }
 
@@ -65,14 +63,13 @@ fn open(method: Method, length: u16) -> Row {
         input: sealed,
         buffer: size,
         special: None,
-        contestants: vec![
-            Contestant::new(Library::Ours, move |sealed, out| {
+        contestants: contestants!(
+            move |sealed, out| {
                 let refused = ours::chunk_open(method.number, key, length, sealed, out);
                 assert_eq!(refused, 0, "sealed chunk refused");
-            }),
-            open_with::<OpenSsl>(key),
-            open_with::<Nettle>(key),
-        ],
+            },
+            open_with(key)
+        ),
     }
 }
 
