@@ -41,7 +41,7 @@ impl<const INSTRUCTIONS: bool> Ciphers for BearSsl<INSTRUCTIONS> {
 }
 
 /// The names of the implementations in use: BearSSL does not tell its version.
-pub const WITHOUT: &str = "aes_big and ghash_ctmul64";
+pub const WITHOUT: &str = "aes_big (aes_small for a block that is decrypted) and ghash_ctmul64";
 pub const WITH: &str = "aes_x86ni and ghash_pclmul";
 
 type Init = unsafe extern "C" fn(ctx: *mut c_void, key: *const c_void, length: usize);
@@ -72,7 +72,7 @@ struct Class<Run> {
 #[link(name = "bearssl")]
 extern "C" {
     static br_aes_big_cbcenc_vtable: Class<RunCbc>;
-    static br_aes_big_cbcdec_vtable: Class<RunCbc>;
+    static br_aes_small_cbcdec_vtable: Class<RunCbc>;
     static br_aes_big_ctr_vtable: Class<RunCtr>;
 
     fn br_aes_x86ni_cbcenc_get_vtable() -> Option<&'static Class<RunCbc>>;
@@ -103,17 +103,18 @@ impl Functions {
         }
     }
 
-    /// The fastest that BearSSL has in plain C on a 64-bit processor. Of its four AES
-    /// `aes_big` is the one with large tables: its header calls it fast, and the
-    /// constant-time `aes_ct64` has half its speed here. Of its three GHASH the
-    /// header calls `ctmul64` substantially faster than the others, which need less
-    /// than 64-bit products.
+    /// The fastest that BearSSL has in plain C on a 64-bit processor, by its headers
+    /// and by measurement of all of them. Of its four AES that is `aes_big`, with large
+    /// tables; the constant-time `aes_ct64` has half its speed. But `aes_big` takes
+    /// long to turn a key around for decryption, so for one block `aes_small` is five
+    /// times as fast. Of its three GHASH it is `ctmul64`: the others do with 32-bit
+    /// products.
     fn without_instructions() -> Self {
         // SAFETY: constants of the library.
         unsafe {
             Self {
                 encrypt: &br_aes_big_cbcenc_vtable,
-                decrypt: &br_aes_big_cbcdec_vtable,
+                decrypt: &br_aes_small_cbcdec_vtable,
                 ctr: &br_aes_big_ctr_vtable,
                 ghash: br_ghash_ctmul64,
             }

@@ -11,7 +11,7 @@ pub struct Domain {
 }
 
 impl Domain {
-    /// From a power of ten to a tick, so that it holds all quartiles and these others.
+    /// From tick to tick, so that it holds all quartiles and these others.
     pub fn of_speeds<'a>(lines: impl Iterator<Item = &'a Line>, others: &[f64]) -> Self {
         let mut numbers = others.to_vec();
         for line in lines {
@@ -24,12 +24,16 @@ impl Domain {
             let (least, greatest) = (1.0, 10.0);
             return Self { least, greatest };
         }
-        let least = 10_f64.powf(least.log10().floor());
-        let decade = 10_f64.powf(greatest.log10().floor());
-        let ticks = [1.0, 2.0, 5.0, 10.0].map(|factor| factor * decade);
+        let ticks = |number: f64| {
+            let decade = 10_f64.powf(number.log10().floor());
+            [1.0, 2.0, 5.0, 10.0].map(|factor| factor * decade)
+        };
+        let below = ticks(least).into_iter().rev().find(|tick| *tick <= least);
+        let least = below.unwrap_or(least);
         // The least tick alone would be an axis without length.
         let fits = |tick: &f64| *tick >= greatest && *tick > least;
-        let greatest = ticks.into_iter().find(fits).unwrap_or(10.0 * decade);
+        let above = ticks(greatest).into_iter().find(fits);
+        let greatest = above.unwrap_or(10.0 * greatest);
         Self { least, greatest }
     }
 
@@ -131,13 +135,13 @@ mod tests {
             let Domain { least, greatest } = Domain::of_speeds([].into_iter(), others);
             (least.round(), greatest.round())
         };
-        assert_eq!(domain(&[26.2, 3_000.0]), (10.0, 5_000.0));
-        assert_eq!(domain(&[26.2, 5_001.0]), (10.0, 10_000.0));
+        assert_eq!(domain(&[26.2, 3_000.0]), (20.0, 5_000.0));
+        assert_eq!(domain(&[19.9, 5_001.0]), (10.0, 10_000.0));
         assert_eq!(domain(&[10.0]), (10.0, 20.0));
         assert_eq!(domain(&[]), (1.0, 10.0));
         let lines = samples::lines();
         let all = Domain::of_speeds(lines.iter(), &[]);
-        assert_eq!((all.least.round(), all.greatest.round()), (10.0, 20_000.0));
+        assert_eq!((all.least.round(), all.greatest.round()), (20.0, 20_000.0));
     }
 
     #[test]
