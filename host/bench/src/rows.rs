@@ -1,8 +1,8 @@
 //! The rows of the table: what is compared and timed.
 //!
 //! A new primitive is one more [`Kind`] with a function that makes its rows, a new
-//! library one more [`Library`] with its column and its contestants: the macro
-//! `contestants` has all that do the whole work.
+//! library one more [`Library`] with its column and its place in the macro that makes
+//! a row's contestants.
 
 /// Ours, and what a function makes of each other library's ciphers. A macro, because
 /// a function cannot be given one that is generic.
