@@ -4,7 +4,7 @@ use mathlib.Core.Path.{_≡_, refl, sym, ap, ap₂, _∙_}
 use Prim.Native.Nat.{ℕ, zero, suc, _*_}
 use Rattle.octets.proofs.XorLaws.{mul-xor, xor-medial}
 use Rattle.ghash.specs.Field.{bitAt, next, stepV, stepZ, mul}
-use Rattle.ghash.proofs.FieldLaws.{linear-zero, linear-digit, next-xor, bit-lt}
+use Rattle.ghash.proofs.FieldLaws.{linear-mul, next-xor, bit-lt}
 use Rattle.field_laws.specs.Laws.{_⊕_, _•_}
 
 stepV-xor : (y z n : ℕ) → stepV (y ⊕ z) n ≡ stepV y n ⊕ stepV z n
@@ -24,26 +24,7 @@ pub mul-xor-right : (x y z : ℕ) → x • (y ⊕ z) ≡ x • y ⊕ x • z
 unfolding mul
 mul-xor-right x y z = stepZ-xor x y z 128
 
--- what is linear and goes through V's step goes through the product
-module _ (f : ℕ → ℕ) (linear : (v w : ℕ) → f (v ⊕ w) ≡ f v ⊕ f w) (step : (v : ℕ) → f (next v) ≡ next (f v)) where
-  linear-stepV : (y n : ℕ) → f (stepV y n) ≡ stepV (f y) n
-  unfolding stepV
-  linear-stepV y zero = refl
-  linear-stepV y (suc n) = step (stepV y n) ∙ ap next (linear-stepV y n)
-
-  linear-stepZ : (x y n : ℕ) → f (stepZ x y n) ≡ stepZ x (f y) n
-  unfolding stepZ
-  linear-stepZ x y zero = linear-zero f linear
-  linear-stepZ x y (suc n) =
-      linear (stepZ x y n) (bitAt x n * stepV y n)
-      ∙ ap₂ _⊕_ (linear-stepZ x y n)
-      (linear-digit f linear (bitAt x n) (stepV y n) (bit-lt x n) ∙ ap (λ (v : ℕ). bitAt x n * v) (linear-stepV y n))
-
-  linear-mul : (x y : ℕ) → f (x • y) ≡ x • f y
-  unfolding mul
-  linear-mul x y = linear-stepZ x y 128
-
--- V's step is such a function
+-- V's step is linear and goes through itself, so it goes through the product
 mul-next : (x y : ℕ) → x • next y ≡ next (x • y)
 mul-next x y = sym (linear-mul next next-xor (λ v. refl) x y)
 

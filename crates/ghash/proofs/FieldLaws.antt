@@ -54,3 +54,24 @@ mul-xor-left x y z = stepZ-xor x y z 128
 
 pub mul-zero-left : (y : ℕ) → mul 0 y ≡ 0
 mul-zero-left y = linear-zero (λ (x : ℕ). mul x y) (λ v w. mul-xor-left v w y)
+
+-- ---- the product, in its second factor
+
+-- what is linear and goes through V's step goes through the product
+module _ (f : ℕ → ℕ) (linear : (v w : ℕ) → f (bitXor v w) ≡ bitXor (f v) (f w)) (step : (v : ℕ) → f (next v) ≡ next (f v)) where
+  linear-stepV : (y n : ℕ) → f (stepV y n) ≡ stepV (f y) n
+  unfolding stepV
+  linear-stepV y zero = refl
+  linear-stepV y (suc n) = step (stepV y n) ∙ ap next (linear-stepV y n)
+
+  linear-stepZ : (x y n : ℕ) → f (stepZ x y n) ≡ stepZ x (f y) n
+  unfolding stepZ
+  linear-stepZ x y zero = linear-zero f linear
+  linear-stepZ x y (suc n) =
+      linear (stepZ x y n) (bitAt x n * stepV y n)
+      ∙ ap₂ bitXor (linear-stepZ x y n)
+      (linear-digit f linear (bitAt x n) (stepV y n) (bit-lt x n) ∙ ap (λ (v : ℕ). bitAt x n * v) (linear-stepV y n))
+
+  pub linear-mul : (x y : ℕ) → f (mul x y) ≡ mul x (f y)
+  unfolding mul
+  linear-mul x y = linear-stepZ x y 128

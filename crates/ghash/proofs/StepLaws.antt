@@ -2,7 +2,7 @@
 -- Assumes nothing.
 use mathlib.Core.Path.{_≡_, refl, sym, ap, ap₂, _∙_, subst}
 use Prim.Native.Nat.{ℕ, zero, suc, _+_, _*_, _/_, _%_, _^_, _<_}
-use native.Mathlib.Nat.{mod-lt, div-add-mod', zero-lt-suc, zero-mul, one-mul, mul-one, mul-assoc, mul-comm, pow-suc, add-suc, add-zero, zero-add, add-comm, add-assoc, add-mul, mul-div-cancel, mul-mod-left, mul-lt-mul-of-pos-right}
+use native.Mathlib.Nat.{mod-lt, div-add-mod', zero-lt-suc, zero-mul, one-mul, mul-one, mul-assoc, mul-comm, pow-suc, add-suc, add-zero, zero-add, suc-add, mul-add, add-comm, add-assoc, add-mul, mul-div-cancel, mul-mod-left, mul-lt-mul-of-pos-right}
 use native.Mathlib.Omega.{arith}
 use lib.Arith.{digits-lt}
 use lib.Pow.{pow-pos, pow-add, shr-lt, high, low}
@@ -24,7 +24,7 @@ unfolding steps
 steps-xor zero v w = refl
 steps-xor (suc m) v w = ap (steps m) (next-xor v w) ∙ steps-xor m (next v) (next w)
 
-steps-next : (m v : ℕ) → steps m (next v) ≡ next (steps m v)
+pub steps-next : (m v : ℕ) → steps m (next v) ≡ next (steps m v)
 unfolding steps
 steps-next zero v = refl
 steps-next (suc m) v = steps-next m (next v)
@@ -33,6 +33,15 @@ pub steps-swap : (m n v : ℕ) → steps m (steps n v) ≡ steps n (steps m v)
 unfolding steps
 steps-swap m zero v = refl
 steps-swap m (suc n) v = steps-swap m n (next v) ∙ ap (steps n) (steps-next m v)
+
+pub steps-add : (m n v : ℕ) → steps (m + n) v ≡ steps n (steps m v)
+unfolding steps
+steps-add zero n v = ap (λ (k : ℕ). steps k v) (zero-add n)
+steps-add (suc m) n v = ap (λ (k : ℕ). steps k v) (suc-add m n) ∙ steps-add m n (next v)
+
+-- once more m steps
+pub steps-more : (m k v : ℕ) → steps m (steps (m * k) v) ≡ steps (m * (k + 1)) v
+steps-more m k v = sym (steps-add (m * k) m v) ∙ ap (λ (n : ℕ). steps n v) (sym (mul-add m k 1 ∙ ap (λ (n : ℕ). m * k + n) (mul-one m)))
 
 -- zeros at the end are shifted out
 pub steps-exact : (m q : ℕ) → steps m (q * 2 ^ m) ≡ q

@@ -1,8 +1,8 @@
--- What the table holds, and that 32 lookups in it give the product.
+-- What the table holds, that four lookups need no shift between them, and that 32 give the product.
 -- Assumes nothing.
 use mathlib.Core.Path.{_≡_, refl, sym, ap, ap₂, _∙_, subst}
 use Prim.Native.Nat.{ℕ, zero, suc, _+_, _-_, _*_, _/_, _%_, _^_, _<_, _≤_}
-use native.Mathlib.Nat.{div-eq-of-lt, le-of-suc-le-suc, div-one, mul-assoc, mul-mod-left, mod-one, mod-lt, zero-mul, one-mul, zero-add, suc-add, add-mul, mul-one, lt-of-lt-of-le, le-refl}
+use native.Mathlib.Nat.{div-eq-of-lt, le-of-suc-le-suc, div-one, mul-assoc, mul-mod-left, mod-one, mod-lt, zero-mul, one-mul, add-mul, mul-one, lt-of-lt-of-le, le-refl}
 use native.Mathlib.Omega.{arith}
 use lib.Dec.{lit≤}
 use lib.Pow.{pow-pos, pow-add, mod-pow-add, shl-lt, shl-shr, shr-shr, high, field, mod-mod-pow}
@@ -12,8 +12,8 @@ use Rattle.ghash.specs.Field.{bitAt, next, stepV, stepZ, mul}
 use Rattle.ghash.specs.Table.{entry, steps, lookups}
 use Rattle.ghash.specs.Words.{words}
 use Rattle.ghash.proofs.ElementLaws.{field-low}
-use Rattle.ghash.proofs.FieldLaws.{next-xor, next-zero, next-digit, bit-lt, mul-xor-left, mul-zero-left}
-use Rattle.ghash.proofs.StepLaws.{steps-xor}
+use Rattle.ghash.proofs.FieldLaws.{next-xor, next-zero, next-digit, bit-lt, mul-xor-left, mul-zero-left, linear-zero, linear-mul}
+use Rattle.ghash.proofs.StepLaws.{steps-xor, steps-next, steps-add}
 
 -- ---- a block whose first bit is 0: bit i of m * 2 is bit i + 1 of m
 
@@ -150,13 +150,8 @@ module _ (h x : ℕ) where
 
 -- ---- the words of x apart
 
-steps-add : (m n v : ℕ) → steps (m + n) v ≡ steps n (steps m v)
-unfolding steps
-steps-add zero n v = ap (λ (k : ℕ). steps k v) (zero-add n)
-steps-add (suc m) n v = ap (λ (k : ℕ). steps k v) (suc-add m n) ∙ steps-add m n (next v)
-
 -- the first m lookups, moved on, and those of the rest of x
-lookups-cat : (h x m k : ℕ) → lookups h x (k + m) ≡ bitXor (steps (4 * k) (lookups h x m)) (lookups h (x / 2 ^ (4 * m)) k)
+pub lookups-cat : (h x m k : ℕ) → lookups h x (k + m) ≡ bitXor (steps (4 * k) (lookups h x m)) (lookups h (x / 2 ^ (4 * m)) k)
 unfolding lookups steps
 lookups-cat h x m zero =
     let e : zero + m ≡ m = omega arith in
@@ -185,3 +180,28 @@ two-words h hi lo f =
     ap₂ (λ (z w : ℕ). bitXor (steps 64 z) (lookups h w 16)) (sym (lookups-word h hi lo f 16 (omega arith))) (sym (high hi 64 f))
     ∙ sym (lookups-cat h (words hi lo) 16 16)
     ∙ lookups-mul h (words hi lo)
+
+-- ---- four lookups, one in each part
+
+entry-steps : (m h n : ℕ) → entry (steps m h) n ≡ steps m (entry h n)
+entry-steps m h n = sym (linear-mul (steps m) (steps-xor m) (steps-next m) (n * 2 ^ 124) h)
+
+pub four-parts : (h w : ℕ)
+    → bitXor (bitXor (bitXor (entry (steps 12 h) (w % 16)) (entry (steps 8 h) (w / 16 % 16))) (entry (steps 4 h) (w / 256 % 16))) (entry (steps 0 h) (w / 4096 % 16))
+    ≡ lookups h w 4
+unfolding lookups steps
+four-parts h w =
+    let a = entry h (w % 16) in
+    let b = entry h (w / 16 % 16) in
+    let c = entry h (w / 256 % 16) in
+    let d = entry h (w / 4096 % 16) in
+    let first : bitXor (steps 4 0) (entry h (w / 2 ^ (4 * 0) % 16)) ≡ a =
+    ap₂ (λ (z n : ℕ). bitXor z (entry h (n % 16))) (linear-zero (steps 4) (steps-xor 4)) (div-one w) ∙ xor-zero-l a in
+    ap (λ (z : ℕ). bitXor z d)
+    (ap₂ bitXor
+    (ap₂ bitXor (entry-steps 12 h (w % 16)) (entry-steps 8 h (w / 16 % 16))
+    ∙ sym (steps-xor 4 (steps 8 a) (steps 4 b))
+    ∙ ap (steps 4) (sym (steps-xor 4 (steps 4 a) b)))
+    (entry-steps 4 h (w / 256 % 16))
+    ∙ sym (steps-xor 4 (steps 4 (bitXor (steps 4 a) b)) c))
+    ∙ ap (λ (z : ℕ). bitXor (steps 4 (bitXor (steps 4 (bitXor (steps 4 z) b)) c)) d) (sym first)

@@ -48,7 +48,7 @@ pub fn write_element(out: &mut [u8], x: Element)
 }
 
 // GHASH from y on over the bytes of s, the last block filled up with zeros, with the table for the hash key.
-pub fn over(t: &[u64; 32], y: Element, s: &[u8]) -> Element
+pub fn over(t: &[u64; 128], y: Element, s: &[u8]) -> Element
     ensures { λ r. ⌜ ((h : ℕ) → TableFor (now (t .entry)) h → blockOf r ≡ ghashFrom h (blockOf y) (blocks (now (s .entry)))) ⌝ }
 {
     let n = (s.len() + 15) / 16;

@@ -1,11 +1,12 @@
-// The product with a hash key, four bits at a time, from a table of 16 entries that is built once for the key and lent down.
+// The product with a hash key, sixteen bits at a time, from a table that is built once for the key and lent down: the 16
+// entries for four bits, in four parts, for the key and its next 4, 8 and 12 steps. So four lookups need no shift between them.
 ghost use mathlib.Core.Path.{_≡_};
-ghost use Prim.Native.Nat.{ℕ, _*_, _/_, _%_, _^_, _≤_};
+ghost use Prim.Native.Nat.{ℕ, _+_, _*_, _/_, _%_, _^_, _<_, _≤_};
 ghost use lib.Bits.{bitXor};
 ghost use lib.ListN.{length};
 ghost use Rattle.ghash.specs.Field as field;
 ghost use Rattle.ghash.specs.Table as table;
-ghost use Rattle.ghash.specs.Table.{TableFor, Doubled, entry, steps};
+ghost use Rattle.ghash.specs.Table.{TableFor, Doubled, Made, entry, steps, lookups};
 ghost use Rattle.ghash.specs.Words.{blockOf, longOf};
 use super::Element;
 use super::add;
@@ -41,61 +42,107 @@ fn step64(v: Element) -> Element
     }
 }
 
-// The entries m to 2m - 1: those below them, each with v added.
-fn double(t: &mut [u64; 32], m: usize, v: Element)
-    requires { ⌜ length (now t) ≡ 32 ⌝ }
+// The entries from at + m to at + 2m - 1: those from at on, each with v added.
+fn double(t: &mut [u64; 128], at: usize, m: usize, v: Element)
+    requires { ⌜ length (now t) ≡ 128 ⌝ }
+    requires { ⌜ at ≤ 48 ⌝ }
     requires { ⌜ m ≤ 8 ⌝ }
-    ensures { λ _. ⌜ Doubled (now (t .entry)) (now (t .exit)) m (blockOf v) ⌝ }
+    ensures { λ _. ⌜ Doubled (now (t .entry)) (now (t .exit)) at m (blockOf v) ⌝ }
 {
     for n in 0..m {
+        let from = at + n;
         let e = add(
             Element {
-                hi: t[2 * n],
-                lo: t[2 * n + 1],
+                hi: t[2 * from],
+                lo: t[2 * from + 1],
             },
             v,
         );
-        t[2 * (m + n)] = e.hi;
-        t[2 * (m + n) + 1] = e.lo;
+        let to = at + m + n;
+        t[2 * to] = e.hi;
+        t[2 * to + 1] = e.lo;
     }
 }
 
-// The table for a hash key: the words of entry n are at 2n and behind it.
-pub fn table_of(h: Element) -> [u64; 32]
+// Part j, for v, which is the hash key after 4 * j steps; and v after four more.
+fn part(t: &mut [u64; 128], j: usize, v: Element) -> Element
+    requires { ⌜ length (now t) ≡ 128 ⌝ }
+    requires { ⌜ j < 4 ⌝ }
+    ensures { λ r. ⌜ ((h : ℕ) → blockOf v ≡ steps (4 * j) h → Made (now (t .entry)) h j → Made (now (t .exit)) h (j + 1)) ⌝ }
+    ensures { λ r. ⌜ blockOf r ≡ steps 4 (blockOf v) ⌝ }
+{
+    let v1 = next(v);
+    let v2 = next(v1);
+    let v3 = next(v2);
+    let at = 16 * j;
+    double(t, at, 1, v3);
+    double(t, at, 2, v2);
+    double(t, at, 4, v1);
+    double(t, at, 8, v);
+    next(v3)
+}
+
+// The table for a hash key: the words of entry n of part j are at 2 * (16 * j + n) and behind it.
+pub fn table_of(h: Element) -> [u64; 128]
     ensures { λ r. ⌜ TableFor r (blockOf h) ⌝ }
 {
-    let h4 = next(h);
-    let h2 = next(h4);
-    let h1 = next(h2);
-    let mut t = [0u64; 32];
-    double(&mut t, 1, h1);
-    double(&mut t, 2, h2);
-    double(&mut t, 4, h4);
-    double(&mut t, 8, h);
+    let mut t = [0u64; 128];
+    let mut v = h;
+    for j in 0..4 {
+        v = part(&mut t, j, v);
+    }
     t
 }
 
-// The entry for the last four bits of w.
-fn entry_at(t: &[u64; 32], w: u64) -> Element
-    ensures { λ r. ⌜ ((h : ℕ) → TableFor (now (t .entry)) h → blockOf r ≡ entry h (w % 16)) ⌝ }
+// The entry of part j for the last four bits of w.
+fn entry_at(t: &[u64; 128], j: usize, w: u64) -> Element
+    requires { ⌜ j < 4 ⌝ }
+    ensures { λ r. ⌜ ((h : ℕ) → TableFor (now (t .entry)) h → blockOf r ≡ entry (steps (4 * j) h) (w % 16)) ⌝ }
 {
-    let n = (w % 16) as usize;
+    let n = 16 * j + (w % 16) as usize;
     Element {
         hi: t[2 * n],
         lo: t[2 * n + 1],
     }
 }
 
-// One more lookup: four places on, and the entry for the last four bits of w. What is moved out is kept, to be reduced once.
-fn lookup(t: &[u64; 32], z: Long, w: u64) -> Long
-    ensures { λ r. ⌜ ((h : ℕ) → TableFor (now (t .entry)) h → longOf r ≡ bitXor (longOf z / 16) (entry h (w % 16) * 2 ^ 64)) ⌝ }
+// Four lookups, for the last 16 bits of w.
+fn four(t: &[u64; 128], w: u64) -> Element
+    ensures { λ r. ⌜ ((h : ℕ) → TableFor (now (t .entry)) h → blockOf r ≡ lookups h w 4) ⌝ }
 {
-    let e = entry_at(t, w);
+    let a = entry_at(t, 3, w);
+    let b = entry_at(t, 2, w / 0x10);
+    let c = entry_at(t, 1, w / 0x100);
+    let d = entry_at(t, 0, w / 0x1000);
+    add(add(add(a, b), c), d)
+}
+
+// Four lookups more: sixteen places on, and those for the last 16 bits of w. What is moved out is kept, to be reduced once.
+fn lookup(t: &[u64; 128], z: Long, w: u64) -> Long
+    ensures { λ r. ⌜ ((h : ℕ) → TableFor (now (t .entry)) h → longOf r ≡ bitXor (longOf z / 2 ^ 16) (lookups h w 4 * 2 ^ 64)) ⌝ }
+{
+    let e = four(t, w);
     Long {
-        hi: (z.hi / 16) ^ e.hi,
-        lo: (z.hi % 16 * 0x1000_0000_0000_0000 + z.lo / 16) ^ e.lo,
-        out: z.lo % 16 * 0x1000_0000_0000_0000 + z.out / 16,
+        hi: (z.hi / 0x1_0000) ^ e.hi,
+        lo: (z.hi % 0x1_0000 * 0x1_0000_0000_0000 + z.lo / 0x1_0000) ^ e.lo,
+        out: z.lo % 0x1_0000 * 0x1_0000_0000_0000 + z.out / 0x1_0000,
     }
+}
+
+// 4 * n lookups for a word, from its last four bits on.
+fn gather(t: &[u64; 128], w: u64, n: u64) -> Long
+    requires { ⌜ n ≤ 4 ⌝ }
+    ensures { λ r. ⌜ ((h : ℕ) → TableFor (now (t .entry)) h → longOf r ≡ table.gather h w n) ⌝ }
+{
+    let mut z = Long {
+        hi: 0,
+        lo: 0,
+        out: 0,
+    };
+    for k in 0..n {
+        z = lookup(t, z, w >> (16 * k));
+    }
+    z
 }
 
 // What 64 steps make of z.
@@ -111,27 +158,23 @@ fn reduce(z: Long) -> Element
     )
 }
 
-// n lookups for a word, from its last four bits on.
-fn gather(t: &[u64; 32], w: u64, n: u64) -> Long
-    requires { ⌜ n ≤ 16 ⌝ }
-    ensures { λ r. ⌜ ((h : ℕ) → TableFor (now (t .entry)) h → longOf r ≡ table.gather h w n) ⌝ }
+// z ⊕ e, the last bit of one at that of the other.
+fn add_behind(z: Long, e: Element) -> Long
+    ensures { λ r. ⌜ longOf r ≡ bitXor (longOf z) (blockOf e) ⌝ }
 {
-    let mut z = Long {
-        hi: 0,
-        lo: 0,
-        out: 0,
-    };
-    for k in 0..n {
-        z = lookup(t, z, w >> (4 * k));
+    Long {
+        hi: z.hi,
+        lo: z.lo ^ e.hi,
+        out: z.out ^ e.lo,
     }
-    z
 }
 
-// x • h by 32 lookups in the table for h. The words of x are looked up apart, so that neither waits for the other.
-pub fn mul(t: &[u64; 32], x: Element) -> Element
+// x • h by 32 lookups in the table for h. The words of x are looked up apart, so that neither waits for the other; the low
+// word's sum is 64 steps behind the high one's, and both are reduced together.
+pub fn mul(t: &[u64; 128], x: Element) -> Element
     ensures { λ r. ⌜ ((h : ℕ) → TableFor (now (t .entry)) h → blockOf r ≡ field.mul (blockOf x) h) ⌝ }
 {
-    let low = gather(t, x.lo, 16);
-    let high = gather(t, x.hi, 16);
-    add(step64(reduce(low)), reduce(high))
+    let low = gather(t, x.lo, 4);
+    let high = gather(t, x.hi, 4);
+    reduce(add_behind(high, reduce(low)))
 }

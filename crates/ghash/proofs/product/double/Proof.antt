@@ -1,4 +1,4 @@
--- The loop's invariant: n of the new entries are made, and those below m are as they were.
+-- The loop's invariant: n of the new entries are made, and all others are as they were.
 use mathlib.Core.Path.{_≡_}
 use Prim.Native.Nat.{_-_, _≤_}
 use native.Mathlib.Omega.{arith}
@@ -10,13 +10,13 @@ use Rattle.ghash.proofs.product.double.Statement.{statement}
 use Rattle.ghash.proofs.product.double.Tie as tie
 
 abbrev Inv-loop : tie.InvT-loop
-Inv-loop t₀ m v n₀ t n = (n ≤ m) × (length t ≡ 32) × Making t₀ t m (blockOf v) n
+Inv-loop t₀ at m v n₀ t n = (n ≤ m) × (length t ≡ 128) × Making t₀ t at m (blockOf v) n
 
 abbrev μ-loop : tie.MeasureT-loop
-μ-loop t₀ m v n₀ t n = m - n
+μ-loop t₀ at m v n₀ t n = m - n
 
 loop-holds : tie.Need-loop-holds Inv-loop μ-loop
-loop-holds c = (omega arith, search needs, making-none _ _ _)
+loop-holds c = (omega arith, search needs, making-none _ _ _ _)
 
 loop-again : tie.Need-loop-again Inv-loop μ-loop
 loop-again c =
@@ -25,13 +25,13 @@ loop-again c =
     let r = c .add .result in (
       omega arith,
       simp length-set (i .1),
-      making-more _ (l .loop .t) _ _ (l .loop .n) (r .hi) (r .lo) (i .1) (search needs) (omega arith) (i .2) (c .add .ensures),
+      making-more _ (l .loop .t) _ _ _ (l .loop .n) (r .hi) (r .lo) (i .1) (search needs) (search needs) (omega arith) (i .2) (c .add .ensures),
     )
 
 returns : tie.Need-returns Inv-loop μ-loop
 returns c =
     let l = c .before in
-    making-all _ (l .loop .t) _ _ (l .loop .n) (omega arith) (l .loop .inv .2)
+    making-all _ (l .loop .t) _ _ _ (l .loop .n) (omega arith) (l .loop .inv .2)
 
 pub double-spec : {M : Type 1} → statement M
 double-spec =
@@ -40,6 +40,7 @@ double-spec =
     Inv-loop
     μ-loop
     loop-holds
+    (λ c. omega arith)
     (λ c. omega arith)
     (λ c. omega arith)
     (λ c. omega arith)

@@ -5,12 +5,16 @@ use Rattle.ghash.proofs.product.entry_at.Statement.{statement}
 use Rattle.ghash.proofs.product.entry_at.Tie as tie
 
 returns : tie.Need-returns
-returns c = λ h t. let w = c .before .before .args .w in t .at (w % 16) (mod-lt w (zero-lt-suc 15))
+returns c = λ h t.
+    let a = c .before .before .args in
+    t .at (a .j) (search needs) (a .w % 16) (mod-lt (a .w) (zero-lt-suc 15))
 
 pub entry-at-spec : {M : Type 1} → statement M
 entry-at-spec =
     tie.close
     (tie.spec
+    (λ c. search needs)
+    (λ c. search needs)
     (λ c. search needs)
     (λ c. search needs)
     (λ c. search needs)

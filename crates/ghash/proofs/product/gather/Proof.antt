@@ -1,11 +1,11 @@
--- The loop's invariant: z is k lookups.
+-- The loop's invariant: z is 4 * k lookups.
 use mathlib.Core.Path.{_≡_, refl, sym, ap, _∙_}
-use Prim.Native.Nat.{ℕ, _-_, _*_, _/_, _%_, _^_, _≤_}
+use Prim.Native.Nat.{ℕ, _-_, _*_, _/_, _^_, _≤_}
 use native.Mathlib.Numerals.{add-one}
 use native.Mathlib.Omega.{arith}
 use borrow.Author.Needs.{needs}
 use lib.Bits.{bitXor}
-use Rattle.ghash.specs.Table.{TableFor, entry, gather}
+use Rattle.ghash.specs.Table.{TableFor, lookups, gather}
 use Rattle.ghash.specs.Words.{longOf}
 use Rattle.ghash.proofs.product.gather.Statement.{statement}
 use Rattle.ghash.proofs.product.gather.Tie as tie
@@ -29,7 +29,7 @@ loop-again c =
       omega arith,
       λ h t.
           c .lookup .ensures h t
-          ∙ ap (λ (z : ℕ). bitXor (z / 16) (entry h (w / 2 ^ (4 * k) % 16) * 2 ^ 64)) (l .loop .inv .1 h t)
+          ∙ ap (λ (z : ℕ). bitXor (z / 2 ^ 16) (lookups h (w / 2 ^ (16 * k)) 4 * 2 ^ 64)) (l .loop .inv .1 h t)
           ∙ ap (gather h w) (sym (add-one k)),
     )
 

@@ -22,10 +22,10 @@ returns c = λ h t.
     let k4 = c .before .before .before in
     let e = k4 .before .before .before .before in
     let z = e .before .args .z in
-    let r = e .entry-at .result in
+    let r = e .four .result in
     lookup-words (z .hi) (z .lo) (z .out) (r .hi) (r .lo)
     (k4 .struct-known4 .given .1 .0 .fits) (c .struct-known7 .given .1 .1 .0 .fits) (c .before .before .struct-known5 .given .1 .0 .fits)
-    ∙ ap (λ (v : ℕ). bitXor (longOf z / 16) (v * 2 ^ 64)) (e .entry-at .ensures h t)
+    ∙ ap (λ (v : ℕ). bitXor (longOf z / 2 ^ 16) (v * 2 ^ 64)) (e .four .ensures h t)
 
 pub lookup-spec : {M : Type 1} → statement M
 lookup-spec = tie.close (tie.spec (λ c κs. search needs) (λ c. search needs) add-t10 (λ c. search needs) add-t15 returns)

@@ -1,28 +1,48 @@
-use mathlib.Core.Path.{refl}
+-- The loop's invariant: j parts are made, and v is the hash key after 4 * j steps.
+use mathlib.Core.Path.{_≡_, refl, ap, _∙_}
+use Prim.Native.Nat.{_-_, _*_, _≤_}
+use native.Mathlib.Omega.{arith}
 use borrow.Author.Needs.{needs}
-use Rattle.ghash.proofs.DoubledLaws.{table-right}
+use Rattle.ghash.specs.Table.{Made, steps}
+use Rattle.ghash.specs.Words.{blockOf}
+use Rattle.ghash.proofs.DoubledLaws.{made-zeros, made-all}
+use Rattle.ghash.proofs.StepLaws.{steps-more}
 use Rattle.ghash.proofs.product.table_of.Statement.{statement}
 use Rattle.ghash.proofs.product.table_of.Tie as tie
 
-returns : tie.Need-returns
+abbrev Inv-loop : tie.InvT-loop
+Inv-loop t₀ v₀ j₀ t v j = (j ≤ 4) × (blockOf v ≡ steps (4 * j) (blockOf v₀)) × Made t (blockOf v₀) j
+
+abbrev μ-loop : tie.MeasureT-loop
+μ-loop t₀ v₀ j₀ t v j = 4 - j
+
+loop-holds : tie.Need-loop-holds Inv-loop μ-loop
+unfolding steps
+loop-holds c = (omega arith, refl, made-zeros _)
+
+loop-again : tie.Need-loop-again Inv-loop μ-loop
+loop-again c =
+    let l = c .before .before .before in
+    let i = l .loop .inv in (
+      omega arith,
+      c .part .ensures .1 ∙ ap (steps 4) (i .1) ∙ steps-more 4 (l .loop .j) _,
+      c .part .ensures .0 _ (i .1) (i .2),
+    )
+
+returns : tie.Need-returns Inv-loop μ-loop
 returns c =
-    let d3 = c .before .before in
-    let d2 = d3 .before .before in
-    let d1 = d2 .before .before in
-    let n3 = d1 .before .before in
-    let n2 = n3 .before in
-    table-right _ _ _ _ _ _ _ _ _ (n2 .before .next .ensures) (n2 .next2 .ensures) (n3 .next3 .ensures) refl refl
-    (d1 .double .ensures) (d2 .double2 .ensures) (d3 .double3 .ensures) (c .double4 .ensures)
+    let l = c .before in
+    made-all _ _ (l .loop .j) (omega arith) (l .loop .inv .2)
 
 pub table-of-spec : {M : Type 1} → statement M
 table-of-spec =
     tie.close
     (tie.spec
-    (λ c κs. search needs)
-    (λ c κs. search needs)
-    (λ c κs. search needs)
-    (λ c κs. search needs)
-    (λ c κs. search needs)
-    (λ c κs. search needs)
-    (λ c κs. search needs)
+    Inv-loop
+    μ-loop
+    loop-holds
+    (λ c κs. (c .before .before .loop .inv .2 .size, omega arith))
+    (λ c. omega arith)
+    (λ c. omega arith)
+    loop-again
     returns)

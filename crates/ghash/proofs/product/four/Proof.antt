@@ -1,0 +1,34 @@
+use mathlib.Core.Path.{ap, ap₂, _∙_}
+use borrow.Author.Needs.{needs}
+use lib.Bits.{bitXor}
+use Rattle.ghash.proofs.TableLaws.{four-parts}
+use Rattle.ghash.proofs.product.four.Statement.{statement}
+use Rattle.ghash.proofs.product.four.Tie as tie
+
+returns : tie.Need-returns
+returns c = λ h t.
+    let d = c .before .before .before in
+    let e = d .before in
+    let b = e .before in
+    let a = b .before in
+    c .add3 .ensures
+    ∙ ap₂ bitXor
+    (c .before .add2 .ensures
+    ∙ ap₂ bitXor
+    (c .before .before .add .ensures ∙ ap₂ bitXor (a .entry-at .ensures h t) (b .entry-at2 .ensures h t))
+    (e .entry-at3 .ensures h t))
+    (d .entry-at4 .ensures h t)
+    ∙ four-parts h (a .before .args .w)
+
+pub four-spec : {M : Type 1} → statement M
+four-spec =
+    tie.close
+    (tie.spec
+    (λ c κs. search needs)
+    (λ c κs. search needs)
+    (λ c κs. search needs)
+    (λ c κs. search needs)
+    (λ c κs. search needs)
+    (λ c κs. search needs)
+    (λ c κs. search needs)
+    returns)
