@@ -3,8 +3,8 @@
 use mathlib.Core.Path.{_≡_, sym, ap, ap₂, _∙_, subst}
 use mathlib.Core.Bool.{Bool}
 use mathlib.Core.List.{List, [], _∷_, _++_}
-use Prim.Native.Nat.{ℕ, _+_, _-_, _*_, _≤_}
-use native.Mathlib.Nat.{zero-add}
+use Prim.Native.Nat.{ℕ, _+_, _-_, _*_, _^_, _<_, _≤_}
+use native.Mathlib.Nat.{zero-add, lt-of-le-of-lt}
 use native.Mathlib.Omega.{arith}
 use lib.Bits.{bitXor}
 use lib.Dec.{T, lit<}
@@ -22,7 +22,7 @@ use Rattle.ctr.specs.Gctr.{inc32, gctr, counterBlock}
 use Rattle.ctr.proofs.CounterLaws.{counter-next}
 use Rattle.ctr.proofs.GctrLaws.{length-gctr, gctr-twice}
 use Rattle.gcm.specs.Gcm.{hashKey, j0, hashed, tag, crypt, seal, textOf, tagOf, Authentic, opened}
-use Rattle.gcm.specs.Keyed.{authentic}
+use Rattle.gcm.specs.Keyed.{maxText, authentic}
 
 -- ---- the hash
 
@@ -30,6 +30,12 @@ pub hash-law : (h y : ℕ) (c : List ℕ) → y ≡ ghashFrom h 0 (blocks c) →
 unfolding hashed ghash
 hash-law h y c e =
     ap₂ (λ (a b : ℕ). mul (bitXor a b) h) e (zero-add (8 * length c)) ∙ sym (ghash-snoc h 0 (blocks c) (8 * length c))
+
+-- the block of lengths is one
+pub bits-lt : (n : ℕ) → n ≤ maxText → words 0 (8 * n) < 2 ^ 128
+bits-lt n l =
+    let b : words 0 (8 * n) ≤ 8 * maxText = omega arith in
+    lt-of-le-of-lt b (lit< tt)
 
 -- ---- sealing and opening
 

@@ -27,10 +27,11 @@ fn hashed(h: Element, c: &[u8]) -> Element
     requires { ⌜ length (now c) ≤ maxText ⌝ }
     ensures { λ r. ⌜ blockOf r ≡ spec.hashed (blockOf h) (now (c .entry)) ⌝ }
 {
-    let t = ghash::product::table_of(h);
+    let mut t = [0u64; 128];
+    ghash::product::write_table(&mut t, h);
     let y = ghash::over(&t, Element { hi: 0, lo: 0 }, c);
     let bits = 8 * c.len() as u64;
-    ghash::product::mul(&t, ghash::add(y, Element { hi: 0, lo: bits }))
+    ghash::over(&t, y, &element_bytes(Element { hi: 0, lo: bits }))
 }
 
 // The bytes of a block.

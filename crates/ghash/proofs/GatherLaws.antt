@@ -3,6 +3,7 @@
 use mathlib.Core.Path.{_≡_, refl, sym, ap, ap₂, _∙_}
 use Prim.Native.Nat.{ℕ, zero, suc, _+_, _*_, _/_, _%_, _^_, _<_}
 use native.Mathlib.Nat.{add-zero, zero-add, zero-mul, mul-assoc, mul-mod-left, div-add-mod'}
+use native.Mathlib.Numerals.{add-one}
 use native.Mathlib.Omega.{arith}
 use lib.Pow.{pow-pos, pow-add, field, mod-mod-pow}
 use lib.Bits.{bitXor, xor-comm, xor-zero-r, xor-block, xor-mod}
@@ -11,6 +12,11 @@ use Rattle.ghash.specs.Table.{steps, lookups, gather}
 use Rattle.ghash.specs.Words.{words}
 use Rattle.ghash.proofs.StepLaws.{steps-xor, steps-exact, steps-swap}
 use Rattle.ghash.proofs.TableLaws.{lookups-cat, two-words}
+
+-- four lookups more
+pub gather-more : (h x k : ℕ) {z : ℕ} → z ≡ gather h x k → bitXor (z / 2 ^ 16) (lookups h (x / 2 ^ (16 * k)) 4 * 2 ^ 64) ≡ gather h x (k + 1)
+unfolding gather
+gather-more h x k e = ap (λ (g : ℕ). bitXor (g / 2 ^ 16) (lookups h (x / 2 ^ (16 * k)) 4 * 2 ^ 64)) e ∙ ap (gather h x) (sym (add-one k))
 
 module _ (h x : ℕ) where
   -- nothing is lost: what the next move shifts out is 0
@@ -75,10 +81,10 @@ last16 hi lo = omega arith
 pub rest-lt : (hi lo : ℕ) → lo < 2 ^ 64 → hi % 2 ^ 16 * 2 ^ 48 + lo / 2 ^ 16 < 2 ^ 64
 rest-lt hi lo h = omega arith
 
-pub lookup-words : (hi lo out eh el : ℕ) → lo < 2 ^ 64 → out < 2 ^ 64 → el < 2 ^ 64
+pub moved-words : (hi lo out eh el : ℕ) → lo < 2 ^ 64 → out < 2 ^ 64 → el < 2 ^ 64
     → words (words (bitXor (hi / 2 ^ 16) eh) (bitXor (hi % 2 ^ 16 * 2 ^ 48 + lo / 2 ^ 16) el)) (lo % 2 ^ 16 * 2 ^ 48 + out / 2 ^ 16)
     ≡ bitXor (words (words hi lo) out / 2 ^ 16) (words eh el * 2 ^ 64)
-lookup-words hi lo out eh el l o e =
+moved-words hi lo out eh el l o e =
     let mid = hi % 2 ^ 16 * 2 ^ 48 + lo / 2 ^ 16 in
     let end = lo % 2 ^ 16 * 2 ^ 48 + out / 2 ^ 16 in
     let moved : words (words hi lo) out / 2 ^ 16 ≡ words (words (hi / 2 ^ 16) mid) end =

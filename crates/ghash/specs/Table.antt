@@ -1,7 +1,7 @@
 -- The product sixteen bits at a time, from four parts of 16 entries for the hash key.
 use mathlib.Core.Path.{_≡_}
 use mathlib.Core.List.{List}
-use Prim.Native.Nat.{ℕ, zero, suc, _+_, _*_, _/_, _%_, _^_, _<_, _≤_}
+use Prim.Native.Nat.{ℕ, zero, suc, _+_, _*_, _/_, _%_, _^_, _<_}
 use lib.Bits.{bitXor}
 use lib.ListN.{length, getD}
 use Rattle.ghash.specs.Field.{next, mul}
@@ -40,10 +40,8 @@ pub record Doubled (t u : List ℕ) (at m v : ℕ) : Type 0 where
   pub size : length u ≡ length t
   pub below : (n : ℕ) → n < at + m → entryIn u n ≡ entryIn t n
   pub above : (n : ℕ) → n < m → entryIn u (at + m + n) ≡ bitXor (entryIn t (at + n)) v
-  pub beyond : (n : ℕ) → at + m + m ≤ n → entryIn u n ≡ entryIn t n
 
--- the first k parts are made, and all behind them is 0
+-- the first k parts are made
 pub record Made (t : List ℕ) (h k : ℕ) : Type 0 where
   pub size : length t ≡ 128
   pub at : (j : ℕ) → j < k → (n : ℕ) → n < 16 → entryIn t (16 * j + n) ≡ entry (steps (4 * j) h) n
-  pub rest : (n : ℕ) → 16 * k ≤ n → n < 64 → entryIn t n ≡ 0

@@ -63,6 +63,7 @@ pub fn over(t: &[u64; 128], y: Element, s: &[u8]) -> Element
 pub fn ghash(h: Element, y: Element, s: &[u8]) -> Element
     ensures { λ r. ⌜ blockOf r ≡ ghashFrom (blockOf h) (blockOf y) (blocks (now (s .entry))) ⌝ }
 {
-    let t = product::table_of(h);
+    let mut t = [0u64; 128];
+    product::write_table(&mut t, h);
     over(&t, y, s)
 }

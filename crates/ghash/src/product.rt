@@ -3,7 +3,7 @@
 ghost use mathlib.Core.Path.{_≡_};
 ghost use Prim.Native.Nat.{ℕ, _+_, _*_, _/_, _%_, _^_, _<_, _≤_};
 ghost use lib.Bits.{bitXor};
-ghost use lib.ListN.{length};
+ghost use lib.ListN.{length, set};
 ghost use Rattle.ghash.specs.Field as field;
 ghost use Rattle.ghash.specs.Table as table;
 ghost use Rattle.ghash.specs.Table.{TableFor, Doubled, Made, entry, steps, lookups};
@@ -16,6 +16,12 @@ struct Long {
     hi: u64,
     lo: u64,
     out: u64,
+}
+
+// What is looked up for the two words of an element.
+struct Sums {
+    high: Long,
+    low: Long,
 }
 
 // v >> 1, and ⊕ R where the last bit of v is 1.
@@ -42,6 +48,17 @@ fn step64(v: Element) -> Element
     }
 }
 
+// Writes the words of entry n.
+fn set_entry(t: &mut [u64; 128], n: usize, e: Element)
+    requires { ⌜ length (now t) ≡ 128 ⌝ }
+    requires { ⌜ n < 64 ⌝ }
+    ensures { λ _. ⌜ now (t .exit) ≡ set (set (now (t .entry)) (2 * n) (e .hi)) (2 * n + 1) (e .lo) ⌝ }
+    ensures { λ _. ⌜ length (now (t .exit)) ≡ length (now (t .entry)) ⌝ }
+{
+    t[2 * n] = e.hi;
+    t[2 * n + 1] = e.lo;
+}
+
 // The entries from at + m to at + 2m - 1: those from at on, each with v added.
 fn double(t: &mut [u64; 128], at: usize, m: usize, v: Element)
     requires { ⌜ length (now t) ≡ 128 ⌝ }
@@ -58,9 +75,7 @@ fn double(t: &mut [u64; 128], at: usize, m: usize, v: Element)
             },
             v,
         );
-        let to = at + m + n;
-        t[2 * to] = e.hi;
-        t[2 * to + 1] = e.lo;
+        set_entry(t, at + m + n, e);
     }
 }
 
@@ -75,6 +90,7 @@ fn part(t: &mut [u64; 128], j: usize, v: Element) -> Element
     let v2 = next(v1);
     let v3 = next(v2);
     let at = 16 * j;
+    set_entry(t, at, Element { hi: 0, lo: 0 });
     double(t, at, 1, v3);
     double(t, at, 2, v2);
     double(t, at, 4, v1);
@@ -82,16 +98,15 @@ fn part(t: &mut [u64; 128], j: usize, v: Element) -> Element
     next(v3)
 }
 
-// The table for a hash key: the words of entry n of part j are at 2 * (16 * j + n) and behind it.
-pub fn table_of(h: Element) -> [u64; 128]
-    ensures { λ r. ⌜ TableFor r (blockOf h) ⌝ }
+// The table for a hash key: the words of entry n of part j go to 2 * (16 * j + n) and behind it.
+pub fn write_table(t: &mut [u64; 128], h: Element)
+    requires { ⌜ length (now t) ≡ 128 ⌝ }
+    ensures { λ _. ⌜ TableFor (now (t .exit)) (blockOf h) ⌝ }
 {
-    let mut t = [0u64; 128];
     let mut v = h;
     for j in 0..4 {
-        v = part(&mut t, j, v);
+        v = part(t, j, v);
     }
-    t
 }
 
 // The entry of part j for the last four bits of w.
@@ -117,11 +132,10 @@ fn four(t: &[u64; 128], w: u64) -> Element
     add(add(add(a, b), c), d)
 }
 
-// Four lookups more: sixteen places on, and those for the last 16 bits of w. What is moved out is kept, to be reduced once.
-fn lookup(t: &[u64; 128], z: Long, w: u64) -> Long
-    ensures { λ r. ⌜ ((h : ℕ) → TableFor (now (t .entry)) h → longOf r ≡ bitXor (longOf z / 2 ^ 16) (lookups h w 4 * 2 ^ 64)) ⌝ }
+// z sixteen places on, and e. What is moved out is kept, to be reduced once.
+fn moved(z: Long, e: Element) -> Long
+    ensures { λ r. ⌜ longOf r ≡ bitXor (longOf z / 2 ^ 16) (blockOf e * 2 ^ 64) ⌝ }
 {
-    let e = four(t, w);
     Long {
         hi: (z.hi / 0x1_0000) ^ e.hi,
         lo: (z.hi % 0x1_0000 * 0x1_0000_0000_0000 + z.lo / 0x1_0000) ^ e.lo,
@@ -129,20 +143,37 @@ fn lookup(t: &[u64; 128], z: Long, w: u64) -> Long
     }
 }
 
-// 4 * n lookups for a word, from its last four bits on.
-fn gather(t: &[u64; 128], w: u64, n: u64) -> Long
-    requires { ⌜ n ≤ 4 ⌝ }
-    ensures { λ r. ⌜ ((h : ℕ) → TableFor (now (t .entry)) h → longOf r ≡ table.gather h w n) ⌝ }
+// Four lookups more for each word of x, from its bit at 16 * k on.
+fn lookup(t: &[u64; 128], x: Element, s: Sums, k: u64) -> Sums
+    requires { ⌜ k < 4 ⌝ }
+    ensures { λ r. ⌜ ((h : ℕ) → TableFor (now (t .entry)) h → longOf (r .high) ≡ bitXor (longOf (s .high) / 2 ^ 16) (lookups h (x .hi / 2 ^ (16 * k)) 4 * 2 ^ 64)) ⌝ }
+    ensures { λ r. ⌜ ((h : ℕ) → TableFor (now (t .entry)) h → longOf (r .low) ≡ bitXor (longOf (s .low) / 2 ^ 16) (lookups h (x .lo / 2 ^ (16 * k)) 4 * 2 ^ 64)) ⌝ }
 {
-    let mut z = Long {
+    Sums {
+        high: moved(s.high, four(t, x.hi >> (16 * k))),
+        low: moved(s.low, four(t, x.lo >> (16 * k))),
+    }
+}
+
+// 16 lookups for each word of x, from its last four bits on. The words are looked up apart, so that neither waits for the
+// other, and in one function, so that their sums stay in registers.
+fn gather(t: &[u64; 128], x: Element) -> Sums
+    ensures { λ r. ⌜ ((h : ℕ) → TableFor (now (t .entry)) h → longOf (r .high) ≡ table.gather h (x .hi) 4) ⌝ }
+    ensures { λ r. ⌜ ((h : ℕ) → TableFor (now (t .entry)) h → longOf (r .low) ≡ table.gather h (x .lo) 4) ⌝ }
+{
+    let none = Long {
         hi: 0,
         lo: 0,
         out: 0,
     };
-    for k in 0..n {
-        z = lookup(t, z, w >> (16 * k));
+    let mut s = Sums {
+        high: none,
+        low: none,
+    };
+    for k in 0..4 {
+        s = lookup(t, x, s, k);
     }
-    z
+    s
 }
 
 // What 64 steps make of z.
@@ -169,12 +200,11 @@ fn add_behind(z: Long, e: Element) -> Long
     }
 }
 
-// x • h by 32 lookups in the table for h. The words of x are looked up apart, so that neither waits for the other; the low
-// word's sum is 64 steps behind the high one's, and both are reduced together.
+// x • h by 32 lookups in the table for h. The low word's sum is 64 steps behind the high one's, and both are reduced
+// together.
 pub fn mul(t: &[u64; 128], x: Element) -> Element
     ensures { λ r. ⌜ ((h : ℕ) → TableFor (now (t .entry)) h → blockOf r ≡ field.mul (blockOf x) h) ⌝ }
 {
-    let low = gather(t, x.lo, 4);
-    let high = gather(t, x.hi, 4);
-    reduce(add_behind(high, reduce(low)))
+    let s = gather(t, x);
+    reduce(add_behind(s.high, reduce(s.low)))
 }

@@ -1,21 +1,25 @@
 use mathlib.Core.Path.{ap, _∙_}
-use Prim.Native.Nat.{ℕ}
+use mathlib.Core.List.{List}
 use borrow.Author.Needs.{needs}
-use Rattle.ghash.specs.Field.{mul}
+use lib.ListN.{length}
+use Rattle.ghash.specs.Ghash.{blocks, ghashFrom}
 use Rattle.ghash.specs.Words.{blockOf}
-use Rattle.gcm.proofs.GcmLaws.{hash-law}
+use Rattle.ghash.proofs.GhashLaws.{ghash-block}
+use Rattle.gcm.proofs.GcmLaws.{hash-law, bits-lt}
 use Rattle.gcm.proofs.hashed.Statement.{statement}
 use Rattle.gcm.proofs.hashed.Tie as tie
 
 returns : tie.Need-returns
 returns c =
-    let y = c .before .before .before in
+    let e = c .before .before in
+    let y = e .before .before in
     let t = y .before .before in
-    let a = t .before .before .args in
+    let a = t .before .before .before .args in
     let h = blockOf (a .h) in
-    c .mul .ensures h (t .table-of .ensures)
-    ∙ ap (λ (x : ℕ). mul x h) (c .before .add .ensures)
-    ∙ hash-law h _ (a .c .now) (y .over .ensures h (t .table-of .ensures))
+    c .over2 .ensures h (t .write-table .ensures)
+    ∙ ap (λ (s : List _). ghashFrom h (blockOf (y .over .result)) (blocks s)) (e .element-bytes .ensures)
+    ∙ ghash-block h (blockOf (y .over .result)) _ (bits-lt (length (a .c .now)) (search needs))
+    ∙ hash-law h _ (a .c .now) (y .over .ensures h (t .write-table .ensures))
 
 pub hashed-spec : {M : Type 1} → statement M
 hashed-spec =
@@ -25,5 +29,6 @@ hashed-spec =
     (λ c κs. search needs)
     (λ c. search needs)
     (λ c κs. search needs)
+    (λ c. search needs)
     (λ c κs. search needs)
     returns)

@@ -1,9 +1,9 @@
--- The loop's invariant: n of the new entries are made, and all others are as they were.
-use mathlib.Core.Path.{_≡_}
+-- The loop's invariant: n of the new entries are made, and those before them are as they were.
+use mathlib.Core.Path.{_≡_, _∙_}
 use Prim.Native.Nat.{_-_, _≤_}
 use native.Mathlib.Omega.{arith}
 use borrow.Author.Needs.{needs}
-use lib.ListN.{length, length-set}
+use lib.ListN.{length}
 use Rattle.ghash.specs.Words.{blockOf}
 use Rattle.ghash.proofs.DoubledLaws.{Making, making-none, making-more, making-all}
 use Rattle.ghash.proofs.product.double.Statement.{statement}
@@ -20,12 +20,13 @@ loop-holds c = (omega arith, search needs, making-none _ _ _ _)
 
 loop-again : tie.Need-loop-again Inv-loop μ-loop
 loop-again c =
-    let l = c .before .before .before .before in
+    let a = c .before .before in
+    let l = a .before .before .before .before in
     let i = l .loop .inv in
-    let r = c .add .result in (
+    let r = a .add .result in (
       omega arith,
-      simp length-set (i .1),
-      making-more _ (l .loop .t) _ _ _ (l .loop .n) (r .hi) (r .lo) (i .1) (search needs) (search needs) (omega arith) (i .2) (c .add .ensures),
+      c .set-entry .ensures .1 ∙ i .1,
+      making-more _ (l .loop .t) _ _ _ _ (l .loop .n) (r .hi) (r .lo) (i .1) (search needs) (search needs) (omega arith) (i .2) (a .add .ensures) (c .set-entry .ensures .0),
     )
 
 returns : tie.Need-returns Inv-loop μ-loop
@@ -51,13 +52,7 @@ double-spec =
     (λ c κs. search needs)
     (λ c. omega arith)
     (λ c. omega arith)
-    (λ c. omega arith)
-    (λ c. omega arith)
-    (λ c. omega arith)
-    (λ c. omega arith)
-    (λ c. omega arith)
-    (λ c. omega arith)
-    (λ c. omega arith)
+    (λ c κs. search needs)
     (λ c. omega arith)
     (λ c. omega arith)
     loop-again

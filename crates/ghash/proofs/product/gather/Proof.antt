@@ -1,4 +1,4 @@
--- The loop's invariant: z is 4 * k lookups.
+-- The loop's invariant: s holds 4 * k lookups for each word.
 use mathlib.Core.Path.{_≡_, refl, sym, ap, _∙_}
 use Prim.Native.Nat.{ℕ, _-_, _*_, _/_, _^_, _≤_}
 use native.Mathlib.Numerals.{add-one}
@@ -7,38 +7,39 @@ use borrow.Author.Needs.{needs}
 use lib.Bits.{bitXor}
 use Rattle.ghash.specs.Table.{TableFor, lookups, gather}
 use Rattle.ghash.specs.Words.{longOf}
+use Rattle.ghash.proofs.GatherLaws.{gather-more}
 use Rattle.ghash.proofs.product.gather.Statement.{statement}
 use Rattle.ghash.proofs.product.gather.Tie as tie
 
 abbrev Inv-loop : tie.InvT-loop
-Inv-loop t w n z₀ k₀ z k = (k ≤ n) × ((h : ℕ) → TableFor t h → longOf z ≡ gather h w k)
+Inv-loop t x s₀ k₀ s k =
+    (k ≤ 4) × ((h : ℕ) → TableFor t h → longOf (s .high) ≡ gather h (x .hi) k) × ((h : ℕ) → TableFor t h → longOf (s .low) ≡ gather h (x .lo) k)
 
 abbrev μ-loop : tie.MeasureT-loop
-μ-loop t w n z₀ k₀ z k = n - k
+μ-loop t x s₀ k₀ s k = 4 - k
 
 loop-holds : tie.Need-loop-holds Inv-loop μ-loop
 unfolding gather
-loop-holds c = (omega arith, λ h t. refl)
+loop-holds c = (omega arith, λ h t. refl, λ h t. refl)
 
 loop-again : tie.Need-loop-again Inv-loop μ-loop
-unfolding gather
 loop-again c =
     let l = c .before .before in
-    let w = l .before .args .w in
+    let i = l .loop .inv in
     let k = l .loop .k in (
       omega arith,
-      λ h t.
-          c .lookup .ensures h t
-          ∙ ap (λ (z : ℕ). bitXor (z / 2 ^ 16) (lookups h (w / 2 ^ (16 * k)) 4 * 2 ^ 64)) (l .loop .inv .1 h t)
-          ∙ ap (gather h w) (sym (add-one k)),
+      λ h t. c .lookup .ensures .0 h t ∙ gather-more h _ k (i .1 h t),
+      λ h t. c .lookup .ensures .1 h t ∙ gather-more h _ k (i .2 h t),
     )
 
 returns : tie.Need-returns Inv-loop μ-loop
-returns c = λ h t.
+returns c =
     let l = c .before in
-    let a = l .before .args in
-    let e : l .loop .k ≡ a .n = omega arith in
-    l .loop .inv .1 h t ∙ ap (gather h (a .w)) e
+    let i = l .loop .inv in
+    let e : l .loop .k ≡ 4 = omega arith in (
+      λ h t. i .1 h t ∙ ap (gather h _) e,
+      λ h t. i .2 h t ∙ ap (gather h _) e,
+    )
 
 pub gather-spec : {M : Type 1} → statement M
 gather-spec =
@@ -47,8 +48,6 @@ gather-spec =
     Inv-loop
     μ-loop
     loop-holds
-    (λ c. omega arith)
-    (λ c. omega arith)
     (λ c κs. search needs)
     (λ c. omega arith)
     (λ c. omega arith)

@@ -11,22 +11,14 @@ returns : tie.Need-returns
 returns c = λ h t.
     let sum = c .before in
     let low = sum .before in
-    let high = low .before in
-    let start = high .before .before in
+    let both = low .before in
+    let start = both .before in
     let x = start .args .x in
     c .reduce2 .ensures
     ∙ ap (steps 64)
     (sum .add-behind .ensures
-    ∙ ap₂ bitXor (high .gather2 .ensures h t) (low .reduce .ensures ∙ ap (steps 64) (high .before .gather .ensures h t)))
+    ∙ ap₂ bitXor (both .gather .ensures .0 h t) (low .reduce .ensures ∙ ap (steps 64) (both .gather .ensures .1 h t)))
     ∙ joined h (x .hi) (x .lo) (omega (arith, start .good))
 
 pub mul-spec : {M : Type 1} → statement M
-mul-spec =
-    tie.close
-    (tie.spec
-    (λ c κs. search needs)
-    (λ c κs. search needs)
-    (λ c κs. search needs)
-    (λ c κs. search needs)
-    (λ c κs. search needs)
-    returns)
+mul-spec = tie.close (tie.spec (λ c κs. search needs) (λ c κs. search needs) (λ c κs. search needs) (λ c κs. search needs) returns)

@@ -5,10 +5,10 @@ use native.Mathlib.Omega.{arith}
 use borrow.Author.Needs.{needs}
 use Rattle.ghash.specs.Table.{Made, steps}
 use Rattle.ghash.specs.Words.{blockOf}
-use Rattle.ghash.proofs.DoubledLaws.{made-zeros, made-all}
+use Rattle.ghash.proofs.DoubledLaws.{made-none, made-all}
 use Rattle.ghash.proofs.StepLaws.{steps-more}
-use Rattle.ghash.proofs.product.table_of.Statement.{statement}
-use Rattle.ghash.proofs.product.table_of.Tie as tie
+use Rattle.ghash.proofs.product.write_table.Statement.{statement}
+use Rattle.ghash.proofs.product.write_table.Tie as tie
 
 abbrev Inv-loop : tie.InvT-loop
 Inv-loop t₀ v₀ j₀ t v j = (j ≤ 4) × (blockOf v ≡ steps (4 * j) (blockOf v₀)) × Made t (blockOf v₀) j
@@ -18,7 +18,7 @@ abbrev μ-loop : tie.MeasureT-loop
 
 loop-holds : tie.Need-loop-holds Inv-loop μ-loop
 unfolding steps
-loop-holds c = (omega arith, refl, made-zeros _)
+loop-holds c = (omega arith, refl, made-none _ _ (search needs))
 
 loop-again : tie.Need-loop-again Inv-loop μ-loop
 loop-again c =
@@ -34,8 +34,8 @@ returns c =
     let l = c .before in
     made-all _ _ (l .loop .j) (omega arith) (l .loop .inv .2)
 
-pub table-of-spec : {M : Type 1} → statement M
-table-of-spec =
+pub write-table-spec : {M : Type 1} → statement M
+write-table-spec =
     tie.close
     (tie.spec
     Inv-loop
