@@ -54,7 +54,7 @@ fn round(t: &[u32; 256], s: Block, k: Block) -> Block
     )
 }
 
-fn final_round(sbox: &[u8; 256], s: Block, k: Block) -> Block
+pub fn final_round(sbox: &[u8; 256], s: Block, k: Block) -> Block
     requires { ⌜ IsTable sBox (now sbox) ⌝ }
     ensures { λ r. ⌜ blockBytes r ≡ shiftRows (subBytes (blockBytes s)) ⊞ blockBytes k ⌝ }
 {

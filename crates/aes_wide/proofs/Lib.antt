@@ -1,0 +1,2 @@
+pub mod WideLaws
+pub mod ResumeLaws
