@@ -90,3 +90,43 @@ module _ (t w : List ℕ) (p : Wide t) where
       ∙ two-rounds (stateOf a b c d) (stateOf y fb fc fd) _
       (round-bytes t p a b c d (getD w 4 0) (getD w 5 0) (getD w 6 0) (getD w 7 0))
       (round-bytes t p y fb fc fd (getD w 8 0) (getD w 9 0) (getD w 10 0) (getD w 11 0))
+
+-- ---- the last byte does not matter
+
+module _ (t : List ℕ) (d e : ℕ) (low : d % 2 ^ 24 ≡ e % 2 ^ 24) where
+  part0-same : part t 0 d ≡ part t 0 e
+  part0-same =
+      let q : d / 2 ^ (8 * 0) % 256 ≡ e / 2 ^ (8 * 0) % 256 = omega arith in
+      ap (λ (x : ℕ). getD t (256 * 0 + x) 0) q
+
+  part1-same : part t 1 d ≡ part t 1 e
+  part1-same =
+      let q : d / 2 ^ (8 * 1) % 256 ≡ e / 2 ^ (8 * 1) % 256 = omega arith in
+      ap (λ (x : ℕ). getD t (256 * 1 + x) 0) q
+
+  part2-same : part t 2 d ≡ part t 2 e
+  part2-same =
+      let q : d / 2 ^ (8 * 2) % 256 ≡ e / 2 ^ (8 * 2) % 256 = omega arith in
+      ap (λ (x : ℕ). getD t (256 * 2 + x) 0) q
+
+  module _ (w : List ℕ) (a b c : ℕ) where
+    b-same : firstB t w a b c d ≡ firstB t w a b c e
+    unfolding firstB columnOf
+    b-same = λ i. bitXor (bitXor (bitXor (bitXor (part t 0 b) (part t 1 c)) (part2-same i)) (part t 3 a)) (getD w 5 0)
+
+    c-same : firstC t w a b c d ≡ firstC t w a b c e
+    unfolding firstC columnOf
+    c-same = λ i. bitXor (bitXor (bitXor (bitXor (part t 0 c) (part1-same i)) (part t 2 a)) (part t 3 b)) (getD w 6 0)
+
+    d-same : firstD t w a b c d ≡ firstD t w a b c e
+    unfolding firstD columnOf
+    d-same = λ i. bitXor (bitXor (bitXor (bitXor (part0-same i) (part t 1 a)) (part t 2 b)) (part t 3 c)) (getD w 7 0)
+
+    pub prepares-same : (m : Prepared) → Prepares t w a b c d m → Prepares t w a b c e m
+    prepares-same m q = record {
+      first = q .first;
+      second-a = q .second-a ∙ (λ i. bitXor (threeOf t 1 (b-same i) 2 (c-same i) 3 (d-same i)) (getD w 8 0));
+      second-b = q .second-b ∙ (λ i. bitXor (threeOf t 0 (b-same i) 1 (c-same i) 2 (d-same i)) (getD w 9 0));
+      second-c = q .second-c ∙ (λ i. bitXor (threeOf t 0 (c-same i) 1 (d-same i) 3 (b-same i)) (getD w 10 0));
+      second-d = q .second-d ∙ (λ i. bitXor (threeOf t 0 (d-same i) 2 (b-same i) 3 (c-same i)) (getD w 11 0));
+    }

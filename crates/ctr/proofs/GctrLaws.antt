@@ -1,12 +1,14 @@
 -- GCTR block by block, in place; that it keeps the length and undoes itself; AES in counter mode.
 -- Assumes nothing.
-use mathlib.Core.Path.{_≡_, refl, sym, ap, ap₂, _∙_}
+use mathlib.Core.Path.{_≡_, refl, sym, ap, ap₂, _∙_, subst}
 use mathlib.Core.Bool.{Bool, true, false}
 use mathlib.Core.List.{List, [], _∷_, _++_, map, append-assoc, append-nil}
 use mathlib.Core.Logic.{_⊎_, inl, inr}
-use Prim.Native.Nat.{ℕ, zero, suc, _+_, _-_, _*_, _/_, _≤_, min}
+use Prim.Native.Nat.{ℕ, zero, suc, _+_, _-_, _*_, _/_, _%_, _^_, _≤_, _<_, min}
+use native.Mathlib.Nat.{mod-lt}
 use native.Mathlib.Decide.{decLe}
 use native.Mathlib.Omega.{arith}
+use lib.Dec.{lit<}
 use lib.ListN.{length, take, drop, length-append, length-take, length-drop, take-append-drop, drop-of-length-le}
 use lib.Seq.{take-at, drop-at, take-all, drop-drop}
 use Rattle.octets.specs.Buffers.{blockCount, put, _⊞_}
@@ -16,6 +18,7 @@ use Rattle.aes.specs.KeyExpansion.{if, keyExpansion}
 use Rattle.aes.specs.Keyed.{nkOf, lawful}
 use Rattle.aes.specs.Words.{bytes}
 use Rattle.aes.proofs.KeyedLaws.{cipher-aes}
+use Rattle.ctr.proofs.CounterLaws.{counter-next}
 use Rattle.ctr.specs.Gctr.{inc32, gctrBlocks, gctr, ciphAt, aesBlock, counterBlock, aesCtr}
 
 -- ---- one block more
@@ -45,6 +48,57 @@ module _ (ciph : ℕ → List ℕ) (s o : List ℕ) (at cb : ℕ) (within : at �
       ∙ append-assoc (take at o) block (gctrBlocks ciph m (inc32 cb) (drop 16 (drop at s)))
       ∙ ap (λ (t : List ℕ). take at o ++ ((take 16 t ⊞ ciph cb) ++ gctrBlocks ciph m (inc32 cb) (drop 16 (drop at s)))) rest
       ∙ h
+
+-- the first i blocks of s are done in the text o, and c is the counter of the next one
+pub record Kept (ciph : ℕ → List ℕ) (nonce : List ℕ) (counter : ℕ) (s o : List ℕ) (c i : ℕ) : Type 0 where
+  pub within : i ≤ blockCount s
+  pub size : length o ≡ length s
+  pub fits : c < 2 ^ 32
+  pub rest : drop (16 * i) o ≡ drop (16 * i) s
+  pub done : take (16 * i) o ++ gctrBlocks ciph (blockCount s - i) (counterBlock nonce c) (drop (16 * i) s) ≡ gctr ciph (counterBlock nonce counter) s
+
+module _ (ciph : ℕ → List ℕ) (nonce : List ℕ) (counter : ℕ) (s : List ℕ) where
+  pub kept-none : counter < 2 ^ 32 → Kept ciph nonce counter s s counter 0
+  unfolding gctr
+  kept-none l =
+      let all : blockCount s - 0 ≡ blockCount s = omega arith in
+      record {
+        within = omega arith;
+        size = refl;
+        fits = l;
+        rest = refl;
+        done = ap (λ (m : ℕ). gctrBlocks ciph m (counterBlock nonce counter) s) all;
+      }
+
+  pub kept-more : (o p : List ℕ) (c e i : ℕ) → i < blockCount s → Kept ciph nonce counter s o c i
+      → p ≡ put o (16 * i) (take 16 (drop (16 * i) o) ⊞ ciph (counterBlock nonce c)) → e ≡ (c + 1) % 2 ^ 32 → Kept ciph nonce counter s p e (i + 1)
+  kept-more o p c e i l v q n =
+      let cb = counterBlock nonce c in
+      let at : 16 * (i + 1) ≡ 16 * i + 16 = omega arith in
+      let left : blockCount s - i ≡ suc (blockCount s - (i + 1)) = omega arith in
+      let z = v .size in
+      let in-text : 16 * i ≤ length o = omega (arith, z) in
+      let next = counter-next nonce c (v .fits) ∙ ap (counterBlock nonce) (sym n) in
+      record {
+        within = omega arith;
+        size = ap length q ∙ next-length ciph s o (16 * i) cb in-text (v .rest) ∙ v .size;
+        fits = subst (λ (x : ℕ). x < 2 ^ 32) (sym n) (mod-lt (c + 1) (lit< tt));
+        rest = ap₂ drop at q ∙ next-rest ciph s o (16 * i) cb in-text (v .rest) ∙ ap (λ (x : ℕ). drop x s) (sym at);
+        done =
+            (λ j. take (at j) (q j) ++ gctrBlocks ciph (blockCount s - (i + 1)) (sym next j) (drop (at j) s))
+            ∙ next-done ciph s o (16 * i) cb in-text (v .rest) _ _
+            (ap (λ (m : ℕ). take (16 * i) o ++ gctrBlocks ciph m cb (drop (16 * i) s)) (sym left) ∙ v .done);
+      }
+
+  pub kept-all : (o : List ℕ) (c i : ℕ) → blockCount s ≤ i → Kept ciph nonce counter s o c i → o ≡ gctr ciph (counterBlock nonce counter) s
+  unfolding gctrBlocks
+  kept-all o c i l v =
+      let z = v .size in
+      let none : blockCount s - i ≡ 0 = omega arith in
+      let all : length o ≤ 16 * i = omega (arith, z) in
+      sym (take-all (16 * i) o all) ∙ sym (append-nil (take (16 * i) o))
+      ∙ ap (λ (m : ℕ). take (16 * i) o ++ gctrBlocks ciph m (counterBlock nonce c) (drop (16 * i) s)) (sym none)
+      ∙ v .done
 
 -- ---- GCTR keeps the length, and undoes itself
 

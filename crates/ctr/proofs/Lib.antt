@@ -1,2 +1,3 @@
 pub mod CounterLaws
 pub mod GctrLaws
+pub mod LongLaws

@@ -1,2 +1,3 @@
 pub mod Gctr
 pub mod Words
+pub mod Long

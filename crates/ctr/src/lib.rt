@@ -13,6 +13,9 @@ ghost use Rattle.aes.specs.Keyed.{lawful};
 ghost use Rattle.aes.specs.Words.{bytes, blockBytes};
 ghost use Rattle.ctr.specs.Words.{nonceBytes};
 ghost use Rattle.ctr.specs.Gctr.{gctr as gctrOf, ciphAt, counterBlock, aesCtr};
+ghost use Rattle.ctr.specs.Long.{swap};
+
+mod long;
 
 // The nonce as the first three words of a counter block.
 pub struct Nonce {
@@ -35,6 +38,7 @@ pub fn read_nonce(s: &[u8]) -> Nonce
 // The counter's bytes, the highest first, as a word whose first byte is lowest.
 fn swapped(x: u32) -> u32
     ensures { λ r. ⌜ bytes r ≡ toBe 4 x ⌝ }
+    ensures { λ r. ⌜ r ≡ swap x ⌝ }
 {
     x / 0x100_0000 + x / 0x1_0000 % 256 * 256 + x / 256 % 256 * 0x1_0000 + x % 256 * 0x100_0000
 }
@@ -80,8 +84,8 @@ fn xor_block(text: &mut [u8], at: usize, k: Block)
     }
 }
 
-// GCTR of the text, in place, at an expanded key and its number of rounds.
-pub fn gctr(
+// GCTR of the text, in place, block by block.
+fn gctr_short(
     t: &[u32; 256],
     sbox: &[u8; 256],
     w: &[u32; 60],
@@ -102,6 +106,31 @@ pub fn gctr(
         let k = aes::encrypt::cipher(t, sbox, w, rounds, counter_block(n, c));
         xor_block(text, 16 * i, k);
         c = inc32(c);
+    }
+}
+
+// GCTR of the text, in place, at an expanded key and its number of rounds. Four tables are worth making from 512 bytes on.
+pub fn gctr(
+    t: &[u32; 256],
+    sbox: &[u8; 256],
+    w: &[u32; 60],
+    rounds: usize,
+    n: Nonce,
+    counter: u32,
+    text: &mut [u8],
+)
+    requires { ⌜ IsTable mixEntry (now t) ⌝ }
+    requires { ⌜ IsTable sBox (now sbox) ⌝ }
+    requires { ⌜ 0 < rounds ⌝ }
+    requires { ⌜ rounds < 15 ⌝ }
+    ensures { λ _. ⌜ now (text .exit) ≡ gctrOf (ciphAt rounds (now (w .entry))) (counterBlock (nonceBytes n) counter) (now (text .entry)) ⌝ }
+{
+    if text.len() < 512 {
+        gctr_short(t, sbox, w, rounds, n, counter, text);
+    } else if rounds < 3 {
+        gctr_short(t, sbox, w, rounds, n, counter, text);
+    } else {
+        long::gctr_long(t, sbox, w, rounds, n, counter, text);
     }
 }
 
