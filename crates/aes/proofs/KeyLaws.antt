@@ -1,27 +1,59 @@
--- The key expansion: what is added to a word, one word more, and the cipher under an expanded key.
+-- The key expansion: where a word stands in its group, what is added to it, and one word more.
 -- Assumes nothing.
 use mathlib.Core.Path.{_≡_, refl, sym, ap, _∙_}
 use mathlib.Core.List.{List, [], _∷_, _++_, map, map-append}
 use Prim.Native.Nat.{ℕ, suc, _+_, _-_, _*_, _/_, _%_, _≤_, _<_}
-use native.Mathlib.Nat.{add-zero, div-lt-iff-lt-mul, le-div-iff-mul-le}
+use native.Mathlib.Nat.{add-zero, add-mod-left, mul-add-mod-self-right, mod-eq-of-lt, add-div-left, mul-add-div-right, div-eq-of-lt}
 use native.Mathlib.Numerals.{add-one}
 use native.Mathlib.Omega.{arith}
 use lib.Bits.{bitXor}
-use lib.ListN.{getD, set, take, drop, length}
-use lib.Seq.{take-suc-set, getD-take, getD-drop}
+use lib.ListN.{getD, set, take, length}
+use lib.Seq.{take-suc-set, getD-set-same, getD-take}
 use borrow.Author.Tests.{eq-eqb, ne-eqb, lt-ltb, le-ltb}
-use Rattle.octets.specs.Buffers.{Octets, _⊞_}
-use Rattle.octets.specs.Numbers.{le}
-use Rattle.octets.proofs.BufferLaws.{octets-drop}
+use Rattle.octets.specs.Buffers.{_⊞_}
+use Rattle.aes_tables.specs.Field.{xTimes}
 use Rattle.aes.specs.Cipher.{word}
-use Rattle.aes.specs.KeyExpansion.{rotWord, subWord, rcon, temp, keyWords, expanded, keyExpansion}
+use Rattle.aes.specs.KeyExpansion.{rotWord, subWord, xPower, rcon, temp, keyWords, expanded, keyExpansion}
 use Rattle.aes.specs.Words.{bytes}
-use Rattle.aes.proofs.WordLaws.{bytes-le, bytes-xor}
+use Rattle.aes.proofs.WordLaws.{bytes-xor}
 use Rattle.aes.proofs.RoundLaws.{word-law}
 
--- Rcon is asked at 1 to 10
-pub rcon-index : (nk i : ℕ) → 0 < nk → nk ≤ i → i < 11 * nk → (0 < i / nk) × (i / nk < 11)
-rcon-index nk i h l u = (le-div-iff-mul-le h .1 (omega arith), div-lt-iff-lt-mul h .1 u)
+-- ---- where word nk + n stands: its place in its group of nk words, and the group's constant
+
+pub record Place (nk n at c : ℕ) : Type 0 where
+  pub group : ℕ
+  pub number : n ≡ group * nk + at
+  pub constant : c ≡ xPower group
+
+first-place : (nk : ℕ) → Place nk 0 0 1
+unfolding xPower
+first-place nk = record { group = 0; number = omega arith; constant = refl }
+
+module _ (nk n at c : ℕ) (p : Place nk n at c) where
+  pub same-group : Place nk (n + 1) (at + 1) c
+  same-group = record { group = p .group; number = omega (arith, p .number); constant = p .constant }
+
+  pub next-group : (d : ℕ) → at + 1 ≡ nk → d ≡ xTimes c → Place nk (n + 1) 0 d
+  unfolding xPower
+  next-group d e ed = record {
+    group = p .group + 1;
+    number = omega (arith, p .number, e);
+    constant = rw add-one (ed ∙ ap xTimes (p .constant));
+  }
+
+  place-at : at < nk → (nk + n) % nk ≡ at
+  place-at h = add-mod-left nk n ∙ rw (p .number) (mul-add-mod-self-right (p .group) nk at ∙ mod-eq-of-lt h)
+
+  place-constant : at < nk → xPower ((nk + n) / nk - 1) ≡ c
+  place-constant h = ap xPower (omega (arith, add-div-left n above, group)) ∙ sym (p .constant)
+    where
+      above : 0 < nk
+      above = omega arith
+
+      group : n / nk ≡ p .group
+      group = rw (p .number) (mul-add-div-right above (p .group) at ∙ ap (λ (m : ℕ). p .group + m) (div-eq-of-lt h) ∙ add-zero (p .group))
+
+-- ---- what is added to a word
 
 module _ (nk i : ℕ) (t : List ℕ) where
   pub temp-first : i % nk ≡ 0 → temp nk i t ≡ subWord (rotWord t) ⊞ rcon (i / nk)
@@ -44,11 +76,7 @@ module _ (nk i : ℕ) (t : List ℕ) where
 stored : (w : List ℕ) (i v : ℕ) → i < length w → map bytes (take (suc i) (set w i v)) ≡ map bytes (take i w) ++ bytes v ∷ []
 stored w i v h = ap (map bytes) (take-suc-set w i v h) ∙ map-append bytes (take i w) (v ∷ [])
 
--- a word of the key, as it is read
-pub key-bytes : (key : List ℕ) (i : ℕ) → Octets key
-    → bytes (le 4 (drop i key)) ≡ getD key i 0 ∷ getD key (i + 1) 0 ∷ getD key (i + 2) 0 ∷ getD key (i + 3) 0 ∷ []
-key-bytes key i p = bytes-le (drop i key) (octets-drop i p) ∙ simp (getD-drop, add-zero)
-
+-- a word of the key
 pub key-law : (w key : List ℕ) (i v : ℕ) → i < length w → map bytes (take i w) ≡ keyWords key i
     → bytes v ≡ getD key (4 * i) 0 ∷ getD key (4 * i + 1) 0 ∷ getD key (4 * i + 2) 0 ∷ getD key (4 * i + 3) 0 ∷ []
     → map bytes (take (i + 1) (set w i v)) ≡ keyWords key (i + 1)
@@ -59,23 +87,49 @@ key-law w key i v h e ev = rw add-one (stored w i v h ∙ (λ j. e j ++ ev j ∷
 among : (w : List ℕ) (e : List (List ℕ)) (m i : ℕ) → i < m → map bytes (take m w) ≡ e → bytes (getD w i 0) ≡ word e i
 among w e m i h p = sym (word-law (take m w) i ∙ ap bytes (getD-take m w i 0 h)) ∙ ap (λ (l : List (List ℕ)). word l i) p
 
-pub next-law : (w key : List ℕ) (nk n t : ℕ) → 0 < nk → nk + n < length w → map bytes (take (nk + n) w) ≡ expanded nk key n
-    → bytes t ≡ temp nk (nk + n) (bytes (getD w (nk + n - 1) 0))
-    → map bytes (take (nk + (n + 1)) (set w (nk + n) (bitXor (getD w n 0) t))) ≡ expanded nk key (n + 1)
-unfolding expanded
-next-law w key nk n t h l e et =
-    let m : nk + (n + 1) ≡ suc (nk + n) = omega arith in
-    rw (m, add-one)
-    (stored w (nk + n) (bitXor (getD w n 0) t) l
-    ∙ (λ j. e j ++ (bytes-xor (getD w n 0) t ∙ (λ k. among w (expanded nk key n) (nk + n) n (omega arith) e k ⊞ added k)) j ∷ []))
-  where
-    added : bytes t ≡ temp nk (nk + n) (word (expanded nk key n) (nk + n - 1))
-    added = et ∙ ap (temp nk (nk + n)) (among w (expanded nk key n) (nk + n) (nk + n - 1) (omega arith) e)
+-- the second loop, before word nk + n: the words so far, the last of them, and where the next one stands
+pub record Expanding (key w : List ℕ) (nk n t at c : ℕ) : Type 0 where
+  pub words : map bytes (take (nk + n) w) ≡ expanded nk key n
+  pub last : t ≡ getD w (nk + n - 1) 0
+  pub place : Place nk n at c
 
--- the two ends of the second loop
-pub start-law : (w key : List ℕ) (nk i : ℕ) → i ≡ nk → map bytes (take i w) ≡ keyWords key i → map bytes (take (nk + 0) w) ≡ expanded nk key 0
+pub start-law : (w key : List ℕ) (nk i : ℕ) → i ≡ nk → map bytes (take i w) ≡ keyWords key i → Expanding key w nk 0 (getD w (nk - 1) 0) 0 1
 unfolding expanded
-start-law w key nk i e h = rw (add-zero, ← e) h
+start-law w key nk i e h = record {
+  words = rw (add-zero, ← e) h;
+  last = rw add-zero refl;
+  place = first-place nk;
+}
+
+module _ (key w : List ℕ) (nk n t at c : ℕ) (x : Expanding key w nk n t at c) (fits : nk + n < length w) (within : at < nk) where
+  next-words : (v : ℕ) → bytes v ≡ temp nk (nk + n) (bytes t)
+      → map bytes (take (nk + (n + 1)) (set w (nk + n) (bitXor (getD w n 0) v))) ≡ expanded nk key (n + 1)
+  unfolding expanded
+  next-words v ev =
+      let m : nk + (n + 1) ≡ suc (nk + n) = omega arith in
+      rw (m, add-one)
+      (stored w (nk + n) (bitXor (getD w n 0) v) fits
+      ∙ (λ j. x .words j ++ (bytes-xor (getD w n 0) v ∙ (λ k. among w e (nk + n) n (omega arith) (x .words) k ⊞ added k)) j ∷ []))
+    where
+      e : List (List ℕ)
+      e = expanded nk key n
+
+      added : bytes v ≡ temp nk (nk + n) (word e (nk + n - 1))
+      added =
+          ev
+          ∙ ap (temp nk (nk + n)) (ap bytes (x .last) ∙ among w e (nk + n) (nk + n - 1) (omega arith) (x .words))
+
+  -- one word more, from what temp promises, and the place of the next
+  pub next-law : (v b d : ℕ) → ((i : ℕ) → i % nk ≡ at → xPower (i / nk - 1) ≡ c → bytes v ≡ temp nk i (bytes t)) → Place nk (n + 1) b d
+      → Expanding key (set w (nk + n) (bitXor (getD w n 0) v)) nk (n + 1) (bitXor (getD w n 0) v) b d
+  next-law v b d ev p = record {
+    words = next-words v (ev (nk + n) (place-at nk n at c (x .place) within) (place-constant nk n at c (x .place) within));
+    last = rw m (sym (getD-set-same w (nk + n) (bitXor (getD w n 0) v) 0 fits));
+    place = p;
+  }
+    where
+      m : nk + (n + 1) - 1 ≡ nk + n
+      m = omega arith
 
 pub end-law : (w key : List ℕ) (nk n : ℕ) → n ≡ 3 * nk + 28 → map bytes (take (nk + n) w) ≡ expanded nk key n
     → map bytes (take (4 * nk + 28) w) ≡ keyExpansion nk key

@@ -5,8 +5,8 @@ use mathlib.Core.List.{List, [], _∷_, _++_}
 use Prim.Native.Nat.{ℕ, _+_, _*_, _/_, _%_, _^_, _≤_, _<_}
 use native.Mathlib.Omega.{arith}
 use lib.Bits.{bitXor, xor-shr, xor-mod}
-use lib.ListN.{length, getD, take, drop, length-drop}
-use lib.Seq.{getD-drop, drop-drop, take-add, length-take-le}
+use lib.ListN.{length, take, drop, length-drop}
+use lib.Seq.{drop-drop, take-add, length-take-le}
 use Rattle.octets.specs.Buffers.{Octets, put, _⊞_}
 use Rattle.octets.specs.Numbers.{le, toLe}
 use Rattle.octets.proofs.BufferLaws.{octets-nil, octets-cons, octets-take, octets-drop, put-put}
@@ -85,12 +85,6 @@ bytes-xor x y = λ i. xor-mod x y 8 i ∷ at 8 i ∷ at 16 i ∷ at 24 i ∷ []
 
 pub octets-bytes : (w : ℕ) → Octets (bytes w)
 octets-bytes w = octets-cons (omega arith) (octets-cons (omega arith) (octets-cons (omega arith) (octets-cons (omega arith) octets-nil)))
-
-pub bytes-le : (s : List ℕ) → Octets s → bytes (le 4 s) ≡ getD s 0 0 ∷ getD s 1 0 ∷ getD s 2 0 ∷ getD s 3 0 ∷ []
-unfolding le
-bytes-le s p =
-    let e : le 4 s ≡ column (getD s 0 0) (getD s 1 0) (getD s 2 0) (getD s 3 0) = omega arith in
-    ap bytes e ∙ bytes-column _ _ _ _ (p .octet 0) (p .octet 1) (p .octet 2) (p .octet 3)
 
 pub toLe-bytes : (w : ℕ) → toLe 4 w ≡ bytes w
 unfolding toLe

@@ -4,15 +4,14 @@ use super::word::pack;
 use super::word::rotate3;
 ghost use mathlib.Core.Path.{_≡_};
 ghost use mathlib.Core.List.{map};
-ghost use Prim.Native.Nat.{_+_, _*_, _<_, _≤_};
+ghost use Prim.Native.Nat.{ℕ, _+_, _-_, _*_, _/_, _%_, _≤_};
 ghost use lib.ListN.{length, take};
+ghost use Rattle.aes_tables.specs.Field.{xTimes};
 ghost use Rattle.aes_tables.specs.SBox.{sBox};
 ghost use Rattle.aes_tables.specs.Tables.{IsTable};
-ghost use Rattle.aes.specs.KeyExpansion.{subWord, rotWord, rcon as rconOf, temp as tempOf, keyExpansion};
+ghost use Rattle.aes.specs.KeyExpansion.{subWord, rotWord, xPower, temp as tempOf, keyExpansion};
 ghost use Rattle.aes.specs.Keyed.{nkOf};
 ghost use Rattle.aes.specs.Words.{bytes};
-
-const RCON: [u8; 10] = [1, 2, 4, 8, 16, 32, 64, 128, 27, 54];
 
 // Nk for a key of so many bytes; 0 where AES has no such key.
 pub fn key_words(len: usize) -> usize
@@ -41,27 +40,24 @@ fn rot_word(w: u32) -> u32
     rotate3(w)
 }
 
-fn rcon(j: usize) -> u32
-    requires { ⌜ 0 < j ⌝ }
-    requires { ⌜ j < 11 ⌝ }
-    ensures { λ r. ⌜ bytes r ≡ rconOf j ⌝ }
+// XTIMES: the next round constant.
+fn x_times(b: u8) -> u8
+    ensures { λ r. ⌜ r ≡ xTimes b ⌝ }
 {
-    pack(RCON[j - 1], 0, 0, 0)
+    (b % 128 * 2) ^ (b / 128 * 27)
 }
 
-// What is added to word i - nk to make word i, from word i - 1.
-fn temp(sbox: &[u8; 256], nk: usize, i: usize, t: u32) -> u32
+// What is added to word i - nk to make word i, from word i - 1: at is the word's place in its group of nk words, c the
+// group's round constant.
+fn temp(sbox: &[u8; 256], nk: usize, at: usize, c: u8, t: u32) -> u32
     requires { ⌜ IsTable sBox (now sbox) ⌝ }
-    requires { ⌜ 0 < nk ⌝ }
-    requires { ⌜ nk ≤ i ⌝ }
-    requires { ⌜ i < 11 * nk ⌝ }
-    ensures { λ r. ⌜ bytes r ≡ tempOf nk i (bytes t) ⌝ }
+    ensures { λ r. ⌜ ((i : ℕ) → i % nk ≡ at → xPower (i / nk - 1) ≡ c → bytes r ≡ tempOf nk i (bytes t)) ⌝ }
 {
-    if i % nk == 0 {
-        return sub_word(sbox, rot_word(t)) ^ rcon(i / nk);
+    if at == 0 {
+        return sub_word(sbox, rot_word(t)) ^ pack(c, 0, 0, 0);
     }
     if 6 < nk {
-        if i % nk == 4 {
+        if at == 4 {
             return sub_word(sbox, t);
         }
     }
@@ -79,13 +75,22 @@ pub fn expand(sbox: &[u8; 256], key: &[u8], nk: usize) -> [u32; 60]
     let mut w = [0u32; 60];
     let mut i = 0;
     while i < nk {
-        w[i] = octets::read_u32_le(key, 4 * i);
+        w[i] = pack(key[4 * i], key[4 * i + 1], key[4 * i + 2], key[4 * i + 3]);
         i += 1;
     }
+    let mut t = w[nk - 1];
+    let mut at = 0;
+    let mut c = 1;
     let mut n = 0;
     while n < 3 * nk + 28 {
-        w[nk + n] = w[n] ^ temp(sbox, nk, nk + n, w[nk + n - 1]);
+        t = w[n] ^ temp(sbox, nk, at, c, t);
+        w[nk + n] = t;
         n += 1;
+        at += 1;
+        if at == nk {
+            at = 0;
+            c = x_times(c);
+        }
     }
     w
 }

@@ -1,13 +1,12 @@
-use mathlib.Core.Path.{_≡_, refl, ap, _∙_}
+use mathlib.Core.Path.{_≡_, refl}
 use mathlib.Core.List.{map}
-use Prim.Native.Nat.{_+_, _-_, _*_, _≤_}
+use Prim.Native.Nat.{_+_, _-_, _*_, _≤_, _<_}
 use native.Mathlib.Omega.{arith}
 use borrow.Author.Needs.{needs}
 use lib.ListN.{length, take, length-set}
-use Rattle.octets.proofs.BufferLaws.{octets-fit}
-use Rattle.aes.specs.KeyExpansion.{keyWords, expanded}
+use Rattle.aes.specs.KeyExpansion.{keyWords}
 use Rattle.aes.specs.Words.{bytes}
-use Rattle.aes.proofs.KeyLaws.{key-bytes, key-law, next-law, start-law, end-law}
+use Rattle.aes.proofs.KeyLaws.{Expanding, same-group, next-group, key-law, next-law, start-law, end-law}
 use Rattle.aes.proofs.key.expand.Statement.{statement}
 use Rattle.aes.proofs.key.expand.Tie as tie
 
@@ -18,10 +17,10 @@ abbrev μ-loop : tie.MeasureT-loop
 μ-loop sbox key nk w₀ i₀ w i = nk - i
 
 abbrev Inv-loop2 : tie.InvT-loop2
-Inv-loop2 sbox key nk w₀ i n₀ w n = (n ≤ 3 * nk + 28) × (length w ≡ 60) × (map bytes (take (nk + n) w) ≡ expanded nk key n)
+Inv-loop2 sbox key nk w₀ i t₀ at₀ c₀ n₀ w t at c n = (n ≤ 3 * nk + 28) × (at < nk) × (length w ≡ 60) × Expanding key w nk n t at c
 
 abbrev μ-loop2 : tie.MeasureT-loop2
-μ-loop2 sbox key nk w₀ i n₀ w n = 3 * nk + 28 - n
+μ-loop2 sbox key nk w₀ i t₀ at₀ c₀ n₀ w t at c n = 3 * nk + 28 - n
 
 loop-holds : tie.Need-loop-holds Inv-loop μ-loop Inv-loop2 μ-loop2
 unfolding keyWords
@@ -31,22 +30,30 @@ loop-again : tie.Need-loop-again Inv-loop μ-loop Inv-loop2 μ-loop2
 loop-again c = (
   search needs,
   simp length-set (omega arith),
-  key-law (c .before .before .loop .w) (c .before .before .before .before .args .key .now) (c .before .before .loop .i) (c .read-u32-le .result) (search needs) (c .before .before .loop .inv .2) (ap bytes (c .read-u32-le .ensures) ∙ key-bytes (c .before .before .before .before .args .key .now) (4 * c .before .before .loop .i) (octets-fit _ (c .before .before .before .shared-slice-known .given))),
+  key-law _ _ _ _ (search needs) (c .before .before .before .before .before .before .loop .inv .2) (c .pack .ensures),
 )
 
 loop2-holds : tie.Need-loop2-holds Inv-loop μ-loop Inv-loop2 μ-loop2
-loop2-holds c = (search needs, search needs, start-law (c .before .loop .w) (c .before .before .before .args .key .now) (c .before .before .before .args .nk) (c .before .loop .i) (search needs) (c .before .loop .inv .2))
+loop2-holds c = (search needs, search needs, search needs, start-law _ _ _ (c .before .loop .i) (search needs) (c .before .loop .inv .2))
 
 loop2-again : tie.Need-loop2-again Inv-loop μ-loop Inv-loop2 μ-loop2
 loop2-again c = (
   search needs,
+  search needs,
   simp length-set (omega arith),
-  next-law (c .before .before .loop2 .w) (c .before .before .before .before .before .before .args .key .now) (c .before .before .before .before .before .before .args .nk) (c .before .before .loop2 .n) (c .temp .result) (search needs) (search needs)
-      (c .before .before .loop2 .inv .2) (c .temp .ensures),
+  next-law _ _ _ _ _ _ _ (c .before .before .before .before .loop2 .inv .3) (search needs) (search needs) _ _ _ (c .before .before .temp .ensures) (next-group _ _ _ _ (c .before .before .before .before .loop2 .inv .3 .place) _ (c .before .if1 .taken) (c .x-times .ensures)),
+)
+
+loop2-again-2 : tie.Need-loop2-again-2 Inv-loop μ-loop Inv-loop2 μ-loop2
+loop2-again-2 c = (
+  search needs,
+  search needs,
+  simp length-set (omega arith),
+  next-law _ _ _ _ _ _ _ (c .before .before .before .loop2 .inv .3) (search needs) (search needs) _ _ _ (c .before .temp .ensures) (same-group _ _ _ _ (c .before .before .before .loop2 .inv .3 .place)),
 )
 
 returns : tie.Need-returns Inv-loop μ-loop Inv-loop2 μ-loop2
-returns c = end-law (c .before .loop2 .w) (c .before .before .before .before .before .args .key .now) (c .before .before .before .before .before .args .nk) (c .before .loop2 .n) (search needs) (c .before .loop2 .inv .2)
+returns c = end-law _ _ _ (c .before .loop2 .n) (search needs) (c .before .loop2 .inv .3 .words)
 
 pub expand-spec : {M : Type 1} → statement M
 expand-spec =
@@ -58,18 +65,26 @@ expand-spec =
     μ-loop2
     loop-holds
     (λ c. search needs)
+    (λ c. search needs)
+    (λ c. search needs)
+    (λ c. search needs)
+    (λ c. search needs)
+    (λ c. search needs)
+    (λ c. search needs)
+    (λ c. search needs)
+    (λ c. search needs)
+    (λ c. search needs)
+    (λ c. search needs)
     (λ c κs. search needs)
     (λ c. search needs)
     (λ c. search needs)
     (λ c. search needs)
     (λ c. search needs)
     loop-again
+    (λ c. search needs)
+    (λ c. search needs)
+    (λ c. search needs)
     loop2-holds
-    (λ c. search needs)
-    (λ c. search needs)
-    (λ c. search needs)
-    (λ c. search needs)
-    (λ c. search needs)
     (λ c. search needs)
     (λ c. search needs)
     (λ c. search needs)
@@ -80,5 +95,9 @@ expand-spec =
     (λ c. search needs)
     (λ c. search needs)
     (λ c. search needs)
+    (λ c κs. search needs)
+    (λ c. search needs)
     loop2-again
+    (λ c. search needs)
+    loop2-again-2
     returns)
