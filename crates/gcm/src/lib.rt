@@ -59,7 +59,10 @@ fn hash_key(t: &[u32; 256], sbox: &[u8; 256], w: &[u32; 60], rounds: usize) -> E
     };
     let mut b = [0u8; 16];
     aes::write_block(&mut b, 0, aes::encrypt::cipher(t, sbox, w, rounds, zero));
-    ghash::block_at(&b, 0)
+    Element {
+        hi: octets::read_u64_be(&b, 0),
+        lo: octets::read_u64_be(&b, 8),
+    }
 }
 
 // The tag of a ciphertext.
