@@ -73,7 +73,11 @@ pub extern "C" fn bench_ghash(h: &[u8], text: &[u8], out: &mut [u8]) -> u32
     if out.len() < 16 {
         return 1;
     }
-    let y = ghash::ghash(ghash::block_at(h, 0), Element { hi: 0, lo: 0 }, text);
+    let key = Element {
+        hi: octets::read_u64_be(h, 0),
+        lo: octets::read_u64_be(h, 8),
+    };
+    let y = ghash::ghash(key, Element { hi: 0, lo: 0 }, text);
     ghash::write_element(out, y);
     0
 }
