@@ -109,7 +109,7 @@ fn gctr_short(
     }
 }
 
-// GCTR of the text, in place, at an expanded key and its number of rounds. Four tables are worth making from 512 bytes on.
+// GCTR of the text, in place, at an expanded key and its number of rounds. Four tables are worth making from 256 bytes on.
 pub fn gctr(
     t: &[u32; 256],
     sbox: &[u8; 256],
@@ -125,7 +125,7 @@ pub fn gctr(
     requires { ⌜ rounds < 15 ⌝ }
     ensures { λ _. ⌜ now (text .exit) ≡ gctrOf (ciphAt rounds (now (w .entry))) (counterBlock (nonceBytes n) counter) (now (text .entry)) ⌝ }
 {
-    if text.len() < 512 {
+    if text.len() < 256 {
         gctr_short(t, sbox, w, rounds, n, counter, text);
     } else if rounds < 3 {
         gctr_short(t, sbox, w, rounds, n, counter, text);
