@@ -22,9 +22,9 @@ use Rattle.stream.specs.Pieces.{sealAt, openAt, subkeyWords, keyOf}
 use Rattle.stream.specs.Sealing.{lastCounter, front, responseOf, response, begun, sizesFit, responseAnswer}
 use Rattle.stream_open.specs.declared.Turn.the-variants.{Length, Payload}
 use Rattle.stream_open.specs.declared.Receiver.{Receiver}
-use Rattle.stream_open.specs.declared.FixedRead.the-variants.{Read}
-use Rattle.stream_open.specs.declared.ResponseOpened.the-variants.{Accepted as Answered, Refused as NoResponse}
-use Rattle.stream_open.specs.Heads.{frontLength, fixedOf, receiver, openFixed, pickResponse, bindingOf, boundAs, boundOf, responseAt, openedResponse}
+use Rattle.response_open.specs.declared.FixedRead.the-variants.{Read}
+use Rattle.response_open.specs.declared.ResponseOpened.the-variants.{Accepted as Answered, Refused as NoResponse}
+use Rattle.response_open.specs.Heads.{frontLength, fixedOf, receiver, openFixed, pickResponse, bindingOf, boundAs, boundOf, responseAt, openedResponse}
 use Rattle.stream_open.specs.Chunks.{stepAnswer, stepOut}
 use Rattle.demands.specs.StreamsBack.{ResponseBack, ResponsesGivenBack}
 use Rattle.stream.proofs.LengthLaws.{length-responseOf}

@@ -26,13 +26,13 @@ use Rattle.stream.specs.Sealing.{maxChunk, lastCounter, variableLength, request
 use Rattle.stream_open.specs.declared.Turn.{Turn}
 use Rattle.stream_open.specs.declared.Turn.the-variants.{Length, Payload, Ended}
 use Rattle.stream_open.specs.declared.Receiver.{Receiver}
-use Rattle.stream_open.specs.declared.Fixed.{Fixed}
+use Rattle.response_open.specs.declared.Fixed.{Fixed}
 use Rattle.stream_open.specs.declared.Chunk.{Chunk}
 use Rattle.stream_open.specs.declared.Stepped.{Stepped}
 use Rattle.stream_open.specs.declared.Stepped.the-variants.{Opened, Refused as Unopened}
-use Rattle.stream_open.specs.declared.RequestOpened.{RequestOpened}
-use Rattle.stream_open.specs.declared.RequestOpened.the-variants.{Accepted, Refused}
-use Rattle.stream_open.specs.Requests.{variableOf, openedRequest, requestOut, requestPool}
+use Rattle.request_open.specs.declared.RequestOpened.{RequestOpened}
+use Rattle.request_open.specs.declared.RequestOpened.the-variants.{Accepted, Refused}
+use Rattle.request_open.specs.Requests.{variableOf, openedRequest, requestOut, requestPool}
 use Rattle.stream_open.specs.Chunks.{pickStepped, streamKey, pieceAnswer, lengthRead, turnAnswer, writtenBy, payloadPiece, stepAnswer, stepOut, ended, pickReceiver, stepNext}
 use Rattle.demands.specs.StreamsKeep.{saltOf, ofStep, ofSealer, dueOf, RequestAnswered, accepted-request, refused-request, RequestKeeps, StepAnswered, opened-step, refused-step, dueAt, StepKeeps, SealAnswered, sealed-text, refused-text, SealKeeps, SealersKeep, StreamsDemand1}
 use Rattle.demands.specs.StreamsOpen.{TurnOpens, turnText}

@@ -35,8 +35,8 @@ use Rattle.stream_open.specs.declared.Turn.the-variants.{Length, Payload}
 use Rattle.stream_open.specs.declared.Receiver.{Receiver}
 use Rattle.stream_open.specs.declared.Stepped.{Stepped}
 use Rattle.stream_open.specs.declared.Stepped.the-variants.{Opened, Refused}
-use Rattle.stream_open.specs.declared.FixedRead.the-variants.{Read, Refused as Unread}
-use Rattle.stream_open.specs.Heads.{frontLength, fixedOf, receiver, pickFixed, fieldsOf, readFixed, openFixed, bindingOf}
+use Rattle.response_open.specs.declared.FixedRead.the-variants.{Read, Refused as Unread}
+use Rattle.response_open.specs.Heads.{frontLength, fixedOf, receiver, pickFixed, fieldsOf, readFixed, openFixed, bindingOf}
 use Rattle.stream_open.specs.Chunks.{pickStepped, pieceAnswer, lengthRead, turnAnswer, writtenBy, stepAnswer, stepOut}
 use Rattle.demands.specs.StreamsBack.{partner, midway, ChunkBack, ChunksGivenBack}
 use Rattle.stream.proofs.LengthLaws.{length-sealAt, length-fixedPart, length-front, length-chunk}

@@ -24,11 +24,11 @@ use Rattle.stream_open.specs.declared.Receiver.{Receiver}
 use Rattle.stream_open.specs.declared.Chunk.{Chunk}
 use Rattle.stream_open.specs.declared.Stepped.{Stepped}
 use Rattle.stream_open.specs.declared.Stepped.the-variants.{Opened, Refused as Unopened}
-use Rattle.stream_open.specs.declared.ResponseOpened.the-variants.{Accepted as Answered}
-use Rattle.stream_open.specs.declared.Request.{Request}
-use Rattle.stream_open.specs.declared.RequestOpened.the-variants.{Accepted}
-use Rattle.stream_open.specs.Heads.{receiver, openedResponse}
-use Rattle.stream_open.specs.Requests.{openedRequest, requestOut, requestPool}
+use Rattle.response_open.specs.declared.ResponseOpened.the-variants.{Accepted as Answered}
+use Rattle.request_open.specs.declared.Request.{Request}
+use Rattle.request_open.specs.declared.RequestOpened.the-variants.{Accepted}
+use Rattle.response_open.specs.Heads.{receiver, openedResponse}
+use Rattle.request_open.specs.Requests.{openedRequest, requestOut, requestPool}
 use Rattle.stream_open.specs.Chunks.{streamKey, stepAnswer, stepOut, stepNext}
 use Rattle.demands.specs.StreamsOpen.{RequestExactlyWhen, ResponseExactlyWhen, TurnOpens, turnText, StepExactlyWhen}
 

@@ -23,14 +23,14 @@ use Rattle.stream_open.specs.declared.Receiver.{Receiver}
 use Rattle.stream_open.specs.declared.Chunk.{Chunk}
 use Rattle.stream_open.specs.declared.Stepped.{Stepped}
 use Rattle.stream_open.specs.declared.Stepped.the-variants.{Opened, Refused as Unopened}
-use Rattle.stream_open.specs.declared.Response.{Response}
-use Rattle.stream_open.specs.declared.ResponseOpened.{ResponseOpened}
-use Rattle.stream_open.specs.declared.ResponseOpened.the-variants.{Accepted as Answered, Refused as Unanswered}
-use Rattle.stream_open.specs.declared.Request.{Request}
-use Rattle.stream_open.specs.declared.RequestOpened.{RequestOpened}
-use Rattle.stream_open.specs.declared.RequestOpened.the-variants.{Accepted, Refused as Unaccepted}
-use Rattle.stream_open.specs.Heads.{fixedOf, openedResponse}
-use Rattle.stream_open.specs.Requests.{openedRequest, requestOut, requestPool}
+use Rattle.response_open.specs.declared.Response.{Response}
+use Rattle.response_open.specs.declared.ResponseOpened.{ResponseOpened}
+use Rattle.response_open.specs.declared.ResponseOpened.the-variants.{Accepted as Answered, Refused as Unanswered}
+use Rattle.request_open.specs.declared.Request.{Request}
+use Rattle.request_open.specs.declared.RequestOpened.{RequestOpened}
+use Rattle.request_open.specs.declared.RequestOpened.the-variants.{Accepted, Refused as Unaccepted}
+use Rattle.response_open.specs.Heads.{fixedOf, openedResponse}
+use Rattle.request_open.specs.Requests.{openedRequest, requestOut, requestPool}
 use Rattle.stream_open.specs.Chunks.{stepAnswer, stepOut, ended, stepNext}
 use lib.Dec.{eqb}
 

@@ -12,18 +12,18 @@ use Rattle.protocol.specs.Method.{keyLength}
 use Rattle.protocol.specs.Refusal.{refusalNumber}
 use Rattle.stream.specs.declared.Sealed.{Sealed}
 use Rattle.stream.specs.declared.Sealed.the-variants.{Bytes, Refused}
-use Rattle.stream_open.specs.declared.RequestOpened.{RequestOpened}
-use Rattle.stream_open.specs.declared.RequestOpened.the-variants.{Accepted as RequestAccepted, Refused as RequestRefused}
-use Rattle.stream_open.specs.declared.ResponseOpened.{ResponseOpened}
-use Rattle.stream_open.specs.declared.ResponseOpened.the-variants.{Accepted as ResponseAccepted, Refused as ResponseRefused}
+use Rattle.request_open.specs.declared.RequestOpened.{RequestOpened}
+use Rattle.request_open.specs.declared.RequestOpened.the-variants.{Accepted as RequestAccepted, Refused as RequestRefused}
+use Rattle.response_open.specs.declared.ResponseOpened.{ResponseOpened}
+use Rattle.response_open.specs.declared.ResponseOpened.the-variants.{Accepted as ResponseAccepted, Refused as ResponseRefused}
 use Rattle.stream_open.specs.declared.Receiver.{Receiver}
 use Rattle.stream_open.specs.declared.Chunk.{Chunk}
-use Rattle.stream_open.specs.declared.Response.{Response}
+use Rattle.response_open.specs.declared.Response.{Response}
 use Rattle.stream_open.specs.declared.Stepped.{Stepped}
 use Rattle.stream_open.specs.declared.Stepped.the-variants.{Opened, Refused as StepRefused}
 use Rattle.stream.specs.Sealing.{pickSealed, chunkAnswer}
-use Rattle.stream_open.specs.Heads.{pickResponse, openedResponse}
-use Rattle.stream_open.specs.Requests.{pickRequest, openedRequest, requestOut, requestPool}
+use Rattle.response_open.specs.Heads.{pickResponse, openedResponse}
+use Rattle.request_open.specs.Requests.{pickRequest, openedRequest, requestOut, requestPool}
 use Rattle.stream_open.specs.Chunks.{pickStepped, stepAnswer, stepOut, stepNext}
 use Rattle.words.specs.Answers.{answerWords, requestWords, chunkWords, refusedAnswer}
 use Rattle.words.specs.States.{streamSize, turnOf, senderIn, senderWords, receiverLawful, receiverIn, receiverWords}

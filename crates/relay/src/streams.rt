@@ -1,10 +1,10 @@
 // Salt pools and streams.
 use super::SETTINGS;
 use protocol::Refusal;
+use request_open::RequestOpened;
+use response_open::ResponseOpened;
 use stream::Sealed;
 use stream_open::Chunk;
-use stream_open::RequestOpened;
-use stream_open::ResponseOpened;
 use stream_open::Step;
 use stream_open::Stepped;
 use words::ANSWER;
@@ -23,8 +23,8 @@ ghost use mathlib.Core.Path.{_≡_};
 ghost use lib.ListN.{length};
 ghost use Rattle.pool.specs.Pool.{makeLawful, made};
 ghost use Rattle.stream.specs.Sealing.{requestAnswer, request, responseAnswer, response, senderKey, chunk, sealOut};
-ghost use Rattle.stream_open.specs.Heads.{openedResponse};
-ghost use Rattle.stream_open.specs.Requests.{openedRequest};
+ghost use Rattle.response_open.specs.Heads.{openedResponse};
+ghost use Rattle.request_open.specs.Requests.{openedRequest};
 ghost use Rattle.words.specs.Answers.{answerWords};
 ghost use Rattle.words.specs.States.{streamSize, senderIn};
 ghost use Rattle.relay.specs.Datagrams.{settingsNumber};
@@ -202,7 +202,7 @@ pub extern "C" fn relay_stream_open_request(
     ensures { λ r. ⌜ now (answer .exit) ≡ streams.requestAnswer (streams.requestIn (length (now (stream .entry))) (length (now (answer .entry))) (openedRequest method (now (key .entry)) clock (now (bytes .entry)) (now (pool .entry)) (now (out .entry)))) (now (answer .entry)) ⌝ }
 {
     if fits(stream.len(), answer.len()) {
-        let opened = stream_open::open_request(method, key, clock, bytes, pool, out);
+        let opened = request_open::open_request(method, key, clock, bytes, pool, out);
         return tell_request(opened, stream, answer);
     }
     SETTINGS
@@ -247,7 +247,7 @@ pub extern "C" fn relay_stream_open_response(
     ensures { λ r. ⌜ now (answer .exit) ≡ streams.responseAnswer (streams.responseIn (length (now (stream .entry))) (length (now (answer .entry))) (openedResponse method (now (key .entry)) clock (now («request_salt» .entry)) (now (bytes .entry)))) (now (answer .entry)) ⌝ }
 {
     if fits(stream.len(), answer.len()) {
-        let opened = stream_open::open_response(method, key, clock, request_salt, bytes);
+        let opened = response_open::open_response(method, key, clock, request_salt, bytes);
         return tell_response(opened, stream, answer);
     }
     SETTINGS
