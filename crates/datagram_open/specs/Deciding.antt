@@ -17,10 +17,10 @@ use Rattle.protocol.specs.declared.Refusal.the-variants.{Replay as RefusedRepla
 use Rattle.protocol.specs.Refusal.{refusalNumber}
 use Rattle.datagram.specs.declared.Side.{Side}
 use Rattle.datagram.specs.declared.Side.the-variants.{Client, Server}
-use Rattle.datagram_open.specs.declared.Header.{Header}
-use Rattle.datagram_open.specs.declared.Opened.{Opened}
-use Rattle.datagram_open.specs.declared.Opened.the-variants.{Datagram, Refused}
-use Rattle.datagram_open.specs.Opening.{sessionOf, packetOf, bodyText, readAnswer, readOut}
+use Rattle.datagram_read.specs.declared.Header.{Header}
+use Rattle.datagram_read.specs.declared.Opened.{Opened}
+use Rattle.datagram_read.specs.declared.Opened.the-variants.{Datagram, Refused}
+use Rattle.datagram_read.specs.Opening.{sessionOf, packetOf, bodyText, readAnswer, readOut}
 
 -- whose datagram a call expects: a server's call has no client session ID, and opens clients' datagrams
 abbrev pub expected : Option ℕ → Side

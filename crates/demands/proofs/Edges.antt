@@ -30,9 +30,9 @@ use Rattle.book.specs.Runs.{tableOutcomeBy}
 use Rattle.book.specs.Demand3.{viewOfPage, viewOfRecord}
 use Rattle.datagram.specs.declared.Side.the-variants.{Client}
 use Rattle.datagram.specs.Headers.{fixedPart, plaintext}
-use Rattle.datagram_open.specs.declared.Opened.{Opened}
-use Rattle.datagram_open.specs.declared.Opened.the-variants.{Datagram, Refused}
-use Rattle.datagram_open.specs.Opening.{readAddress, readMain}
+use Rattle.datagram_read.specs.declared.Opened.{Opened}
+use Rattle.datagram_read.specs.declared.Opened.the-variants.{Datagram, Refused}
+use Rattle.datagram_read.specs.Opening.{readAddress, readMain}
 
 pub record Row : Type 0 where
   pub edge : ℕ

@@ -25,8 +25,8 @@ use Rattle.datagram.specs.declared.Sender.{Sender}
 use Rattle.datagram.specs.declared.Sealed.the-variants.{Datagram as Written}
 use Rattle.datagram.specs.Headers.{typeOf, fixedLength, plaintext}
 use Rattle.datagram.specs.Sealing.{maxDatagram, sealAnswer, datagram}
-use Rattle.datagram_open.specs.declared.Header.{Header}
-use Rattle.datagram_open.specs.Opening.{sessionOf, packetOf, bodyAuthentic, timeOf, paddingOf, meant}
+use Rattle.datagram_read.specs.declared.Header.{Header}
+use Rattle.datagram_read.specs.Opening.{sessionOf, packetOf, bodyAuthentic, timeOf, paddingOf, meant}
 use Rattle.datagram_open.specs.Deciding.{expected, plainOf, openerOf, openAnswer, openOut, openTable}
 
 -- ---- answers

@@ -1,5 +1,5 @@
 // What is written into a lent answer.
-use datagram_open::Header;
+use datagram_read::Header;
 use protocol::Refusal;
 use request_open::Request;
 use socks5::Target;
