@@ -19,8 +19,8 @@ use Rattle.book.specs.Call.{Call, Decision, early, reaches, refused, onto}
 use Rattle.book.specs.Runs.{report, tableOutcomeBy, tableNextBy}
 use Rattle.protocol.specs.declared.Refusal.{Refusal}
 use Rattle.protocol.specs.Refusal.{refusalNumber}
-use Rattle.datagram.specs.declared.Side.{Side}
-use Rattle.datagram.specs.declared.Side.the-variants.{Client, Server}
+use Rattle.datagram_parts.specs.declared.Side.{Side}
+use Rattle.datagram_parts.specs.declared.Side.the-variants.{Client, Server}
 use Rattle.datagram_read.specs.declared.Header.{Header}
 use Rattle.datagram_read.specs.declared.Opened.{Opened}
 use Rattle.datagram_read.specs.declared.Opened.the-variants.{Datagram, Refused}

@@ -1,5 +1,5 @@
 // Opening datagrams of SIP022, section 3.2: takes what was read to its session.
-use datagram::Side;
+use datagram_parts::Side;
 pub use datagram_read::Header;
 pub use datagram_read::Opened;
 use datagram_read::read_datagram;

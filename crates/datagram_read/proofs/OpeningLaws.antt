@@ -31,12 +31,12 @@ use Rattle.socks5.specs.declared.Address.{Address}
 use Rattle.socks5.specs.declared.Parsed.{Parsed}
 use Rattle.socks5.specs.declared.Parsed.the-variants.{Found, Malformed as NoAddress}
 use Rattle.socks5.specs.Address.{parseAt}
-use Rattle.datagram.specs.declared.Side.{Side}
-use Rattle.datagram.specs.declared.Side.the-variants.{Client, Server}
-use Rattle.datagram.specs.Headers.{separateHeader, nonce, typeOf, fixedLength}
-use Rattle.datagram.specs.Sealing.{maxDatagram}
-use Rattle.datagram.proofs.LengthLaws.{length-nonce}
-use Rattle.datagram.proofs.SubkeyLaws.{length-session-subkey, subkey-front, header-nonce}
+use Rattle.datagram_parts.specs.declared.Side.{Side}
+use Rattle.datagram_parts.specs.declared.Side.the-variants.{Client, Server}
+use Rattle.datagram_parts.specs.Headers.{separateHeader, nonce, typeOf, fixedLength}
+use Rattle.datagram_parts.specs.Parts.{maxDatagram}
+use Rattle.datagram_parts.proofs.LengthLaws.{length-nonce}
+use Rattle.datagram_parts.proofs.SubkeyLaws.{length-session-subkey, subkey-front, header-nonce}
 use Rattle.datagram_read.specs.declared.Opened.{Opened}
 use Rattle.datagram_read.specs.declared.Opened.the-variants.{Datagram, Refused}
 use Rattle.datagram_read.specs.Opening.{separateOf, sessionOf, packetOf, bodyAuthentic, bodyText, pickOpened, timeOf, paddingOf, meant, headerWith, readAddress, readMain, lengthLawful, readBody, readAnswer, settled, bodyOut, readOut}

@@ -20,10 +20,10 @@ use Rattle.protocol.specs.Time.{timeValid}
 use Rattle.socks5.specs.declared.Parsed.{Parsed}
 use Rattle.socks5.specs.declared.Parsed.the-variants.{Found, Malformed as NoAddress}
 use Rattle.socks5.specs.Address.{parseAt}
-use Rattle.datagram.specs.declared.Side.{Side}
-use Rattle.datagram.specs.declared.Side.the-variants.{Client, Server}
-use Rattle.datagram.specs.Headers.{nonce, typeOf, fixedLength}
-use Rattle.datagram.specs.Sealing.{maxDatagram}
+use Rattle.datagram_parts.specs.declared.Side.{Side}
+use Rattle.datagram_parts.specs.declared.Side.the-variants.{Client, Server}
+use Rattle.datagram_parts.specs.Headers.{nonce, typeOf, fixedLength}
+use Rattle.datagram_parts.specs.Parts.{maxDatagram}
 use Rattle.datagram_read.specs.declared.Header.{Header}
 use Rattle.datagram_read.specs.declared.Opened.{Opened}
 use Rattle.datagram_read.specs.declared.Opened.the-variants.{Datagram, Refused}

@@ -1,9 +1,9 @@
 // Opening datagrams of SIP022, section 3.2, as far as their own bytes decide it. What is read here has still to be fresh in a
 // session.
-use datagram::MAX_DATAGRAM;
-use datagram::Side;
-use datagram::fixed_length;
-use datagram::separate_header;
+use datagram_parts::MAX_DATAGRAM;
+use datagram_parts::Side;
+use datagram_parts::fixed_length;
+use datagram_parts::separate_header;
 use protocol::Refusal;
 use socks5::Parsed;
 use socks5::Target;
@@ -13,8 +13,8 @@ ghost use lib.ListN.{length};
 ghost use Rattle.octets.specs.Buffers.{put};
 ghost use Rattle.aes.specs.KeyExpansion.{if};
 ghost use Rattle.aes.specs.Keyed.{nkOf};
-ghost use Rattle.datagram.specs.Headers.{typeOf, fixedLength};
-ghost use Rattle.datagram.specs.Sealing.{maxDatagram};
+ghost use Rattle.datagram_parts.specs.Headers.{typeOf, fixedLength};
+ghost use Rattle.datagram_parts.specs.Parts.{maxDatagram};
 ghost use Rattle.datagram_read.specs.Opening.{sessionOf, packetOf, bodyAuthentic, bodyText, meant, readAddress, readMain, settled, readBody, bodyOut, readAnswer, readOut};
 
 // What an opened datagram says. A name's place and the payload's are places in the plaintext.

@@ -17,7 +17,7 @@ use Rattle.socks5.specs.Address.{parseAt}
 use Rattle.socks5.proofs.PlaceLaws.{One, one-found}
 use Rattle.datagram.specs.declared.Sender.{Sender}
 use Rattle.datagram.specs.declared.Sealed.the-variants.{Datagram as Written}
-use Rattle.datagram.specs.Headers.{plaintext}
+use Rattle.datagram_parts.specs.Headers.{plaintext}
 use Rattle.datagram.specs.Sealing.{sealAnswer, datagram, sealOut}
 use Rattle.datagram_read.specs.declared.Opened.the-variants.{Datagram}
 use Rattle.datagram_read.specs.Opening.{readAnswer, readOut}

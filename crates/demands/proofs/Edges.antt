@@ -28,8 +28,8 @@ use Rattle.book.specs.Call.{Call, Answer, refused, opened, reaches}
 use Rattle.book.specs.Book.{Page, pageAlive, fresh, accept, newPage, outcomeBy}
 use Rattle.book.specs.Runs.{tableOutcomeBy}
 use Rattle.book.specs.Demand3.{viewOfPage, viewOfRecord}
-use Rattle.datagram.specs.declared.Side.the-variants.{Client}
-use Rattle.datagram.specs.Headers.{fixedPart, plaintext}
+use Rattle.datagram_parts.specs.declared.Side.the-variants.{Client}
+use Rattle.datagram_parts.specs.Headers.{fixedPart, plaintext}
 use Rattle.datagram_read.specs.declared.Opened.{Opened}
 use Rattle.datagram_read.specs.declared.Opened.the-variants.{Datagram, Refused}
 use Rattle.datagram_read.specs.Opening.{readAddress, readMain}

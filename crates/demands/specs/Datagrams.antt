@@ -19,12 +19,13 @@ use Rattle.protocol.specs.Time.{timeValid}
 use Rattle.socks5.specs.declared.Address.{Address}
 use Rattle.socks5.specs.declared.Parsed.the-variants.{Found}
 use Rattle.socks5.specs.Address.{parseAt, moved}
-use Rattle.datagram.specs.declared.Side.{Side}
-use Rattle.datagram.specs.declared.Side.the-variants.{Client, Server}
+use Rattle.datagram_parts.specs.declared.Side.{Side}
+use Rattle.datagram_parts.specs.declared.Side.the-variants.{Client, Server}
 use Rattle.datagram.specs.declared.Sender.{Sender}
 use Rattle.datagram.specs.declared.Sealed.the-variants.{Datagram as Written}
-use Rattle.datagram.specs.Headers.{typeOf, fixedLength, plaintext}
-use Rattle.datagram.specs.Sealing.{maxDatagram, sealAnswer, datagram}
+use Rattle.datagram_parts.specs.Headers.{typeOf, fixedLength, plaintext}
+use Rattle.datagram_parts.specs.Parts.{maxDatagram}
+use Rattle.datagram.specs.Sealing.{sealAnswer, datagram}
 use Rattle.datagram_read.specs.declared.Header.{Header}
 use Rattle.datagram_read.specs.Opening.{sessionOf, packetOf, bodyAuthentic, timeOf, paddingOf, meant}
 use Rattle.datagram_open.specs.Deciding.{expected, plainOf, openerOf, openAnswer, openOut, openTable}

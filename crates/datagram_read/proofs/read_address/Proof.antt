@@ -1,6 +1,6 @@
 use native.Mathlib.Omega.{arith}
 use borrow.Author.Needs.{needs}
-use Rattle.datagram.proofs.LengthLaws.{fixed-least, fixed-most}
+use Rattle.datagram_parts.proofs.LengthLaws.{fixed-least, fixed-most}
 use Rattle.datagram_read.proofs.OpeningLaws.{address-found, address-none}
 use Rattle.datagram_read.proofs.read_address.Statement.{statement}
 use Rattle.datagram_read.proofs.read_address.Tie as tie

@@ -4,7 +4,7 @@ use native.Mathlib.Omega.{arith}
 use borrow.Author.Needs.{needs}
 use lib.ListN.{length}
 use Rattle.aes.specs.Keyed.{nkOf}
-use Rattle.datagram.proofs.SubkeyLaws.{key-of-method}
+use Rattle.datagram_parts.proofs.SubkeyLaws.{key-of-method}
 use Rattle.datagram_read.proofs.OpeningLaws.{length-body, read-settings, read-short, read-long, read-room, read-done}
 use Rattle.datagram_read.proofs.read_datagram.Statement.{statement}
 use Rattle.datagram_read.proofs.read_datagram.Tie as tie

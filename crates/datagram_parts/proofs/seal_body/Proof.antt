@@ -5,10 +5,10 @@ use lib.Dec.{lit≤}
 use lib.ListN.{replicate}
 use lib.Seq.{length-take-le}
 use Rattle.aes.proofs.KeyedLaws.{key-most}
-use Rattle.datagram.proofs.SubkeyLaws.{subkey-front, header-nonce}
-use Rattle.datagram.proofs.WritingLaws.{body-law}
-use Rattle.datagram.proofs.write.seal_body.Statement.{statement}
-use Rattle.datagram.proofs.write.seal_body.Tie as tie
+use Rattle.datagram_parts.proofs.SubkeyLaws.{subkey-front, header-nonce}
+use Rattle.datagram_parts.proofs.WritingLaws.{body-law}
+use Rattle.datagram_parts.proofs.seal_body.Statement.{statement}
+use Rattle.datagram_parts.proofs.seal_body.Tie as tie
 
 derive-session-subkey-requires : tie.Need-derive-session-subkey-requires
 derive-session-subkey-requires c κs = (key-most _ (c .before .before .before .before .pre .0), lit≤ tt)

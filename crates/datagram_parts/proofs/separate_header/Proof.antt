@@ -1,9 +1,9 @@
 use mathlib.Core.Path.{refl}
 use borrow.Author.Needs.{needs}
 use lib.ListN.{replicate}
-use Rattle.datagram.proofs.WritingLaws.{header-law}
-use Rattle.datagram.proofs.separate_header.Statement.{statement}
-use Rattle.datagram.proofs.separate_header.Tie as tie
+use Rattle.datagram_parts.proofs.WritingLaws.{header-law}
+use Rattle.datagram_parts.proofs.separate_header.Statement.{statement}
+use Rattle.datagram_parts.proofs.separate_header.Tie as tie
 
 returns : tie.Need-returns
 returns c =

@@ -20,7 +20,7 @@ use Rattle.blake3.proofs.DerivationLaws.{length-deriveKey}
 use Rattle.protocol.specs.Method.{keyFits}
 use Rattle.protocol.proofs.MethodLaws.{fits-sizes}
 use Rattle.protocol.specs.Subkey.{subkey, sessionSubkey}
-use Rattle.datagram.specs.Headers.{separateHeader, nonce}
+use Rattle.datagram_parts.specs.Headers.{separateHeader, nonce}
 
 -- a key that has its method's length is a key of AES
 pub key-of-method : (method k : ℕ) → keyFits method k ≡ true → 0 < nkOf k

@@ -1,9 +1,9 @@
 use native.Mathlib.Omega.{arith}
 use borrow.Author.Needs.{needs}
-use Rattle.datagram.proofs.LengthLaws.{fixed-least}
-use Rattle.datagram.proofs.WritingLaws.{plaintext-law}
-use Rattle.datagram.proofs.write.write_plaintext.Statement.{statement}
-use Rattle.datagram.proofs.write.write_plaintext.Tie as tie
+use Rattle.datagram_parts.proofs.LengthLaws.{fixed-least}
+use Rattle.datagram_parts.proofs.WritingLaws.{plaintext-law}
+use Rattle.datagram_parts.proofs.write_plaintext.Statement.{statement}
+use Rattle.datagram_parts.proofs.write_plaintext.Tie as tie
 
 write-fixed-requires : tie.Need-write-fixed-requires
 write-fixed-requires c κs =

@@ -1,9 +1,9 @@
 use mathlib.Core.Path.{_∙_}
 use borrow.Author.Needs.{needs}
 use lib.ListN.{length-set}
-use Rattle.datagram.proofs.WritingLaws.{start-law}
-use Rattle.datagram.proofs.write.write_start.Statement.{statement}
-use Rattle.datagram.proofs.write.write_start.Tie as tie
+use Rattle.datagram_parts.proofs.WritingLaws.{start-law}
+use Rattle.datagram_parts.proofs.write_start.Statement.{statement}
+use Rattle.datagram_parts.proofs.write_start.Tie as tie
 
 write-start-law : tie.Need-returns
 write-start-law c = let w = c .before .before in start-law _ _ _ _ (w .before .before .before .pre) (w .write-u64-be .ensures)

@@ -1,11 +1,11 @@
 use mathlib.Core.Path.{sym, ap, _∙_}
 use borrow.Author.Needs.{needs}
 use Rattle.octets.specs.Buffers.{put}
-use Rattle.datagram.specs.declared.Side.{Side}
-use Rattle.datagram.specs.Headers.{fixedPart}
-use Rattle.datagram.proofs.WritingLaws.{client-law, server-law}
-use Rattle.datagram.proofs.write.write_fixed.Statement.{statement}
-use Rattle.datagram.proofs.write.write_fixed.Tie as tie
+use Rattle.datagram_parts.specs.declared.Side.{Side}
+use Rattle.datagram_parts.specs.Headers.{fixedPart}
+use Rattle.datagram_parts.proofs.WritingLaws.{client-law, server-law}
+use Rattle.datagram_parts.proofs.write_fixed.Statement.{statement}
+use Rattle.datagram_parts.proofs.write_fixed.Tie as tie
 
 returns : tie.Need-returns
 returns c =

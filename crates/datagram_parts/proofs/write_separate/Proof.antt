@@ -1,9 +1,9 @@
 use mathlib.Core.Path.{ap, _∙_}
 use borrow.Author.Needs.{needs}
 use Rattle.octets.specs.Buffers.{put}
-use Rattle.datagram.proofs.WritingLaws.{block-law}
-use Rattle.datagram.proofs.write.write_separate.Statement.{statement}
-use Rattle.datagram.proofs.write.write_separate.Tie as tie
+use Rattle.datagram_parts.proofs.WritingLaws.{block-law}
+use Rattle.datagram_parts.proofs.write_separate.Statement.{statement}
+use Rattle.datagram_parts.proofs.write_separate.Tie as tie
 
 returns : tie.Need-returns
 returns c =
