@@ -28,7 +28,7 @@ use Rattle.pool.specs.declared.Met.the-variants.{Room as Free, Replay as Known,
 use Rattle.pool.specs.Pool.{meet, store}
 use Rattle.stream.specs.declared.Subkey.{Subkey}
 use Rattle.stream.specs.Pieces.{authenticAt, openAt, subkeyWords}
-use Rattle.stream.specs.Sealing.{maxPadding}
+use Rattle.head_seal.specs.HeadSealing.{maxPadding}
 use Rattle.stream_open.specs.declared.Turn.the-variants.{Length}
 use Rattle.stream_open.specs.declared.Receiver.{Receiver}
 use Rattle.response_open.specs.declared.Fixed.{Fixed}

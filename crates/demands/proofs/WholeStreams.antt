@@ -11,7 +11,8 @@ use Rattle.octets.proofs.BufferLaws.{length-put, take-put}
 use Rattle.stream.specs.declared.Sender.{Sender}
 use Rattle.stream.specs.declared.Sealed.{Sealed}
 use Rattle.stream.specs.declared.Sealed.the-variants.{Bytes}
-use Rattle.stream.specs.Sealing.{response, chunk, senderKey, chunkAnswer}
+use Rattle.stream.specs.Sealing.{chunk, senderKey, chunkAnswer}
+use Rattle.head_seal.specs.HeadSealing.{response}
 use Rattle.stream_open.specs.declared.Turn.the-variants.{Length, Payload}
 use Rattle.stream_open.specs.declared.Chunk.{Chunk}
 use Rattle.stream_open.specs.declared.Stepped.the-variants.{Opened}

@@ -17,7 +17,8 @@ use Rattle.stream.specs.declared.Sender.{Sender}
 use Rattle.stream.specs.declared.Sealed.{Sealed}
 use Rattle.stream.specs.declared.Sealed.the-variants.{Bytes, Refused as Unsealed}
 use Rattle.stream.specs.Pieces.{nonce}
-use Rattle.stream.specs.Sealing.{variablePart, variableLength, request, response, chunk, senderKey, requestAnswer, responseAnswer, chunkAnswer}
+use Rattle.stream.specs.Sealing.{chunk, senderKey, chunkAnswer}
+use Rattle.head_seal.specs.HeadSealing.{variablePart, variableLength, request, response, requestAnswer, responseAnswer}
 use Rattle.stream_open.specs.declared.Turn.{Turn}
 use Rattle.stream_open.specs.declared.Turn.the-variants.{Length, Payload, Ended}
 use Rattle.stream_open.specs.declared.Receiver.{Receiver}

@@ -16,7 +16,8 @@ use Rattle.stream.specs.declared.Sender.{Sender}
 use Rattle.stream.specs.declared.Sealed.{Sealed}
 use Rattle.stream.specs.declared.Sealed.the-variants.{Bytes, Refused as Unsealed}
 use Rattle.stream.specs.Pieces.{openAt}
-use Rattle.stream.specs.Sealing.{request, response, chunk, senderKey, requestAnswer, responseAnswer, chunkAnswer, sealOut}
+use Rattle.stream.specs.Sealing.{chunk, senderKey, chunkAnswer, sealOut}
+use Rattle.head_seal.specs.HeadSealing.{request, response, requestAnswer, responseAnswer}
 use Rattle.stream_open.specs.declared.Turn.{Turn}
 use Rattle.stream_open.specs.declared.Turn.the-variants.{Length, Payload, Ended}
 use Rattle.stream_open.specs.declared.Receiver.{Receiver}

@@ -16,7 +16,8 @@ use Rattle.socks5.specs.Address.{parseAt}
 use Rattle.pool.specs.declared.Met.the-variants.{Room as Free}
 use Rattle.pool.specs.Pool.{meet, store}
 use Rattle.stream.specs.Pieces.{authenticAt, openAt, subkeyWords}
-use Rattle.stream.specs.Sealing.{maxPadding, lastCounter}
+use Rattle.stream.specs.Sealing.{lastCounter}
+use Rattle.head_seal.specs.HeadSealing.{maxPadding}
 use Rattle.stream_open.specs.declared.Turn.{Turn}
 use Rattle.stream_open.specs.declared.Turn.the-variants.{Length, Payload, Ended}
 use Rattle.stream_open.specs.declared.Receiver.{Receiver}

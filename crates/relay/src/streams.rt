@@ -22,7 +22,8 @@ use words::sender_words;
 ghost use mathlib.Core.Path.{_≡_};
 ghost use lib.ListN.{length};
 ghost use Rattle.pool.specs.Pool.{makeLawful, made};
-ghost use Rattle.stream.specs.Sealing.{requestAnswer, request, responseAnswer, response, senderKey, chunk, sealOut};
+ghost use Rattle.stream.specs.Sealing.{senderKey, chunk, sealOut};
+ghost use Rattle.head_seal.specs.HeadSealing.{requestAnswer, request, responseAnswer, response};
 ghost use Rattle.response_open.specs.Heads.{openedResponse};
 ghost use Rattle.request_open.specs.Requests.{openedRequest};
 ghost use Rattle.words.specs.Answers.{answerWords};
@@ -93,7 +94,16 @@ pub extern "C" fn relay_stream_seal_request(
     ensures { λ r. ⌜ now (answer .exit) ≡ streams.sealedWords (streams.sealedIn (length (now (stream .entry))) (length (now (answer .entry))) (requestAnswer method (now (key .entry)) (now (salt .entry)) (now (address .entry)) padding (length (now (payload .entry))) (length (now (out .entry))))) (now (answer .entry)) ⌝ }
 {
     if fits(stream.len(), answer.len()) {
-        let sealed = stream::seal_request(method, key, salt, clock, address, padding, payload, out);
+        let sealed = head_seal::seal_request(
+            method,
+            key,
+            salt,
+            clock,
+            address,
+            padding,
+            payload,
+            out,
+        );
         return tell_sealed(sealed, stream, answer);
     }
     SETTINGS
@@ -118,7 +128,7 @@ pub extern "C" fn relay_stream_seal_response(
     ensures { λ r. ⌜ now (answer .exit) ≡ streams.sealedWords (streams.sealedIn (length (now (stream .entry))) (length (now (answer .entry))) (responseAnswer method (now (key .entry)) (now (salt .entry)) (now («request_salt» .entry)) (length (now (payload .entry))) (length (now (out .entry))))) (now (answer .entry)) ⌝ }
 {
     if fits(stream.len(), answer.len()) {
-        let sealed = stream::seal_response(method, key, salt, request_salt, clock, payload, out);
+        let sealed = head_seal::seal_response(method, key, salt, request_salt, clock, payload, out);
         return tell_sealed(sealed, stream, answer);
     }
     SETTINGS

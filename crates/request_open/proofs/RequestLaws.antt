@@ -29,7 +29,7 @@ use Rattle.pool.specs.declared.Met.the-variants.{Room as Free, Replay as Known,
 use Rattle.pool.specs.Pool.{poolWords, lawful, meet}
 use Rattle.stream.specs.declared.Subkey.{Subkey}
 use Rattle.stream.specs.Pieces.{authenticAt, openAt, subkeyWords, keyOf}
-use Rattle.stream.specs.Sealing.{maxPadding}
+use Rattle.head_seal.specs.HeadSealing.{maxPadding}
 use Rattle.stream.proofs.LengthLaws.{length-openAt}
 use Rattle.stream.proofs.KeyLaws.{key-of-method, length-subkey, octets-subkey, subkey-back}
 use Rattle.response_open.specs.declared.Fixed.{Fixed}

@@ -1,4 +1,5 @@
 // Opening the head of a request of SIP022, section 3.1, on a salt pool.
+use head_seal::MAX_PADDING;
 use pool::Met;
 use protocol::Refusal;
 use response_open::Fixed;
@@ -6,7 +7,6 @@ use response_open::FixedRead;
 use response_open::open_fixed;
 use socks5::Parsed;
 use socks5::Target;
-use stream::MAX_PADDING;
 use stream::Subkey;
 use stream::derive;
 use stream::open_piece;

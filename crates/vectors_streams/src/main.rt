@@ -490,7 +490,7 @@ fn seals_request(
     let method = octets::read_u64_be(s, at + 8);
     let clock = octets::read_u64_be(s, at + 16);
     let padding = octets::read_u64_be(s, at + 24) as usize;
-    let sealed = stream::seal_request(method, key, salt, clock, address, padding, payload, out);
+    let sealed = head_seal::seal_request(method, key, salt, clock, address, padding, payload, out);
     sealed_so(s, at, sealed, words)
 }
 
@@ -508,7 +508,7 @@ fn seals_response(
 {
     let method = octets::read_u64_be(s, at + 8);
     let clock = octets::read_u64_be(s, at + 16);
-    let sealed = stream::seal_response(method, key, salt, binding, clock, payload, out);
+    let sealed = head_seal::seal_response(method, key, salt, binding, clock, payload, out);
     sealed_so(s, at, sealed, words)
 }
 
