@@ -1,6 +1,6 @@
 use borrow.Author.Needs.{needs}
-use Rattle.octets.proofs.padded.Statement.{statement}
-use Rattle.octets.proofs.padded.Tie as tie
+use Rattle.buffers.proofs.padded.Statement.{statement}
+use Rattle.buffers.proofs.padded.Tie as tie
 
 returns : tie.Need-returns
 returns c = c .before .copy .ensures

@@ -5,10 +5,10 @@ use Prim.Native.Nat.{ℕ, _-_, _≤_}
 use borrow.Author.Needs.{needs}
 use lib.Bits.{bitXor}
 use lib.ListN.{length, getD, take, set, length-set}
-use Rattle.octets.specs.Buffers.{_⊞_}
-use Rattle.octets.proofs.BufferLaws.{xor-none, xor-next, xor-all}
-use Rattle.octets.proofs.xor_into.Statement.{statement}
-use Rattle.octets.proofs.xor_into.Tie as tie
+use Rattle.buffers.specs.Buffers.{_⊞_}
+use Rattle.buffers.proofs.BufferLaws.{xor-none, xor-next, xor-all}
+use Rattle.buffers.proofs.xor_into.Statement.{statement}
+use Rattle.buffers.proofs.xor_into.Tie as tie
 
 abbrev Inv-loop : tie.InvT-loop
 Inv-loop out₀ with common i₀ out i = (i ≤ common) × (length out ≡ length out₀) × (out ≡ out₀ ⊞ take i with)

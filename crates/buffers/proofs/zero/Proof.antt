@@ -5,10 +5,10 @@ use Prim.Native.Nat.{ℕ, _+_, _-_, _≤_}
 use native.Mathlib.Omega.{arith}
 use borrow.Author.Needs.{needs}
 use lib.ListN.{length, take, set, length-set, replicate, length-replicate, getD-replicate}
-use Rattle.octets.specs.Buffers.{put}
-use Rattle.octets.proofs.BufferLaws.{put-none, put-next, put-all}
-use Rattle.octets.proofs.zero.Statement.{statement}
-use Rattle.octets.proofs.zero.Tie as tie
+use Rattle.buffers.specs.Buffers.{put}
+use Rattle.buffers.proofs.BufferLaws.{put-none, put-next, put-all}
+use Rattle.buffers.proofs.zero.Statement.{statement}
+use Rattle.buffers.proofs.zero.Tie as tie
 
 abbrev Inv-loop : tie.InvT-loop
 Inv-loop out₀ at n i₀ out i = (i ≤ n) × (length out ≡ length out₀) × (out ≡ put out₀ at (take i (replicate n 0)))

@@ -4,10 +4,10 @@ use mathlib.Core.List.{List}
 use Prim.Native.Nat.{ℕ, _+_, _-_, _≤_}
 use borrow.Author.Needs.{needs}
 use lib.ListN.{length, getD, take, set, length-set}
-use Rattle.octets.specs.Buffers.{put}
-use Rattle.octets.proofs.BufferLaws.{put-none, put-next, put-all}
-use Rattle.octets.proofs.copy.Statement.{statement}
-use Rattle.octets.proofs.copy.Tie as tie
+use Rattle.buffers.specs.Buffers.{put}
+use Rattle.buffers.proofs.BufferLaws.{put-none, put-next, put-all}
+use Rattle.buffers.proofs.copy.Statement.{statement}
+use Rattle.buffers.proofs.copy.Tie as tie
 
 abbrev Inv-loop : tie.InvT-loop
 Inv-loop out₀ at from i₀ i-end out i = (i ≤ length from) × (length out ≡ length out₀) × (out ≡ put out₀ at (take i from))

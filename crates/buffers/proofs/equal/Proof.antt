@@ -6,10 +6,10 @@ use borrow.Author.Needs.{needs}
 use lib.Dec.{eqb}
 use lib.ListN.{length, getD, take}
 use lib.Seq.{take-all}
-use Rattle.octets.specs.Buffers.{both, same}
-use Rattle.octets.proofs.BufferLaws.{same-next, no-difference}
-use Rattle.octets.proofs.equal.Statement.{statement}
-use Rattle.octets.proofs.equal.Tie as tie
+use Rattle.buffers.specs.Buffers.{both, same}
+use Rattle.buffers.proofs.BufferLaws.{same-next, no-difference}
+use Rattle.buffers.proofs.equal.Statement.{statement}
+use Rattle.buffers.proofs.equal.Tie as tie
 
 abbrev Inv-loop : tie.InvT-loop
 Inv-loop a b differ₀ i₀ end differ i = (i ≤ length a) × (eqb differ 0 ≡ same (take i a) (take i b))
