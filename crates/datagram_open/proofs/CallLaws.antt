@@ -12,7 +12,7 @@ use lib.ListN.{length, drop, replicate, length-replicate}
 use borrow.Author.Tests.{eqb-true}
 use Rattle.octets.specs.Buffers.{put}
 use Rattle.octets.proofs.BufferLaws.{put-again}
-use Rattle.session.specs.declared.Peer.{Peer}
+use Rattle.session_record.specs.declared.Peer.{Peer}
 use Rattle.session.specs.declared.Admitted.{Admitted}
 use Rattle.session.specs.Table.{tableWords, lawful, Entry, stores, replay, full, meet, keep, admitted}
 use Rattle.book.specs.Call.{Call, Decision, early, reaches, refused, onto}

@@ -6,7 +6,7 @@ use mathlib.Core.Option.{Option, none, some}
 use Prim.Native.Nat.{ℕ}
 use lib.Dec.{leb}
 use lib.ListN.{length, drop}
-use Rattle.session.specs.declared.Peer.{Peer}
+use Rattle.session_record.specs.declared.Peer.{Peer}
 use Rattle.session.specs.declared.Admitted.{Admitted}
 use Rattle.session.specs.declared.Admitted.the-variants.{Accepted, Replay, Full}
 use Rattle.session.specs.Table.{meet, admitted}

@@ -12,7 +12,7 @@ use lib.ListN.{length, getD, drop, replicate, length-replicate}
 use borrow.Author.Tests.{leb-true, leb-false, le-leb, lt-leb, eqb-true, eq-eqb}
 use Rattle.octets.specs.Buffers.{both, put}
 use Rattle.octets.proofs.BufferLaws.{length-put, drop-put}
-use Rattle.session.specs.declared.Peer.{Peer}
+use Rattle.session_record.specs.declared.Peer.{Peer}
 use Rattle.session.specs.Table.{lawful}
 use Rattle.book.specs.Call.{Answer, refused, opened}
 use Rattle.protocol.specs.Method.{keyFits}

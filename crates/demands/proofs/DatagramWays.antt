@@ -10,7 +10,7 @@ use lib.Dec.{eqb, leb}
 use lib.ListN.{length, getD, replicate, length-replicate}
 use Rattle.octets.specs.Buffers.{put}
 use Rattle.octets.proofs.BufferLaws.{put-again}
-use Rattle.session.specs.declared.Peer.{Peer}
+use Rattle.session_record.specs.declared.Peer.{Peer}
 use Rattle.session.specs.Table.{recordAt, lawful, freshIn, acceptIn, sessionPlace, freePlace, Entry, stores, replay, full, meetBy, meet, keep, admitted}
 use Rattle.book.specs.Call.{Answer, refused, opened}
 use Rattle.protocol.specs.Method.{keyFits}

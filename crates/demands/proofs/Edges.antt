@@ -21,7 +21,7 @@ use Rattle.socks5.specs.declared.Target.the-variants.{V4, V6, Name}
 use Rattle.socks5.specs.declared.Parsed.{Parsed}
 use Rattle.socks5.specs.declared.Parsed.the-variants.{Found, Malformed}
 use Rattle.socks5.specs.Address.{nameAt, parseAt}
-use Rattle.session.specs.declared.Peer.{Peer}
+use Rattle.session_record.specs.declared.Peer.{Peer}
 use Rattle.session.specs.Sizes.{alive}
 use Rattle.session.specs.Table.{Record, freshIn, acceptIn, newRecord, newTable, store, live, meet, sessionPlace, freePlace}
 use Rattle.book.specs.Call.{Call, Answer, refused, opened, reaches}

@@ -8,7 +8,7 @@ use mathlib.Core.Option.{Option, none, some}
 use Prim.Native.Nat.{ℕ, _+_, _-_, _^_, _≤_, _<_}
 use lib.ListN.{length, getD, drop, replicate}
 use Rattle.octets.specs.Buffers.{Octets, put}
-use Rattle.session.specs.declared.Peer.{Peer}
+use Rattle.session_record.specs.declared.Peer.{Peer}
 use Rattle.session.specs.Table.{recordAt, lawful, freshIn, sessionPlace, freePlace}
 use Rattle.book.specs.Call.{Answer, refused, opened}
 use Rattle.protocol.specs.Method.{keyFits}

@@ -2,12 +2,12 @@
 use native.Mathlib.Omega.{arith}
 use mathlib.Core.Bool.{not}
 use mathlib.Core.Path.{sym, ap, _∙_}
-use Rattle.session.specs.Table.{recordOf}
+use Rattle.session_record.specs.Record.{recordOf}
 use Rattle.window.specs.Window.{number}
-use Rattle.session.proofs.WindowLaws.{fresh-above, fresh-within, fresh-behind}
+use Rattle.session_record.proofs.WindowLaws.{fresh-above, fresh-within, fresh-behind}
 use borrow.Author.Needs.{needs}
-use Rattle.session.proofs.is_fresh.Statement.{statement}
-use Rattle.session.proofs.is_fresh.Tie as tie
+use Rattle.session_record.proofs.is_fresh.Statement.{statement}
+use Rattle.session_record.proofs.is_fresh.Tie as tie
 
 returns : tie.Need-returns
 returns c =

@@ -1,12 +1,12 @@
 -- The three fields that change, for p above h and for one at or below it.
 use native.Mathlib.Nat.{max-eq-left, max-eq-right, le-of-lt}
 use mathlib.Core.Path.{sym, _∙_}
-use Rattle.session.specs.Table.{recordOf}
+use Rattle.session_record.specs.Record.{recordOf}
 use Rattle.window.specs.Window.{number}
-use Rattle.session.proofs.WindowLaws.{fresh-below, marked-above, marked-below, accepts}
+use Rattle.session_record.proofs.WindowLaws.{fresh-below, marked-above, marked-below, accepts}
 use borrow.Author.Needs.{needs}
-use Rattle.session.proofs.accept.Statement.{statement}
-use Rattle.session.proofs.accept.Tie as tie
+use Rattle.session_record.proofs.accept.Statement.{statement}
+use Rattle.session_record.proofs.accept.Tie as tie
 
 returns : tie.Need-returns
 unfolding number

@@ -5,9 +5,9 @@ use mathlib.Core.Bool.{Bool, true, false, not, _&&_, _||_, cond}
 use mathlib.Core.Path.{_≡_, refl, sym, ap, _∙_}
 use lib.Dec.{ltb}
 use borrow.Author.Tests.{lt-ltb, le-ltb, ltb-true}
-use Rattle.session.specs.declared.Peer.{Peer}
+use Rattle.session_record.specs.declared.Peer.{Peer}
 use Rattle.window.specs.Window.{window, bit}
-use Rattle.session.specs.Table.{Record, freshIn, markedWith, acceptIn}
+use Rattle.session_record.specs.Record.{Record, freshIn, markedWith, acceptIn}
 
 both : (a b : Bool) → (a && not b) ≡ true → (a ≡ true) × (b ≡ false)
 both true false e = (refl, refl)
