@@ -1,7 +1,7 @@
-use Rattle.relay.proofs.StreamLaws.{told-request, told-no-request}
+use Rattle.telling.proofs.ToldLaws.{told-request, told-no-request}
 use borrow.Author.Needs.{needs}
-use Rattle.relay.proofs.streams.tell_request.Statement.{statement}
-use Rattle.relay.proofs.streams.tell_request.Tie as tie
+use Rattle.telling.proofs.tell_request.Statement.{statement}
+use Rattle.telling.proofs.tell_request.Tie as tie
 
 returns : tie.Need-returns
 returns c =

@@ -1,7 +1,7 @@
-use Rattle.relay.proofs.StreamLaws.{told-bytes, told-unsealed}
+use Rattle.telling.proofs.ToldLaws.{told-bytes, told-unsealed}
 use borrow.Author.Needs.{needs}
-use Rattle.relay.proofs.streams.tell_sealed.Statement.{statement}
-use Rattle.relay.proofs.streams.tell_sealed.Tie as tie
+use Rattle.telling.proofs.tell_sealed.Statement.{statement}
+use Rattle.telling.proofs.tell_sealed.Tie as tie
 
 returns : tie.Need-returns
 returns c =
