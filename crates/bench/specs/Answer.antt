@@ -9,11 +9,11 @@ use Rattle.octets.specs.Numbers.{be, toBe}
 use Rattle.aes.specs.KeyExpansion.{if}
 use Rattle.ghash.specs.Ghash.{blocks, ghash}
 use Rattle.protocol.specs.Subkey.{subkey}
-use Rattle.session.specs.declared.Peer.{Peer}
+use Rattle.session_record.specs.declared.Peer.{Peer}
 use Rattle.book.specs.Call.{Answer, refused, opened}
 use Rattle.datagram.specs.declared.Sealed.{Sealed}
 use Rattle.datagram.specs.declared.Sealed.the-variants.{Datagram, Refused}
-use Rattle.datagram_open.specs.declared.Header.{Header}
+use Rattle.datagram_read.specs.declared.Header.{Header}
 use Rattle.protocol.specs.Refusal.{refusalNumber}
 use Rattle.stream.specs.declared.Subkey.{Subkey}
 use Rattle.stream.specs.declared.Sender.{Sender}

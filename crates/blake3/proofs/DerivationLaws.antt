@@ -9,8 +9,11 @@ use lib.Dec.{leb}
 use lib.ListN.{length, replicate}
 use Rattle.octets.specs.Numbers.{le}
 use Rattle.octets.specs.Buffers.{Octets, both}
-use Rattle.blake3.specs.Words.{add32, sum3, rotr, xor, firstEight, blockWords}
-use Rattle.blake3.specs.Compression.{initial, half, G, wordsAt, setAt, mixAt, columns, diagonals, oneRound, permuted, rounds, final, compressed}
+use Rattle.blake3_mixing.specs.Mixing.{add32, sum3, rotr, xor}
+use Rattle.blake3_compression.specs.Compression.{firstEight}
+use Rattle.blake3.specs.Words.{blockWords}
+use Rattle.blake3_mixing.specs.Mixing.{half, G}
+use Rattle.blake3_compression.specs.Compression.{initial, wordsAt, setAt, mixAt, columns, diagonals, oneRound, permuted, rounds, final, compressed}
 use Rattle.blake3.specs.Tree.{Node, blocks, chunk, tree, rootOf, outputWords, output, contextKey, deriveAt, deriveKey}
 use Rattle.blake3.proofs.WordLaws.{length-wordBytes, octets-wordBytes}
 use Rattle.blake3.specs.Derivation.{short, answer, derived, subkeyContext}

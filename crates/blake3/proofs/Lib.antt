@@ -1,4 +1,3 @@
 pub mod WordLaws
-pub mod CompressionLaws
 pub mod TreeLaws
 pub mod DerivationLaws

@@ -9,7 +9,7 @@ use borrow.Author.Tests.{le-leb}
 use lib.ListN.{length}
 use lib.Pow.{pow-mono}
 use Rattle.blake3.specs.Words.{blockWords}
-use Rattle.blake3.specs.Compression.{compressed}
+use Rattle.blake3_compression.specs.Compression.{compressed}
 use Rattle.blake3.specs.Tree.{Node, blocks, chunk, tree, rootOf, outputWords}
 
 module _ (k : List ℕ) (d t : ℕ) (s : List ℕ) where

@@ -1,4 +1,3 @@
 pub mod Words
-pub mod Compression
 pub mod Tree
 pub mod Derivation

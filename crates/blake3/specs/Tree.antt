@@ -4,8 +4,9 @@ use mathlib.Core.List.{List, _++_}
 use Prim.Native.Nat.{ℕ, zero, suc, _+_, _-_, _*_, _/_, _^_}
 use lib.Dec.{leb}
 use lib.ListN.{length, take, drop}
-use Rattle.blake3.specs.Words.{firstEight, blockWords, wordBytes}
-use Rattle.blake3.specs.Compression.{iv, compressed}
+use Rattle.blake3_compression.specs.Compression.{firstEight}
+use Rattle.blake3.specs.Words.{blockWords, wordBytes}
+use Rattle.blake3_compression.specs.Compression.{iv, compressed}
 
 -- ---- the flags (table 3): each is a bit of its own, so that they are set by adding
 

@@ -1,15 +1,14 @@
 // BLAKE3's key derivation, from a context and key material of at most one block of 64 bytes each: each is then one chunk of
 // one block, the root of its own tree, and costs one compression.
-use compression::compress;
+use blake3_compression::compress;
 ghost use mathlib.Core.Path.{_≡_};
 ghost use Prim.Native.Nat.{_≤_};
 ghost use lib.ListN.{length};
 ghost use Rattle.octets.specs.Buffers.{put};
-ghost use Rattle.blake3.specs.Words.{firstEight, blockWords, wordBytes};
+ghost use Rattle.blake3_compression.specs.Compression.{firstEight};
+ghost use Rattle.blake3.specs.Words.{blockWords, wordBytes};
 ghost use Rattle.blake3.specs.Tree.{rootOf, outputWords, contextKey, deriveAt, deriveKey};
 ghost use Rattle.blake3.specs.Derivation.{derived, subkeyContext};
-
-pub mod compression;
 
 const CHUNK_START: u32 = 1;
 

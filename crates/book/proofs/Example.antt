@@ -3,7 +3,7 @@ use mathlib.Core.Path.{_≡_, refl}
 use mathlib.Core.List.{List, [], _∷_, map}
 use mathlib.Core.Option.{none}
 use Prim.Native.Nat.{ℕ}
-use Rattle.session.specs.declared.Peer.{Peer}
+use Rattle.session_record.specs.declared.Peer.{Peer}
 use Rattle.session.specs.Table.{newTable, meet, sessionPlace, freePlace}
 use Rattle.book.specs.Call.{Call, refused, opened, Outcome, Decision, early, reaches}
 use Rattle.book.specs.Runs.{tableOutcomes}

@@ -9,7 +9,7 @@ use native.Mathlib.Nat.{le-refl}
 use native.Mathlib.Omega.{arith}
 use lib.ListN.{length}
 use Rattle.records.proofs.SearchLaws.{lowest-found, lowest-none}
-use Rattle.session.specs.declared.Peer.{Peer}
+use Rattle.session_record.specs.declared.Peer.{Peer}
 use Rattle.session.specs.Sizes.{capacity}
 use Rattle.session.specs.Table.{Record, tableWords, retention, recordAt, store, acceptIn, newRecord, lowest, live, holds, sessionPlace, freePlace, Entry, stores, meetBy, meet, keep}
 use Rattle.book.specs.Call.{Call, Decision, early, reaches}

@@ -7,7 +7,7 @@ use mathlib.Core.List.{List, _∷_}
 use mathlib.Core.Option.{Option, none, some}
 use Prim.Native.Nat.{ℕ, _+_, _≤_}
 use native.Mathlib.Omega.{arith}
-use Rattle.session.specs.declared.Peer.{Peer}
+use Rattle.session_record.specs.declared.Peer.{Peer}
 use Rattle.book.specs.Call.{Call, refused, Decision, early, reaches}
 use Rattle.book.specs.Book.{Page, page, living, without, until, pageAlive, most, crowded, fresh, accept, newPage, BookEntry, enters, replay, full, judge, judgeBy, turn, tell, outcomeBy, nextBy}
 use Rattle.book.proofs.Tests.{leb-true, leb-le, leb-lt, leb-false, some≢none}

@@ -8,7 +8,7 @@ use native.Mathlib.Nat.{max-eq-right, mod-lt}
 use native.Mathlib.Omega.{arith}
 use lib.Dec.{ltb, eqb, lit<}
 use lib.Pow.{pow-pos}
-use Rattle.session.specs.declared.Peer.{Peer}
+use Rattle.session_record.specs.declared.Peer.{Peer}
 use Rattle.window.specs.Window.{window, bit}
 use Rattle.session.specs.Table.{Record, freshIn, markedWith, acceptIn, newRecord}
 use Rattle.book.specs.Book.{Page, member, fresh, accept, newPage}

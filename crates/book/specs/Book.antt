@@ -5,7 +5,7 @@ use mathlib.Core.Bool.{Bool, false, cond, not, _&&_, _||_}
 use mathlib.Core.List.{List, [], _∷_}
 use mathlib.Core.Option.{Option, none, some}
 use lib.Dec.{leb, ltb, eqb}
-use Rattle.session.specs.declared.Peer.{Peer}
+use Rattle.session_record.specs.declared.Peer.{Peer}
 use Rattle.window.specs.Window.{window}
 use Rattle.session.specs.Sizes.{capacity}
 use Rattle.book.specs.Call.{Call, Outcome, refused, Decision, early, reaches, openedOutcome, refusedOutcome}

@@ -4,7 +4,7 @@ use Prim.Native.Nat.{ℕ}
 use mathlib.Core.List.{List, [], _++_}
 use mathlib.Core.Option.{Option, none}
 use lib.ListN.{length, drop, replicate}
-use Rattle.session.specs.declared.Peer.{Peer}
+use Rattle.session_record.specs.declared.Peer.{Peer}
 
 -- The arguments of a call. `client` is the client session ID that a client's call brings, `none` in a server's.
 pub record Call : Type 0 where

@@ -9,7 +9,7 @@ use mathlib.Core.Option.{Option, none, some}
 use Prim.Native.Nat.{ℕ, _+_, _-_, _^_, _≤_, _<_}
 use lib.Dec.{T, leb, ltb, eqb}
 use lib.ListN.{length, getD}
-use Rattle.session.specs.declared.Peer.{Peer}
+use Rattle.session_record.specs.declared.Peer.{Peer}
 use Rattle.window.specs.Window.{window, bit}
 use Rattle.session.specs.Sizes.{capacity}
 use Rattle.session.specs.Table.{Record, recordAt, retention, newTable, holds, sessionPlace}

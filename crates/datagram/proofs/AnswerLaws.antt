@@ -15,15 +15,16 @@ use Rattle.protocol.specs.declared.Refusal.{Refusal}
 use Rattle.protocol.specs.declared.Refusal.the-variants.{Settings, Length, Room, Counter, Argument}
 use Rattle.protocol.specs.Method.{keyFits}
 use Rattle.socks5.specs.Address.{isAddress}
-use Rattle.datagram.specs.declared.Side.{Side}
-use Rattle.datagram.specs.declared.Side.the-variants.{Client, Server}
+use Rattle.datagram_parts.specs.declared.Side.{Side}
+use Rattle.datagram_parts.specs.declared.Side.the-variants.{Client, Server}
 use Rattle.datagram.specs.declared.Sender.{Sender}
 use Rattle.datagram.specs.declared.Begun.the-variants.{Ready, Refused as NotBegun}
 use Rattle.datagram.specs.declared.Sealed.{Sealed}
 use Rattle.datagram.specs.declared.Sealed.the-variants.{Datagram, Refused}
-use Rattle.datagram.specs.Headers.{fixedLength}
-use Rattle.datagram.specs.Sealing.{maxDatagram, pickBegun, begun, differs, sealedLength, capped, pickSealed, lengthAnswer, argumentAnswer, sealAnswer, idsDiffer, packetsOf}
-use Rattle.datagram.proofs.SubkeyLaws.{key-of-method}
+use Rattle.datagram_parts.specs.Headers.{fixedLength}
+use Rattle.datagram_parts.specs.Parts.{maxDatagram}
+use Rattle.datagram.specs.Sealing.{pickBegun, begun, differs, sealedLength, capped, pickSealed, lengthAnswer, argumentAnswer, sealAnswer, idsDiffer, packetsOf}
+use Rattle.datagram_parts.proofs.SubkeyLaws.{key-of-method}
 
 -- ---- beginning
 

@@ -1,4 +1,3 @@
 pub mod LengthLaws
-pub mod SubkeyLaws
 pub mod AnswerLaws
 pub mod WritingLaws

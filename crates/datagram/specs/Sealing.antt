@@ -5,27 +5,20 @@ use Prim.Native.Nat.{ℕ, _+_, _-_, _^_}
 use lib.Dec.{eqb, leb, ltb}
 use lib.ListN.{length}
 use Rattle.octets.specs.Buffers.{both, put}
-use Rattle.aes.specs.KeyExpansion.{aes}
-use Rattle.aes.specs.Keyed.{pick, nkOf}
-use Rattle.gcm.specs.Gcm.{seal}
-use Rattle.gcm.specs.Keyed.{ciphOf}
+use Rattle.aes.specs.Keyed.{pick}
 use Rattle.protocol.specs.declared.Refusal.{Refusal}
 use Rattle.protocol.specs.declared.Refusal.the-variants.{Settings, Length, Room, Counter, Argument}
 use Rattle.protocol.specs.Method.{keyFits}
-use Rattle.protocol.specs.Subkey.{sessionSubkey}
 use Rattle.socks5.specs.Address.{isAddress}
-use Rattle.datagram.specs.declared.Side.{Side}
-use Rattle.datagram.specs.declared.Side.the-variants.{Client, Server}
+use Rattle.datagram_parts.specs.declared.Side.{Side}
+use Rattle.datagram_parts.specs.declared.Side.the-variants.{Client, Server}
 use Rattle.datagram.specs.declared.Sender.{Sender}
 use Rattle.datagram.specs.declared.Begun.{Begun}
 use Rattle.datagram.specs.declared.Begun.the-variants.{Ready, Refused as NotBegun}
 use Rattle.datagram.specs.declared.Sealed.{Sealed}
 use Rattle.datagram.specs.declared.Sealed.the-variants.{Datagram, Refused}
-use Rattle.datagram.specs.Headers.{separateHeader, nonce, fixedLength, plaintext}
-
--- what UDP can carry over IPv4
-abbrev pub maxDatagram : ℕ
-maxDatagram = 65507
+use Rattle.datagram_parts.specs.Headers.{fixedLength, plaintext}
+use Rattle.datagram_parts.specs.Parts.{maxDatagram, separateBlock, sealBody}
 
 -- ---- sending sessions begin at packet ID 0
 
@@ -88,14 +81,6 @@ abbrev pub sealNext : Sender → Sealed → Sender
 sealNext sender answer = record { side = sender .side; id = sender .id; packet = sender .packet + packetsOf answer }
 
 -- ---- what is written
-
--- the separate header as one block under the shared key
-unfoldable pub separateBlock : List ℕ → ℕ → ℕ → List ℕ
-separateBlock key id packet = aes (nkOf (length key)) key (separateHeader id packet)
-
--- a body in GCM under the session's subkey
-unfoldable pub sealBody : List ℕ → ℕ → ℕ → List ℕ → List ℕ
-sealBody key id packet text = seal (ciphOf (sessionSubkey key id)) (nonce id packet) text
 
 unfoldable pub datagram : List ℕ → Sender → ℕ → List ℕ → ℕ → List ℕ → List ℕ
 datagram key sender time address padding payload =

@@ -1,22 +1,22 @@
 // Sealing datagrams.
-use super::MAX_DATAGRAM;
 use super::Sealed;
 use super::Sealing;
 use super::Sender;
-use super::Side;
-use super::fixed_length;
-use super::separate_header;
+use datagram_parts::MAX_DATAGRAM;
+use datagram_parts::Side;
+use datagram_parts::fixed_length;
+use datagram_parts::seal_body;
+use datagram_parts::write_plaintext;
+use datagram_parts::write_separate;
 use protocol::Refusal;
 ghost use mathlib.Core.Path.{_≡_};
-ghost use mathlib.Core.List.{_∷_};
 ghost use Prim.Native.Nat.{_+_, _-_, _<_, _≤_, _^_};
 ghost use lib.ListN.{length};
 ghost use Rattle.octets.specs.Buffers.{put};
-ghost use Rattle.octets.specs.Numbers.{toBe};
 ghost use Rattle.aes.specs.Keyed.{nkOf};
-ghost use Rattle.gcm.specs.Gcm.{textOf};
-ghost use Rattle.datagram.specs.Headers.{fixedLength, fixedPart, plaintext};
-ghost use Rattle.datagram.specs.Sealing.{maxDatagram, idsDiffer, sealedLength, capped, lengthAnswer, argumentAnswer, sealAnswer, packetsOf, sealNext, separateBlock, sealBody, datagram, sealOut};
+ghost use Rattle.datagram_parts.specs.Headers.{fixedLength, plaintext};
+ghost use Rattle.datagram_parts.specs.Parts.{maxDatagram, sealBody};
+ghost use Rattle.datagram.specs.Sealing.{idsDiffer, sealedLength, capped, lengthAnswer, argumentAnswer, sealAnswer, packetsOf, sealNext, datagram, sealOut};
 
 // ---- what is answered
 
@@ -133,80 +133,6 @@ fn sealing(sender: Sender, answer: Sealed) -> Sealing
 }
 
 // ---- what is written
-
-// Type and time.
-fn write_start(out: &mut [u8], kind: u8, clock: u64)
-    requires { ⌜ 9 ≤ length (now out) ⌝ }
-    ensures { λ _. ⌜ now (out .exit) ≡ put (now (out .entry)) 0 (kind ∷ toBe 8 clock) ⌝ }
-{
-    out[0] = kind;
-    octets::write_u64_be(out, 1, clock);
-}
-
-// The main header before its padding.
-fn write_fixed(out: &mut [u8], side: Side, clock: u64, padding: usize)
-    requires { ⌜ 19 ≤ length (now out) ⌝ }
-    requires { ⌜ padding ≤ maxDatagram ⌝ }
-    ensures { λ _. ⌜ now (out .exit) ≡ put (now (out .entry)) 0 (fixedPart side clock padding) ⌝ }
-{
-    match side {
-        Side::Client => {
-            write_start(out, 0, clock);
-            octets::write_u16_be(out, 9, padding as u16);
-        }
-        Side::Server(client) => {
-            write_start(out, 1, clock);
-            octets::write_u64_be(out, 9, client);
-            octets::write_u16_be(out, 17, padding as u16);
-        }
-    }
-}
-
-// The plaintext of a datagram's body, to the front of a buffer with room for it and for the tag.
-fn write_plaintext(
-    out: &mut [u8],
-    side: Side,
-    clock: u64,
-    address: &[u8],
-    padding: usize,
-    payload: &[u8],
-)
-    requires { ⌜ padding ≤ maxDatagram ⌝ }
-    requires { ⌜ fixedLength side + padding + length (now address) + length (now payload) + 16 ≤ length (now out) ⌝ }
-    ensures { λ _. ⌜ now (out .exit) ≡ put (now (out .entry)) 0 (plaintext side clock padding (now (address .entry)) (now (payload .entry))) ⌝ }
-{
-    write_fixed(out, side, clock, padding);
-    let fixed = fixed_length(side);
-    octets::zero(out, fixed, padding);
-    let at = fixed + padding;
-    octets::copy(out, at, address);
-    octets::copy(out, at + address.len(), payload);
-}
-
-// The encrypted separate header, to the front of a buffer.
-fn write_separate(out: &mut [u8], key: &[u8], id: u64, packet: u64)
-    requires { ⌜ 0 < nkOf (length (now key)) ⌝ }
-    requires { ⌜ 16 ≤ length (now out) ⌝ }
-    ensures { λ _. ⌜ now (out .exit) ≡ put (now (out .entry)) 0 (separateBlock (now (key .entry)) id packet) ⌝ }
-{
-    let mut header = separate_header(id, packet);
-    aes::encrypt::encrypt_block(key, &mut header);
-    octets::copy(out, 0, &header);
-}
-
-// Seals a body in place: its last 16 bytes are room for the tag.
-fn seal_body(body: &mut [u8], key: &[u8], id: u64, packet: u64)
-    requires { ⌜ 0 < nkOf (length (now key)) ⌝ }
-    requires { ⌜ 16 ≤ length (now body) ⌝ }
-    requires { ⌜ length (now body) ≤ maxDatagram ⌝ }
-    ensures { λ _. ⌜ now (body .exit) ≡ sealBody (now (key .entry)) id packet (textOf (now (body .entry))) ⌝ }
-{
-    let header = separate_header(id, packet);
-    let mut subkey = [0u8; 32];
-    protocol::derive_session_subkey(key, id, &mut subkey);
-    let n = key.len();
-    gcm::seal_in_place(&subkey[..n], &header[4..16], body);
-}
 
 fn write_body(
     body: &mut [u8],

@@ -12,21 +12,21 @@ use lib.ListN.{length, drop, replicate, length-replicate}
 use borrow.Author.Tests.{eqb-true}
 use Rattle.octets.specs.Buffers.{put}
 use Rattle.octets.proofs.BufferLaws.{put-again}
-use Rattle.session.specs.declared.Peer.{Peer}
+use Rattle.session_record.specs.declared.Peer.{Peer}
 use Rattle.session.specs.declared.Admitted.{Admitted}
 use Rattle.session.specs.Table.{tableWords, lawful, Entry, stores, replay, full, meet, keep, admitted}
 use Rattle.book.specs.Call.{Call, Decision, early, reaches, refused, onto}
 use Rattle.book.specs.Runs.{report, tableOutcomeBy, tableNextBy}
 use Rattle.protocol.specs.declared.Refusal.{Refusal}
 use Rattle.protocol.specs.Refusal.{refusalNumber}
-use Rattle.datagram.specs.declared.Side.{Side}
-use Rattle.datagram.specs.declared.Side.the-variants.{Client, Server}
-use Rattle.datagram_open.specs.declared.Header.{Header}
-use Rattle.datagram_open.specs.declared.Opened.{Opened}
-use Rattle.datagram_open.specs.declared.Opened.the-variants.{Datagram, Refused}
-use Rattle.datagram_open.specs.Opening.{readAnswer, settled, readOut}
+use Rattle.datagram_parts.specs.declared.Side.{Side}
+use Rattle.datagram_parts.specs.declared.Side.the-variants.{Client, Server}
+use Rattle.datagram_read.specs.declared.Header.{Header}
+use Rattle.datagram_read.specs.declared.Opened.{Opened}
+use Rattle.datagram_read.specs.declared.Opened.the-variants.{Datagram, Refused}
+use Rattle.datagram_read.specs.Opening.{readAnswer, settled, readOut}
 use Rattle.datagram_open.specs.Deciding.{expected, openerOf, plainOf, decidedBy, decide, answerOf, callOf, admittedAs, entered, openAnswer, openOut, openTable}
-use Rattle.datagram_open.proofs.ReadLaws.{answer-tells, opens-room, opened-out, length-plain}
+use Rattle.datagram_read.proofs.ReadLaws.{answer-tells, opens-room, opened-out, length-plain}
 
 -- what was found
 pub as-law : (h : Header) (m n : Admitted) → m ≡ n → admittedAs h n ≡ admittedAs h m

@@ -1,3 +1,1 @@
-pub mod OpeningLaws
-pub mod ReadLaws
 pub mod CallLaws

@@ -6,7 +6,7 @@ use mathlib.Core.Option.{Option, none, some}
 use Prim.Native.Nat.{ℕ}
 use lib.Dec.{leb}
 use lib.ListN.{length, drop}
-use Rattle.session.specs.declared.Peer.{Peer}
+use Rattle.session_record.specs.declared.Peer.{Peer}
 use Rattle.session.specs.declared.Admitted.{Admitted}
 use Rattle.session.specs.declared.Admitted.the-variants.{Accepted, Replay, Full}
 use Rattle.session.specs.Table.{meet, admitted}
@@ -15,12 +15,12 @@ use Rattle.book.specs.Runs.{tableOutcome, tableNext}
 use Rattle.protocol.specs.Method.{keyFits}
 use Rattle.protocol.specs.declared.Refusal.the-variants.{Replay as RefusedReplay, Full as RefusedFull}
 use Rattle.protocol.specs.Refusal.{refusalNumber}
-use Rattle.datagram.specs.declared.Side.{Side}
-use Rattle.datagram.specs.declared.Side.the-variants.{Client, Server}
-use Rattle.datagram_open.specs.declared.Header.{Header}
-use Rattle.datagram_open.specs.declared.Opened.{Opened}
-use Rattle.datagram_open.specs.declared.Opened.the-variants.{Datagram, Refused}
-use Rattle.datagram_open.specs.Opening.{sessionOf, packetOf, bodyText, readAnswer, readOut}
+use Rattle.datagram_parts.specs.declared.Side.{Side}
+use Rattle.datagram_parts.specs.declared.Side.the-variants.{Client, Server}
+use Rattle.datagram_read.specs.declared.Header.{Header}
+use Rattle.datagram_read.specs.declared.Opened.{Opened}
+use Rattle.datagram_read.specs.declared.Opened.the-variants.{Datagram, Refused}
+use Rattle.datagram_read.specs.Opening.{sessionOf, packetOf, bodyText, readAnswer, readOut}
 
 -- whose datagram a call expects: a server's call has no client session ID, and opens clients' datagrams
 abbrev pub expected : Option ℕ → Side

@@ -18,9 +18,9 @@ use Rattle.stream_open.specs.declared.Turn.{Turn}
 use Rattle.stream_open.specs.declared.Turn.the-variants.{Length, Payload, Ended}
 use Rattle.stream_open.specs.declared.Receiver.{Receiver}
 use Rattle.stream_open.specs.declared.Chunk.{Chunk}
-use Rattle.stream_open.specs.declared.Request.{Request}
-use Rattle.stream_open.specs.declared.Response.{Response}
-use Rattle.stream_open.specs.Heads.{frontLength, fixedOf, bindingOf, receiver}
+use Rattle.request_open.specs.declared.Request.{Request}
+use Rattle.response_open.specs.declared.Response.{Response}
+use Rattle.response_open.specs.Heads.{frontLength, fixedOf, bindingOf, receiver}
 use Rattle.stream_open.specs.Chunks.{streamKey}
 use Rattle.demands.specs.StreamsKeep.{saltOf}
 use Rattle.demands.specs.StreamsOpen.{FixedOpens, ValidVariable, variableAt, HeadOpens, RequestOpens, ResponseOpens, PieceOpens, TurnOpens, turnText, StepOpens, Begins, BeyondUnread}

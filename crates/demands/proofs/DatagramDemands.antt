@@ -12,7 +12,7 @@ use lib.ListN.{length, getD, drop, replicate, length-replicate}
 use borrow.Author.Tests.{leb-true, leb-false, le-leb, lt-leb, eqb-true, eq-eqb}
 use Rattle.octets.specs.Buffers.{both, put}
 use Rattle.octets.proofs.BufferLaws.{length-put, drop-put}
-use Rattle.session.specs.declared.Peer.{Peer}
+use Rattle.session_record.specs.declared.Peer.{Peer}
 use Rattle.session.specs.Table.{lawful}
 use Rattle.book.specs.Call.{Answer, refused, opened}
 use Rattle.protocol.specs.Method.{keyFits}
@@ -22,17 +22,18 @@ use Rattle.protocol.specs.Time.{timeValid}
 use Rattle.socks5.specs.declared.Parsed.{Parsed}
 use Rattle.socks5.specs.declared.Parsed.the-variants.{Found, Malformed as NoAddress}
 use Rattle.socks5.specs.Address.{parseAt}
-use Rattle.datagram.specs.declared.Side.{Side}
-use Rattle.datagram.specs.Headers.{typeOf, fixedLength}
-use Rattle.datagram.specs.Sealing.{maxDatagram, sealAnswer, datagram}
-use Rattle.datagram_open.specs.declared.Header.{Header}
-use Rattle.datagram_open.specs.declared.Opened.the-variants.{Datagram, Refused}
-use Rattle.datagram_open.specs.Opening.{sessionOf, packetOf, timeOf, paddingOf, meant, headerWith, readAddress, lengthLawful, readAnswer, readOut}
+use Rattle.datagram_parts.specs.declared.Side.{Side}
+use Rattle.datagram_parts.specs.Headers.{typeOf, fixedLength}
+use Rattle.datagram_parts.specs.Parts.{maxDatagram}
+use Rattle.datagram.specs.Sealing.{sealAnswer, datagram}
+use Rattle.datagram_read.specs.declared.Header.{Header}
+use Rattle.datagram_read.specs.declared.Opened.the-variants.{Datagram, Refused}
+use Rattle.datagram_read.specs.Opening.{sessionOf, packetOf, timeOf, paddingOf, meant, headerWith, readAddress, lengthLawful, readAnswer, readOut}
 use Rattle.datagram_open.specs.Deciding.{expected, openerOf, plainOf, openAnswer, openOut, openTable}
 use Rattle.demands.specs.Datagrams.{Answered, accepts, refuses, tagGood, Lawful, BeforeTag, unlawful-table, other-key, too-short, too-long, no-room, forged, Stage, before, after, Keeps, Demand1, ValidHeader, Enters, Acceptable, AcceptedExactlyWhen, SealedAccepted, Demand2}
 use Rattle.demands.proofs.DatagramReadBack.{payload-back}
 use Rattle.demands.proofs.DatagramSealing.{one-target, sealed-opens}
-use Rattle.datagram_open.proofs.ReadLaws.{Reads, Opens, answer-given, opened-out, length-plain, unlawful-out, forged-out, cleared-out}
+use Rattle.datagram_read.proofs.ReadLaws.{Reads, Opens, answer-given, opened-out, length-plain, unlawful-out, forged-out, cleared-out}
 use Rattle.datagram_open.proofs.CallLaws.{expected-opener}
 use Rattle.demands.proofs.DatagramWays.{contrary, opened-same, not-both, read-same, not-read, among, among-answer, Way, unlawful, early, late, taken, way as way-of}
 

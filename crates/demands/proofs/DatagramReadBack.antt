@@ -31,17 +31,19 @@ use Rattle.socks5.specs.declared.Address.{Address}
 use Rattle.socks5.specs.declared.Parsed.the-variants.{Found}
 use Rattle.socks5.specs.Address.{parseAt, isAddress, moved}
 use Rattle.socks5.proofs.PlaceLaws.{found-anywhere}
-use Rattle.datagram.specs.declared.Side.{Side}
-use Rattle.datagram.specs.declared.Side.the-variants.{Client, Server}
+use Rattle.datagram_parts.specs.declared.Side.{Side}
+use Rattle.datagram_parts.specs.declared.Side.the-variants.{Client, Server}
 use Rattle.datagram.specs.declared.Sender.{Sender}
-use Rattle.datagram.specs.Headers.{separateHeader, nonce, typeOf, clientField, fixedPart, fixedLength, plaintext}
-use Rattle.datagram.specs.Sealing.{maxDatagram, sealedLength, separateBlock, sealBody, datagram}
-use Rattle.datagram_open.specs.declared.Header.{Header}
-use Rattle.datagram_open.specs.declared.Opened.{Opened}
-use Rattle.datagram_open.specs.declared.Opened.the-variants.{Datagram, Refused}
-use Rattle.datagram_open.specs.Opening.{separateOf, sessionOf, packetOf, bodyAuthentic, bodyText, pickOpened, timeOf, paddingOf, meant, headerWith, readAddress, readMain, lengthLawful, readBody, readAnswer, settled, bodyOut, readOut}
+use Rattle.datagram_parts.specs.Headers.{separateHeader, nonce, typeOf, clientField, fixedPart, fixedLength, plaintext}
+use Rattle.datagram_parts.specs.Parts.{maxDatagram, separateBlock, sealBody}
+use Rattle.datagram.specs.Sealing.{sealedLength, datagram}
+use Rattle.datagram_read.specs.declared.Header.{Header}
+use Rattle.datagram_read.specs.declared.Opened.{Opened}
+use Rattle.datagram_read.specs.declared.Opened.the-variants.{Datagram, Refused}
+use Rattle.datagram_read.specs.Opening.{separateOf, sessionOf, packetOf, bodyAuthentic, bodyText, pickOpened, timeOf, paddingOf, meant, headerWith, readAddress, readMain, lengthLawful, readBody, readAnswer, settled, bodyOut, readOut}
 use Rattle.demands.specs.Datagrams.{clientOf, headerOf}
-use Rattle.datagram.proofs.LengthLaws.{length-separateHeader, length-separateBlock, length-clientField, length-fixedPart, length-plaintext, length-datagram}
+use Rattle.datagram_parts.proofs.LengthLaws.{length-separateHeader, length-separateBlock, length-clientField, length-fixedPart, length-plaintext}
+use Rattle.datagram.proofs.LengthLaws.{length-datagram}
 
 -- ---- the separate header
 

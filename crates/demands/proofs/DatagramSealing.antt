@@ -17,10 +17,10 @@ use Rattle.socks5.specs.Address.{parseAt}
 use Rattle.socks5.proofs.PlaceLaws.{One, one-found}
 use Rattle.datagram.specs.declared.Sender.{Sender}
 use Rattle.datagram.specs.declared.Sealed.the-variants.{Datagram as Written}
-use Rattle.datagram.specs.Headers.{plaintext}
+use Rattle.datagram_parts.specs.Headers.{plaintext}
 use Rattle.datagram.specs.Sealing.{sealAnswer, datagram, sealOut}
-use Rattle.datagram_open.specs.declared.Opened.the-variants.{Datagram}
-use Rattle.datagram_open.specs.Opening.{readAnswer, readOut}
+use Rattle.datagram_read.specs.declared.Opened.the-variants.{Datagram}
+use Rattle.datagram_read.specs.Opening.{readAnswer, readOut}
 use Rattle.demands.specs.Datagrams.{clientOf, headerOf}
 use Rattle.datagram.proofs.LengthLaws.{length-datagram}
 use Rattle.datagram.proofs.AnswerLaws.{Sealable, sealable}

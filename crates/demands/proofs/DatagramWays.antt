@@ -10,7 +10,7 @@ use lib.Dec.{eqb, leb}
 use lib.ListN.{length, getD, replicate, length-replicate}
 use Rattle.octets.specs.Buffers.{put}
 use Rattle.octets.proofs.BufferLaws.{put-again}
-use Rattle.session.specs.declared.Peer.{Peer}
+use Rattle.session_record.specs.declared.Peer.{Peer}
 use Rattle.session.specs.Table.{recordAt, lawful, freshIn, acceptIn, sessionPlace, freePlace, Entry, stores, replay, full, meetBy, meet, keep, admitted}
 use Rattle.book.specs.Call.{Answer, refused, opened}
 use Rattle.protocol.specs.Method.{keyFits}
@@ -21,15 +21,15 @@ use Rattle.protocol.specs.Time.{timeValid}
 use Rattle.socks5.specs.declared.Parsed.{Parsed}
 use Rattle.socks5.specs.declared.Parsed.the-variants.{Found, Malformed as NoAddress}
 use Rattle.socks5.specs.Address.{parseAt}
-use Rattle.datagram.specs.declared.Side.{Side}
-use Rattle.datagram.specs.Headers.{typeOf, fixedLength}
-use Rattle.datagram_open.specs.declared.Header.{Header}
-use Rattle.datagram_open.specs.declared.Opened.{Opened}
-use Rattle.datagram_open.specs.declared.Opened.the-variants.{Datagram, Refused}
-use Rattle.datagram_open.specs.Opening.{sessionOf, packetOf, pickOpened, timeOf, paddingOf, meant, headerWith, readAddress, readMain, lengthLawful, readBody, readAnswer, settled, readOut}
+use Rattle.datagram_parts.specs.declared.Side.{Side}
+use Rattle.datagram_parts.specs.Headers.{typeOf, fixedLength}
+use Rattle.datagram_read.specs.declared.Header.{Header}
+use Rattle.datagram_read.specs.declared.Opened.{Opened}
+use Rattle.datagram_read.specs.declared.Opened.the-variants.{Datagram, Refused}
+use Rattle.datagram_read.specs.Opening.{sessionOf, packetOf, pickOpened, timeOf, paddingOf, meant, headerWith, readAddress, readMain, lengthLawful, readBody, readAnswer, settled, readOut}
 use Rattle.datagram_open.specs.Deciding.{expected, openerOf, plainOf, answerOf, admittedAs, entered, openAnswer, openOut, openTable}
 use Rattle.demands.specs.Datagrams.{ofOpener, tagGood, Enters, fresh, begins}
-use Rattle.datagram_open.proofs.ReadLaws.{Opens, answer-tells, opens-room, opened-out, length-plain}
+use Rattle.datagram_read.proofs.ReadLaws.{Opens, answer-tells, opens-room, opened-out, length-plain}
 use Rattle.datagram_open.proofs.CallLaws.{unlawful-call, refused-call, entered-call}
 
 -- ---- telling answers apart

@@ -12,12 +12,12 @@ use borrow.Author.Tests.{le-leb}
 use Rattle.book.specs.Call.{Call, Decision, early, reaches}
 use Rattle.book.specs.Demand3.{Named, FollowsBook, Rearrangement}
 use Rattle.book.proofs.Demand3 as book
-use Rattle.datagram_open.specs.declared.Header.{Header}
-use Rattle.datagram_open.specs.declared.Opened.{Opened}
-use Rattle.datagram_open.specs.declared.Opened.the-variants.{Datagram, Refused}
-use Rattle.datagram_open.specs.Opening.{sessionOf, readAnswer}
+use Rattle.datagram_read.specs.declared.Header.{Header}
+use Rattle.datagram_read.specs.declared.Opened.{Opened}
+use Rattle.datagram_read.specs.declared.Opened.the-variants.{Datagram, Refused}
+use Rattle.datagram_read.specs.Opening.{sessionOf, readAnswer}
 use Rattle.datagram_open.specs.Deciding.{expected, plainOf, decidedBy, decide, belongs}
-use Rattle.datagram_open.proofs.ReadLaws.{answer-tells, opens-long, header-session}
+use Rattle.datagram_read.proofs.ReadLaws.{answer-tells, opens-long, header-session}
 
 -- 1 where a session is reached, and its ID
 abbrev reached : Decision Header → ℕ

@@ -21,18 +21,18 @@ use Rattle.socks5.specs.declared.Target.the-variants.{V4, V6, Name}
 use Rattle.socks5.specs.declared.Parsed.{Parsed}
 use Rattle.socks5.specs.declared.Parsed.the-variants.{Found, Malformed}
 use Rattle.socks5.specs.Address.{nameAt, parseAt}
-use Rattle.session.specs.declared.Peer.{Peer}
+use Rattle.session_record.specs.declared.Peer.{Peer}
 use Rattle.session.specs.Sizes.{alive}
 use Rattle.session.specs.Table.{Record, freshIn, acceptIn, newRecord, newTable, store, live, meet, sessionPlace, freePlace}
 use Rattle.book.specs.Call.{Call, Answer, refused, opened, reaches}
 use Rattle.book.specs.Book.{Page, pageAlive, fresh, accept, newPage, outcomeBy}
 use Rattle.book.specs.Runs.{tableOutcomeBy}
 use Rattle.book.specs.Demand3.{viewOfPage, viewOfRecord}
-use Rattle.datagram.specs.declared.Side.the-variants.{Client}
-use Rattle.datagram.specs.Headers.{fixedPart, plaintext}
-use Rattle.datagram_open.specs.declared.Opened.{Opened}
-use Rattle.datagram_open.specs.declared.Opened.the-variants.{Datagram, Refused}
-use Rattle.datagram_open.specs.Opening.{readAddress, readMain}
+use Rattle.datagram_parts.specs.declared.Side.the-variants.{Client}
+use Rattle.datagram_parts.specs.Headers.{fixedPart, plaintext}
+use Rattle.datagram_read.specs.declared.Opened.{Opened}
+use Rattle.datagram_read.specs.declared.Opened.the-variants.{Datagram, Refused}
+use Rattle.datagram_read.specs.Opening.{readAddress, readMain}
 
 pub record Row : Type 0 where
   pub edge : ℕ

@@ -28,22 +28,22 @@ use Rattle.pool.specs.declared.Met.the-variants.{Room as Free, Replay as Known,
 use Rattle.pool.specs.Pool.{meet, store}
 use Rattle.stream.specs.declared.Subkey.{Subkey}
 use Rattle.stream.specs.Pieces.{authenticAt, openAt, subkeyWords}
-use Rattle.stream.specs.Sealing.{maxPadding}
+use Rattle.head_seal.specs.HeadSealing.{maxPadding}
 use Rattle.stream_open.specs.declared.Turn.the-variants.{Length}
 use Rattle.stream_open.specs.declared.Receiver.{Receiver}
-use Rattle.stream_open.specs.declared.Fixed.{Fixed}
-use Rattle.stream_open.specs.declared.FixedRead.{FixedRead}
-use Rattle.stream_open.specs.declared.FixedRead.the-variants.{Read, Refused as Unread}
-use Rattle.stream_open.specs.declared.Request.{Request}
-use Rattle.stream_open.specs.declared.RequestRead.{RequestRead}
-use Rattle.stream_open.specs.declared.RequestRead.the-variants.{Header, Refused as Unheaded}
-use Rattle.stream_open.specs.declared.RequestOpened.{RequestOpened}
-use Rattle.stream_open.specs.declared.RequestOpened.the-variants.{Accepted, Refused}
-use Rattle.stream_open.specs.declared.Response.{Response}
-use Rattle.stream_open.specs.declared.ResponseOpened.{ResponseOpened}
-use Rattle.stream_open.specs.declared.ResponseOpened.the-variants.{Accepted as Answered, Refused as Unanswered}
-use Rattle.stream_open.specs.Heads.{frontLength, fixedOf, receiver, pickFixed, fieldsOf, readFixed, openFixed, pickResponse, bindingOf, boundAs, boundOf, responseAt, openedResponse}
-use Rattle.stream_open.specs.Requests.{pickRead, paddingAt, paddingFits, headerWith, readVariable, headLength, variableOf, openVariable, settled, variableOut, openedAs, fixedAs, readHead, fixedOut, headOut, storedIn, headPool, pickRequest, settings, openedRequest, requestOut, requestPool}
+use Rattle.response_open.specs.declared.Fixed.{Fixed}
+use Rattle.response_open.specs.declared.FixedRead.{FixedRead}
+use Rattle.response_open.specs.declared.FixedRead.the-variants.{Read, Refused as Unread}
+use Rattle.request_open.specs.declared.Request.{Request}
+use Rattle.request_open.specs.declared.RequestRead.{RequestRead}
+use Rattle.request_open.specs.declared.RequestRead.the-variants.{Header, Refused as Unheaded}
+use Rattle.request_open.specs.declared.RequestOpened.{RequestOpened}
+use Rattle.request_open.specs.declared.RequestOpened.the-variants.{Accepted, Refused}
+use Rattle.response_open.specs.declared.Response.{Response}
+use Rattle.response_open.specs.declared.ResponseOpened.{ResponseOpened}
+use Rattle.response_open.specs.declared.ResponseOpened.the-variants.{Accepted as Answered, Refused as Unanswered}
+use Rattle.response_open.specs.Heads.{frontLength, fixedOf, receiver, pickFixed, fieldsOf, readFixed, openFixed, pickResponse, bindingOf, boundAs, boundOf, responseAt, openedResponse}
+use Rattle.request_open.specs.Requests.{pickRead, paddingAt, paddingFits, headerWith, readVariable, headLength, variableOf, openVariable, settled, variableOut, openedAs, fixedAs, readHead, fixedOut, headOut, storedIn, headPool, pickRequest, settings, openedRequest, requestOut, requestPool}
 use Rattle.demands.specs.StreamsKeep.{saltOf, ofRequest, ofFront, ofResponse, dueOf, ResponseAnswered, accepted-response, refused-response}
 use Rattle.demands.specs.StreamsOpen.{FixedOpens, ValidVariable, variableAt, HeadOpens, RequestOpens, RequestExactlyWhen, ResponseOpens, ResponseExactlyWhen}
 use Rattle.stream.proofs.LengthLaws.{length-openAt}

@@ -29,18 +29,20 @@ use Rattle.pool.specs.Pool.{lawful, meet, store}
 use Rattle.stream.specs.declared.Sender.{Sender}
 use Rattle.stream.specs.declared.Sealed.the-variants.{Bytes}
 use Rattle.stream.specs.Pieces.{sealAt, authenticAt, openAt, subkeyWords}
-use Rattle.stream.specs.Sealing.{maxChunk, maxPadding, front, variablePart, variableLength, requestAt, request, begun, sizesFit, paddingLawful, requestAnswer}
+use Rattle.stream.specs.Sealing.{maxChunk}
+use Rattle.head_seal.specs.HeadSealing.{maxPadding, front, variablePart, variableLength, requestAt, request, begun, sizesFit, paddingLawful, requestAnswer}
 use Rattle.stream_open.specs.declared.Turn.the-variants.{Length}
-use Rattle.stream_open.specs.declared.FixedRead.the-variants.{Read}
-use Rattle.stream_open.specs.declared.Fixed.{Fixed}
-use Rattle.stream_open.specs.declared.Request.{Request}
-use Rattle.stream_open.specs.declared.RequestRead.{RequestRead}
-use Rattle.stream_open.specs.declared.RequestRead.the-variants.{Header, Refused as Unheaded}
-use Rattle.stream_open.specs.declared.RequestOpened.the-variants.{Accepted, Refused as NoRequest}
-use Rattle.stream_open.specs.Heads.{frontLength, fixedOf, receiver, openFixed}
-use Rattle.stream_open.specs.Requests.{pickRead, paddingAt, paddingFits, headerWith, readVariable, headLength, variableOf, openVariable, settled, variableOut, openedAs, fixedAs, readHead, fixedOut, headOut, storedIn, headPool, pickRequest, settings, openedRequest, requestOut, requestPool}
+use Rattle.response_open.specs.declared.FixedRead.the-variants.{Read}
+use Rattle.response_open.specs.declared.Fixed.{Fixed}
+use Rattle.request_open.specs.declared.Request.{Request}
+use Rattle.request_open.specs.declared.RequestRead.{RequestRead}
+use Rattle.request_open.specs.declared.RequestRead.the-variants.{Header, Refused as Unheaded}
+use Rattle.request_open.specs.declared.RequestOpened.the-variants.{Accepted, Refused as NoRequest}
+use Rattle.response_open.specs.Heads.{frontLength, fixedOf, receiver, openFixed}
+use Rattle.request_open.specs.Requests.{pickRead, paddingAt, paddingFits, headerWith, readVariable, headLength, variableOf, openVariable, settled, variableOut, openedAs, fixedAs, readHead, fixedOut, headOut, storedIn, headPool, pickRequest, settings, openedRequest, requestOut, requestPool}
 use Rattle.demands.specs.StreamsBack.{partner, requestHeader, RequestBack, RequestsGivenBack}
-use Rattle.stream.proofs.LengthLaws.{length-sealAt, length-front, length-variablePart, length-requestAt}
+use Rattle.stream.proofs.LengthLaws.{length-sealAt}
+use Rattle.head_seal.proofs.HeadLengthLaws.{length-front, length-variablePart, length-requestAt}
 use Rattle.demands.proofs.StreamReadBack.{piece-back, both-left, both-right, answers, Sized, sized, salt-back, front-whole, behind-front, fixed-back}
 
 -- ---- the variable header of a request

@@ -19,15 +19,16 @@ use Rattle.protocol.specs.declared.Refusal.the-variants.{Settings, More}
 use Rattle.stream.specs.declared.Sender.{Sender}
 use Rattle.stream.specs.declared.Sealed.the-variants.{Bytes}
 use Rattle.stream.specs.Pieces.{sealAt, openAt, subkeyWords, keyOf}
-use Rattle.stream.specs.Sealing.{lastCounter, front, responseOf, response, begun, sizesFit, responseAnswer}
+use Rattle.stream.specs.Sealing.{lastCounter}
+use Rattle.head_seal.specs.HeadSealing.{front, responseOf, response, begun, sizesFit, responseAnswer}
 use Rattle.stream_open.specs.declared.Turn.the-variants.{Length, Payload}
 use Rattle.stream_open.specs.declared.Receiver.{Receiver}
-use Rattle.stream_open.specs.declared.FixedRead.the-variants.{Read}
-use Rattle.stream_open.specs.declared.ResponseOpened.the-variants.{Accepted as Answered, Refused as NoResponse}
-use Rattle.stream_open.specs.Heads.{frontLength, fixedOf, receiver, openFixed, pickResponse, bindingOf, boundAs, boundOf, responseAt, openedResponse}
+use Rattle.response_open.specs.declared.FixedRead.the-variants.{Read}
+use Rattle.response_open.specs.declared.ResponseOpened.the-variants.{Accepted as Answered, Refused as NoResponse}
+use Rattle.response_open.specs.Heads.{frontLength, fixedOf, receiver, openFixed, pickResponse, bindingOf, boundAs, boundOf, responseAt, openedResponse}
 use Rattle.stream_open.specs.Chunks.{stepAnswer, stepOut}
 use Rattle.demands.specs.StreamsBack.{ResponseBack, ResponsesGivenBack}
-use Rattle.stream.proofs.LengthLaws.{length-responseOf}
+use Rattle.head_seal.proofs.HeadLengthLaws.{length-responseOf}
 use Rattle.demands.proofs.StreamReadBack.{test-true, both-left, both-right, answers, Sized, sized, sent-behind, payload-step, payload-out, salt-back, front-whole, behind-front, binding-back, fixed-back, stream-key}
 
 -- ---- the head of a response

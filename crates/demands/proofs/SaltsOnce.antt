@@ -20,13 +20,13 @@ use Rattle.pool.proofs.StoreLaws.{and-left, lawful-store}
 use Rattle.pool.proofs.RunLaws.{never-twice-forward}
 use Rattle.stream.specs.Pieces.{subkeyWords}
 use Rattle.stream_open.specs.declared.Receiver.{Receiver}
-use Rattle.stream_open.specs.declared.FixedRead.{FixedRead}
-use Rattle.stream_open.specs.declared.FixedRead.the-variants.{Read, Refused as Unread}
-use Rattle.stream_open.specs.declared.Request.{Request}
-use Rattle.stream_open.specs.declared.RequestOpened.{RequestOpened}
-use Rattle.stream_open.specs.declared.RequestOpened.the-variants.{Accepted, Refused}
-use Rattle.stream_open.specs.Heads.{frontLength, fixedOf, openFixed}
-use Rattle.stream_open.specs.Requests.{openedAs, settings, requestPool}
+use Rattle.response_open.specs.declared.FixedRead.{FixedRead}
+use Rattle.response_open.specs.declared.FixedRead.the-variants.{Read, Refused as Unread}
+use Rattle.request_open.specs.declared.Request.{Request}
+use Rattle.request_open.specs.declared.RequestOpened.{RequestOpened}
+use Rattle.request_open.specs.declared.RequestOpened.the-variants.{Accepted, Refused}
+use Rattle.response_open.specs.Heads.{frontLength, fixedOf, openFixed}
+use Rattle.request_open.specs.Requests.{openedAs, settings, requestPool}
 use Rattle.demands.specs.StreamsKeep.{ofFront, saltOf}
 use Rattle.demands.specs.SaltsOnce.{HeadCall, headAnswer, poolAfter, ForwardCalls, ReplayOrEarlier, replayed, front-missing, front-refused, NoSaltTwice}
 use Rattle.demands.proofs.StreamReadBack.{both-left, both-right}

@@ -29,17 +29,19 @@ use Rattle.stream.specs.declared.Sender.{Sender}
 use Rattle.stream.specs.declared.Sealed.{Sealed}
 use Rattle.stream.specs.declared.Sealed.the-variants.{Bytes, Refused as Unsealed}
 use Rattle.stream.specs.Pieces.{nonce, sealAt, authenticAt, openAt, subkeyWords, keyOf}
-use Rattle.stream.specs.Sealing.{maxChunk, lastCounter, fixedPart, front, chunk, senderKey, moved, pickSealed, sizeAnswer, chunkAnswer}
+use Rattle.stream.specs.Sealing.{maxChunk, lastCounter, chunk, senderKey, moved, pickSealed, sizeAnswer, chunkAnswer}
+use Rattle.head_seal.specs.HeadSealing.{fixedPart, front}
 use Rattle.stream_open.specs.declared.Turn.{Turn}
 use Rattle.stream_open.specs.declared.Turn.the-variants.{Length, Payload}
 use Rattle.stream_open.specs.declared.Receiver.{Receiver}
 use Rattle.stream_open.specs.declared.Stepped.{Stepped}
 use Rattle.stream_open.specs.declared.Stepped.the-variants.{Opened, Refused}
-use Rattle.stream_open.specs.declared.FixedRead.the-variants.{Read, Refused as Unread}
-use Rattle.stream_open.specs.Heads.{frontLength, fixedOf, receiver, pickFixed, fieldsOf, readFixed, openFixed, bindingOf}
+use Rattle.response_open.specs.declared.FixedRead.the-variants.{Read, Refused as Unread}
+use Rattle.response_open.specs.Heads.{frontLength, fixedOf, receiver, pickFixed, fieldsOf, readFixed, openFixed, bindingOf}
 use Rattle.stream_open.specs.Chunks.{pickStepped, pieceAnswer, lengthRead, turnAnswer, writtenBy, stepAnswer, stepOut}
 use Rattle.demands.specs.StreamsBack.{partner, midway, ChunkBack, ChunksGivenBack}
-use Rattle.stream.proofs.LengthLaws.{length-sealAt, length-fixedPart, length-front, length-chunk}
+use Rattle.stream.proofs.LengthLaws.{length-sealAt, length-chunk}
+use Rattle.head_seal.proofs.HeadLengthLaws.{length-fixedPart, length-front}
 use Rattle.stream.proofs.KeyLaws.{length-subkey, octets-subkey, subkey-back}
 
 -- ---- a piece

@@ -11,11 +11,12 @@ use Rattle.octets.proofs.BufferLaws.{length-put, take-put}
 use Rattle.stream.specs.declared.Sender.{Sender}
 use Rattle.stream.specs.declared.Sealed.{Sealed}
 use Rattle.stream.specs.declared.Sealed.the-variants.{Bytes}
-use Rattle.stream.specs.Sealing.{response, chunk, senderKey, chunkAnswer}
+use Rattle.stream.specs.Sealing.{chunk, senderKey, chunkAnswer}
+use Rattle.head_seal.specs.HeadSealing.{response}
 use Rattle.stream_open.specs.declared.Turn.the-variants.{Length, Payload}
 use Rattle.stream_open.specs.declared.Chunk.{Chunk}
 use Rattle.stream_open.specs.declared.Stepped.the-variants.{Opened}
-use Rattle.stream_open.specs.Heads.{receiver}
+use Rattle.response_open.specs.Heads.{receiver}
 use Rattle.stream_open.specs.Chunks.{stepNext}
 use Rattle.demands.specs.StreamsBack.{partner, midway, ChunkBack, Flow, answerTo, writtenIn, usedBy, stepped, after, gives, received, AllOpened, sentBy, leaves, sentAll, senderAfter, AllSealed, Fit, StreamBack, StreamsGivenBack, SendersCount, RequestStreamsGivenBack, ResponseStreamsGivenBack}
 use Rattle.demands.proofs.StreamReadBack.{chunkable, chunk-back}

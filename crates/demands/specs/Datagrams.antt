@@ -8,7 +8,7 @@ use mathlib.Core.Option.{Option, none, some}
 use Prim.Native.Nat.{ℕ, _+_, _-_, _^_, _≤_, _<_}
 use lib.ListN.{length, getD, drop, replicate}
 use Rattle.octets.specs.Buffers.{Octets, put}
-use Rattle.session.specs.declared.Peer.{Peer}
+use Rattle.session_record.specs.declared.Peer.{Peer}
 use Rattle.session.specs.Table.{recordAt, lawful, freshIn, sessionPlace, freePlace}
 use Rattle.book.specs.Call.{Answer, refused, opened}
 use Rattle.protocol.specs.Method.{keyFits}
@@ -19,14 +19,15 @@ use Rattle.protocol.specs.Time.{timeValid}
 use Rattle.socks5.specs.declared.Address.{Address}
 use Rattle.socks5.specs.declared.Parsed.the-variants.{Found}
 use Rattle.socks5.specs.Address.{parseAt, moved}
-use Rattle.datagram.specs.declared.Side.{Side}
-use Rattle.datagram.specs.declared.Side.the-variants.{Client, Server}
+use Rattle.datagram_parts.specs.declared.Side.{Side}
+use Rattle.datagram_parts.specs.declared.Side.the-variants.{Client, Server}
 use Rattle.datagram.specs.declared.Sender.{Sender}
 use Rattle.datagram.specs.declared.Sealed.the-variants.{Datagram as Written}
-use Rattle.datagram.specs.Headers.{typeOf, fixedLength, plaintext}
-use Rattle.datagram.specs.Sealing.{maxDatagram, sealAnswer, datagram}
-use Rattle.datagram_open.specs.declared.Header.{Header}
-use Rattle.datagram_open.specs.Opening.{sessionOf, packetOf, bodyAuthentic, timeOf, paddingOf, meant}
+use Rattle.datagram_parts.specs.Headers.{typeOf, fixedLength, plaintext}
+use Rattle.datagram_parts.specs.Parts.{maxDatagram}
+use Rattle.datagram.specs.Sealing.{sealAnswer, datagram}
+use Rattle.datagram_read.specs.declared.Header.{Header}
+use Rattle.datagram_read.specs.Opening.{sessionOf, packetOf, bodyAuthentic, timeOf, paddingOf, meant}
 use Rattle.datagram_open.specs.Deciding.{expected, plainOf, openerOf, openAnswer, openOut, openTable}
 
 -- ---- answers

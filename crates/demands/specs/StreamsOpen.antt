@@ -16,18 +16,19 @@ use Rattle.socks5.specs.Address.{parseAt}
 use Rattle.pool.specs.declared.Met.the-variants.{Room as Free}
 use Rattle.pool.specs.Pool.{meet, store}
 use Rattle.stream.specs.Pieces.{authenticAt, openAt, subkeyWords}
-use Rattle.stream.specs.Sealing.{maxPadding, lastCounter}
+use Rattle.stream.specs.Sealing.{lastCounter}
+use Rattle.head_seal.specs.HeadSealing.{maxPadding}
 use Rattle.stream_open.specs.declared.Turn.{Turn}
 use Rattle.stream_open.specs.declared.Turn.the-variants.{Length, Payload, Ended}
 use Rattle.stream_open.specs.declared.Receiver.{Receiver}
 use Rattle.stream_open.specs.declared.Chunk.{Chunk}
 use Rattle.stream_open.specs.declared.Stepped.the-variants.{Opened}
-use Rattle.stream_open.specs.declared.Response.{Response}
-use Rattle.stream_open.specs.declared.ResponseOpened.the-variants.{Accepted as Answered}
-use Rattle.stream_open.specs.declared.Request.{Request}
-use Rattle.stream_open.specs.declared.RequestOpened.the-variants.{Accepted}
-use Rattle.stream_open.specs.Heads.{frontLength, fixedOf, receiver, bindingOf, openedResponse}
-use Rattle.stream_open.specs.Requests.{paddingAt, settings, openedRequest, requestOut, requestPool}
+use Rattle.response_open.specs.declared.Response.{Response}
+use Rattle.response_open.specs.declared.ResponseOpened.the-variants.{Accepted as Answered}
+use Rattle.request_open.specs.declared.Request.{Request}
+use Rattle.request_open.specs.declared.RequestOpened.the-variants.{Accepted}
+use Rattle.response_open.specs.Heads.{frontLength, fixedOf, receiver, bindingOf, openedResponse}
+use Rattle.request_open.specs.Requests.{paddingAt, settings, openedRequest, requestOut, requestPool}
 use Rattle.stream_open.specs.Chunks.{streamKey, stepAnswer, stepOut}
 use Rattle.demands.specs.StreamsKeep.{saltOf, timeIn, lengthIn}
 

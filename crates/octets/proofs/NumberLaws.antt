@@ -11,9 +11,9 @@ use lib.Dec.{lit<}
 use lib.ListN.{length, getD, take, drop, replicate, drop-of-length-le, List·getD-append}
 use lib.Pow.{pow-add, shl-exact}
 use lib.Seq.{getD-take, getD-drop, drop-drop}
-use Rattle.octets.specs.Buffers.{Octets, put}
+use Rattle.buffers.specs.Buffers.{Octets, put}
 use Rattle.octets.specs.Numbers.{be, le, toBe, toLe}
-use Rattle.octets.proofs.BufferLaws.{octets-nil, octets-cons, octets-tail, octets-drop, rest, put-put, getD-padded}
+use Rattle.buffers.proofs.BufferLaws.{octets-nil, octets-cons, octets-tail, octets-drop, rest, put-put, getD-padded}
 
 pub 256-pos : (n : ℕ) → 0 < 256 ^ n
 256-pos n = one-le-pow n 256 (lit< tt)

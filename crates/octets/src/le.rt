@@ -1,10 +1,10 @@
 // Little-endian numbers: the first byte is the lowest.
-use super::padded;
+use buffers::padded;
 ghost use mathlib.Core.Path.{_≡_};
 ghost use Prim.Native.Nat.{_+_, _≤_};
 ghost use lib.ListN.{length, drop};
 ghost use Rattle.octets.specs.Numbers.{le, toLe};
-ghost use Rattle.octets.specs.Buffers.{put};
+ghost use Rattle.buffers.specs.Buffers.{put};
 
 // ---- bytes that are there
 

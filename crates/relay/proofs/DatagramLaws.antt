@@ -11,16 +11,16 @@ use borrow.Author.Tests.{eq-eqb, ne-eqb}
 use Rattle.protocol.specs.declared.Refusal.{Refusal}
 use Rattle.protocol.specs.declared.Refusal.the-variants.{Settings}
 use Rattle.protocol.specs.Refusal.{refusalNumber}
-use Rattle.session.specs.declared.Peer.{Peer}
+use Rattle.session_record.specs.declared.Peer.{Peer}
 use Rattle.book.specs.Call.{Answer, refused, opened}
-use Rattle.datagram_open.specs.declared.Header.{Header}
+use Rattle.datagram_read.specs.declared.Header.{Header}
 use Rattle.datagram.specs.declared.Sender.{Sender}
 use Rattle.datagram.specs.declared.Begun.{Begun}
 use Rattle.datagram.specs.declared.Begun.the-variants.{Ready, Refused as NotBegun}
 use Rattle.datagram.specs.declared.Sealed.{Sealed}
 use Rattle.datagram.specs.declared.Sealed.the-variants.{Datagram, Refused}
-use Rattle.datagram_open.specs.declared.Opened.{Opened}
-use Rattle.datagram_open.specs.declared.Opened.the-variants.{Datagram as OpenedDatagram, Refused as NotOpened}
+use Rattle.datagram_read.specs.declared.Opened.{Opened}
+use Rattle.datagram_read.specs.declared.Opened.the-variants.{Datagram as OpenedDatagram, Refused as NotOpened}
 use Rattle.datagram.specs.Sealing.{pickBegun, pickSealed, sealAnswer, packetsOf, datagram, sealOut}
 use Rattle.datagram_open.specs.Deciding.{answerOf, openAnswer, openOut, openTable}
 use Rattle.words.specs.Answers.{answerWords, headerWords}

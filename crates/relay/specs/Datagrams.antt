@@ -8,9 +8,9 @@ use lib.Dec.{eqb}
 use lib.ListN.{length, getD, set}
 use Rattle.protocol.specs.declared.Refusal.the-variants.{Settings}
 use Rattle.protocol.specs.Refusal.{refusalNumber}
-use Rattle.session.specs.declared.Peer.{Peer}
+use Rattle.session_record.specs.declared.Peer.{Peer}
 use Rattle.book.specs.Call.{Answer, refused, opened}
-use Rattle.datagram_open.specs.declared.Header.{Header}
+use Rattle.datagram_read.specs.declared.Header.{Header}
 use Rattle.datagram.specs.declared.Begun.{Begun}
 use Rattle.datagram.specs.declared.Begun.the-variants.{Ready, Refused as NotBegun}
 use Rattle.datagram.specs.declared.Sealed.{Sealed}

@@ -3,7 +3,7 @@ use super::SETTINGS;
 use datagram::Begun;
 use datagram::Sealed;
 use datagram::Sender;
-use datagram_open::Opened;
+use datagram_read::Opened;
 use session::Peer;
 use words::ANSWER;
 use words::SESSION;

@@ -1,32 +1,25 @@
 // Salt pools and streams.
 use super::SETTINGS;
 use protocol::Refusal;
-use stream::Sealed;
-use stream_open::Chunk;
-use stream_open::RequestOpened;
-use stream_open::ResponseOpened;
-use stream_open::Step;
-use stream_open::Stepped;
+use telling::tell_request;
+use telling::tell_response;
+use telling::tell_sealed;
+use telling::tell_step;
 use words::ANSWER;
 use words::ENDED;
 use words::SEALING;
 use words::STREAM;
-use words::chunk_words;
 use words::is_receiver;
 use words::receiver_in;
-use words::receiver_words;
-use words::refuse;
-use words::request_words;
 use words::sender_in;
-use words::sender_words;
 ghost use mathlib.Core.Path.{_≡_};
 ghost use lib.ListN.{length};
 ghost use Rattle.pool.specs.Pool.{makeLawful, made};
-ghost use Rattle.stream.specs.Sealing.{requestAnswer, request, responseAnswer, response, senderKey, chunk, sealOut};
-ghost use Rattle.stream_open.specs.Heads.{openedResponse};
-ghost use Rattle.stream_open.specs.Requests.{openedRequest};
-ghost use Rattle.words.specs.Answers.{answerWords};
-ghost use Rattle.words.specs.States.{streamSize, senderIn};
+ghost use Rattle.stream.specs.Sealing.{senderKey, chunk, sealOut};
+ghost use Rattle.head_seal.specs.HeadSealing.{requestAnswer, request, responseAnswer, response};
+ghost use Rattle.response_open.specs.Heads.{openedResponse};
+ghost use Rattle.request_open.specs.Requests.{openedRequest};
+ghost use Rattle.words.specs.States.{senderIn};
 ghost use Rattle.relay.specs.Datagrams.{settingsNumber};
 ghost use Rattle.relay.specs.Streams as streams;
 
@@ -54,25 +47,6 @@ fn fits(stream: usize, answer: usize) -> bool
 
 // ---- sealing
 
-// Gives the stream and the number of bytes sealed to the caller.
-fn tell_sealed(sealed: Sealed, stream: &mut [u64], answer: &mut [u64]) -> u64
-    requires { ⌜ length (now stream) ≡ streamSize ⌝ }
-    requires { ⌜ length (now answer) ≡ answerWords ⌝ }
-    ensures { λ r. ⌜ r ≡ streams.sealedNumber sealed ⌝ }
-    ensures { λ r. ⌜ now (stream .exit) ≡ streams.sealedStream sealed (now (stream .entry)) ⌝ }
-    ensures { λ r. ⌜ now (answer .exit) ≡ streams.sealedWords sealed (now (answer .entry)) ⌝ }
-{
-    match sealed {
-        Sealed::Bytes(n, sender) => {
-            let words = sender_words(sender);
-            records::write(stream, 0, &words);
-            answer[0] = n as u64;
-            0
-        }
-        Sealed::Refused(refusal) => refusal.number(),
-    }
-}
-
 // Seals the head of a request to the front of the lent buffer and begins its stream. The answer is the number of bytes.
 #[no_mangle]
 pub extern "C" fn relay_stream_seal_request(
@@ -93,7 +67,16 @@ pub extern "C" fn relay_stream_seal_request(
     ensures { λ r. ⌜ now (answer .exit) ≡ streams.sealedWords (streams.sealedIn (length (now (stream .entry))) (length (now (answer .entry))) (requestAnswer method (now (key .entry)) (now (salt .entry)) (now (address .entry)) padding (length (now (payload .entry))) (length (now (out .entry))))) (now (answer .entry)) ⌝ }
 {
     if fits(stream.len(), answer.len()) {
-        let sealed = stream::seal_request(method, key, salt, clock, address, padding, payload, out);
+        let sealed = head_seal::seal_request(
+            method,
+            key,
+            salt,
+            clock,
+            address,
+            padding,
+            payload,
+            out,
+        );
         return tell_sealed(sealed, stream, answer);
     }
     SETTINGS
@@ -118,7 +101,7 @@ pub extern "C" fn relay_stream_seal_response(
     ensures { λ r. ⌜ now (answer .exit) ≡ streams.sealedWords (streams.sealedIn (length (now (stream .entry))) (length (now (answer .entry))) (responseAnswer method (now (key .entry)) (now (salt .entry)) (now («request_salt» .entry)) (length (now (payload .entry))) (length (now (out .entry))))) (now (answer .entry)) ⌝ }
 {
     if fits(stream.len(), answer.len()) {
-        let sealed = stream::seal_response(method, key, salt, request_salt, clock, payload, out);
+        let sealed = head_seal::seal_response(method, key, salt, request_salt, clock, payload, out);
         return tell_sealed(sealed, stream, answer);
     }
     SETTINGS
@@ -163,26 +146,6 @@ pub extern "C" fn relay_stream_seal_chunk(
 
 // ---- heads
 
-// Gives the header and the stream to the caller.
-fn tell_request(opened: RequestOpened, stream: &mut [u64], answer: &mut [u64]) -> u64
-    requires { ⌜ length (now stream) ≡ streamSize ⌝ }
-    requires { ⌜ length (now answer) ≡ answerWords ⌝ }
-    ensures { λ r. ⌜ r ≡ streams.requestNumber opened ⌝ }
-    ensures { λ r. ⌜ now (stream .exit) ≡ streams.requestStream opened (now (stream .entry)) ⌝ }
-    ensures { λ r. ⌜ now (answer .exit) ≡ streams.requestAnswer opened (now (answer .entry)) ⌝ }
-{
-    match opened {
-        RequestOpened::Accepted(header, receiver) => {
-            let state = receiver_words(receiver);
-            records::write(stream, 0, &state);
-            let words = request_words(header);
-            records::write(answer, 0, &words);
-            0
-        }
-        RequestOpened::Refused(refusal) => refuse(refusal, answer),
-    }
-}
-
 // Opens the head of a request, its variable header into the lent buffer, and begins its stream. Its salt enters the pool.
 #[no_mangle]
 pub extern "C" fn relay_stream_open_request(
@@ -202,33 +165,10 @@ pub extern "C" fn relay_stream_open_request(
     ensures { λ r. ⌜ now (answer .exit) ≡ streams.requestAnswer (streams.requestIn (length (now (stream .entry))) (length (now (answer .entry))) (openedRequest method (now (key .entry)) clock (now (bytes .entry)) (now (pool .entry)) (now (out .entry)))) (now (answer .entry)) ⌝ }
 {
     if fits(stream.len(), answer.len()) {
-        let opened = stream_open::open_request(method, key, clock, bytes, pool, out);
+        let opened = request_open::open_request(method, key, clock, bytes, pool, out);
         return tell_request(opened, stream, answer);
     }
     SETTINGS
-}
-
-// Gives the counts and the stream to the caller.
-fn tell_response(opened: ResponseOpened, stream: &mut [u64], answer: &mut [u64]) -> u64
-    requires { ⌜ length (now stream) ≡ streamSize ⌝ }
-    requires { ⌜ length (now answer) ≡ answerWords ⌝ }
-    ensures { λ r. ⌜ r ≡ streams.responseNumber opened ⌝ }
-    ensures { λ r. ⌜ now (stream .exit) ≡ streams.responseStream opened (now (stream .entry)) ⌝ }
-    ensures { λ r. ⌜ now (answer .exit) ≡ streams.responseAnswer opened (now (answer .entry)) ⌝ }
-{
-    match opened {
-        ResponseOpened::Accepted(header, receiver) => {
-            let state = receiver_words(receiver);
-            records::write(stream, 0, &state);
-            let words = chunk_words(Chunk {
-                used: header.used,
-                length: header.length,
-            });
-            records::write(answer, 0, &words);
-            0
-        }
-        ResponseOpened::Refused(refusal) => refuse(refusal, answer),
-    }
 }
 
 // Opens the head of a response to the request of a salt, and begins its stream. Its first payload is the next step's.
@@ -247,41 +187,13 @@ pub extern "C" fn relay_stream_open_response(
     ensures { λ r. ⌜ now (answer .exit) ≡ streams.responseAnswer (streams.responseIn (length (now (stream .entry))) (length (now (answer .entry))) (openedResponse method (now (key .entry)) clock (now («request_salt» .entry)) (now (bytes .entry)))) (now (answer .entry)) ⌝ }
 {
     if fits(stream.len(), answer.len()) {
-        let opened = stream_open::open_response(method, key, clock, request_salt, bytes);
+        let opened = response_open::open_response(method, key, clock, request_salt, bytes);
         return tell_response(opened, stream, answer);
     }
     SETTINGS
 }
 
 // ---- steps
-
-// Gives the counts and the stream to the caller. A refusal writes no word of the stream, but 4 ends it.
-fn tell_step(step: Step, stream: &mut [u64], answer: &mut [u64]) -> u64
-    requires { ⌜ length (now stream) ≡ streamSize ⌝ }
-    requires { ⌜ length (now answer) ≡ answerWords ⌝ }
-    ensures { λ r. ⌜ r ≡ streams.steppedNumber (step .answer) ⌝ }
-    ensures { λ r. ⌜ now (stream .exit) ≡ streams.stepStream (step .answer) (step .stream) (now (stream .entry)) ⌝ }
-    ensures { λ r. ⌜ now (answer .exit) ≡ streams.steppedAnswer (step .answer) (now (answer .entry)) ⌝ }
-{
-    let stepped = step.answer;
-    match stepped {
-        Stepped::Opened(chunk) => {
-            let next = step.stream;
-            let state = receiver_words(next);
-            records::write(stream, 0, &state);
-            let words = chunk_words(chunk);
-            records::write(answer, 0, &words);
-            0
-        }
-        Stepped::Refused(refusal) => {
-            let n = refuse(refusal, answer);
-            if n == 4 {
-                stream[0] = ENDED;
-            }
-            n
-        }
-    }
-}
 
 // Opens the next piece of a stream: a length, or a payload to the front of the lent buffer.
 #[no_mangle]

@@ -1,4 +1,3 @@
 -- Laws of the session table's definitions.
-pub mod WindowLaws
 pub mod PlaceLaws
 pub mod TableLaws

@@ -9,7 +9,8 @@ use lib.Dec.{eqb}
 use borrow.Author.Tests.{eq-eqb, ne-eqb}
 use Rattle.records.proofs.SearchLaws.{from-at, from-none, from-below}
 use Rattle.session.specs.Sizes.{capacity}
-use Rattle.session.specs.Table.{Record, retention, recordAt, live, holds, sessionPlace, freePlace, placeNumber}
+use Rattle.session_record.specs.Record.{Record}
+use Rattle.session.specs.Table.{retention, recordAt, live, holds, sessionPlace, freePlace, placeNumber}
 
 -- ---- one record
 

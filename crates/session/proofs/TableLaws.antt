@@ -8,9 +8,10 @@ use mathlib.Core.Path.{_≡_, sym, ap, _∙_}
 use lib.Dec.{leb, eqb}
 use lib.ListN.{length, set, replicate}
 use borrow.Author.Tests.{eq-eqb, ne-eqb, le-leb, lt-leb}
-use Rattle.session.specs.declared.Peer.{Peer}
+use Rattle.session_record.specs.declared.Peer.{Peer}
 use Rattle.session.specs.Sizes.{capacity}
-use Rattle.session.specs.Table.{tableWords, recordWords, newTable, madeRetention, makeLawful, made, recordAt, freshIn, acceptIn, newRecord, sessionPlace, freePlace, stores, replay, full, meetBy, meet}
+use Rattle.session_record.specs.Record.{freshIn, acceptIn, newRecord}
+use Rattle.session.specs.Table.{tableWords, recordWords, newTable, madeRetention, makeLawful, made, recordAt, sessionPlace, freePlace, stores, replay, full, meetBy, meet}
 
 -- ---- a length n and an R
 

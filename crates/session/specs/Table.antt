@@ -1,18 +1,18 @@
 -- The session table as words, and what a packet ID meets there. Any words have a meaning; past the end a word reads as 0.
-use Prim.Native.Nat.{ℕ, _+_, _-_, _*_, _/_, _%_, _^_, max}
-use mathlib.Core.Bool.{Bool, true, false, cond, not, _&&_, _||_}
+use Prim.Native.Nat.{ℕ, _+_, _*_, _/_, _%_, _^_}
+use mathlib.Core.Bool.{Bool, cond, not, _&&_}
 use mathlib.Core.List.{List, [], _∷_}
 use mathlib.Core.Option.{Option, none, some}
-use lib.Dec.{leb, ltb, eqb}
+use lib.Dec.{leb, eqb}
 use lib.ListN.{length, getD, replicate}
 use lib.Seq.{sets}
 use Rattle.records.specs.Records.{current, lowestFrom}
-use Rattle.window.specs.Window.{window, bit, join4}
-use Rattle.session.specs.declared.Peer.{Peer}
-use Rattle.session.specs.declared.Session.{Session}
+use Rattle.window.specs.Window.{join4}
+use Rattle.session_record.specs.declared.Peer.{Peer}
 use Rattle.session.specs.declared.Admitted.{Admitted}
 use Rattle.session.specs.declared.Admitted.the-variants.{Accepted, Replay, Full}
 use Rattle.session.specs.Sizes.{capacity}
+pub use Rattle.session_record.specs.Record.{Record, freshIn, markedWith, acceptIn, newRecord}
 
 -- ---- the layout: R, then a record of `recordWords` words for each session
 
@@ -49,15 +49,6 @@ made R t = cond (makeLawful R t) (newTable (madeRetention R)) t
 
 -- ---- a record
 
--- The marks are one number of 256 bits: bit i of mark word k is its bit 64 k + i, and bit d marks h - d.
-pub record Record : Type 0 where
-  pub used : ℕ
-  pub id : ℕ
-  pub h : ℕ
-  pub last : ℕ
-  pub marks : ℕ
-  pub peer : Peer
-
 abbrev pub recordAt : List ℕ → ℕ → Record
 recordAt t i =
     record {
@@ -78,35 +69,6 @@ wordsOf r =
 -- the table with a record in place i, every other word as it was
 abbrev pub store : List ℕ → ℕ → Record → List ℕ
 store t i r = sets t (start i) (wordsOf r)
-
--- a session by value, as the code has it, with its marks in four words
-abbrev pub recordOf : Session → Record
-recordOf s =
-    record {
-      used = s .used;
-      id = s .id;
-      h = s .high;
-      last = s .last;
-      marks = join4 (getD (s .marks) 0 0) (getD (s .marks) 1 0) (getD (s .marks) 2 0) (getD (s .marks) 3 0);
-      peer = s .peer;
-    }
-
--- ---- the window
-
-abbrev pub freshIn : Record → ℕ → Bool
-freshIn r p = ltb (r .h) p || ltb (r .h - p) window && not (bit (r .marks) (r .h - p))
-
--- p above h moves the window up by p - h, and bit 0 marks p; any other p is marked where it stands
-abbrev pub markedWith : (marks h p : ℕ) → ℕ
-markedWith marks h p = cond (ltb h p) ((marks * 2 ^ (p - h) + 1) % 2 ^ window) (marks + 2 ^ (h - p))
-
--- the record that accepts p: the word in use and the ID stay
-abbrev pub acceptIn : (clock : ℕ) → Peer → (p : ℕ) → Record → Record
-acceptIn clock a p r =
-    record { used = r .used; id = r .id; h = max (r .h) p; last = max (r .last) clock; marks = markedWith (r .marks) (r .h) p; peer = a }
-
-abbrev pub newRecord : (clock : ℕ) → Peer → (id p : ℕ) → Record
-newRecord clock a id p = record { used = 1; id = id; h = p; last = clock; marks = 1; peer = a }
 
 -- ---- the search
 

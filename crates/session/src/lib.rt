@@ -1,16 +1,17 @@
 // The session table: lent words, one record for each session behind the retention. Any words have a meaning, so nothing here
 // assumes an invariant of the table.
-use window::WINDOW;
-use window::is_marked;
-use window::moved;
-use window::with_mark;
+pub use session_record::Peer;
+use session_record::Session;
+use session_record::accept;
+use session_record::begin;
+use session_record::is_fresh;
 ghost use mathlib.Core.Path.{_≡_};
-ghost use mathlib.Core.Bool.{true};
 ghost use mathlib.Core.Option.{none, some};
-ghost use Prim.Native.Nat.{_<_, max};
+ghost use Prim.Native.Nat.{_<_};
 ghost use lib.ListN.{length};
+ghost use Rattle.session_record.specs.Record.{recordOf};
 ghost use Rattle.session.specs.Sizes.{capacity};
-ghost use Rattle.session.specs.Table.{tableWords, retention, lawful, madeRetention, makeLawful, made, recordAt, recordOf, wordsOf, store as storeOf, freshIn, acceptIn, newRecord, live, sessionPlace, freePlace, placeNumber, meetBy, meet, keep, admitted};
+ghost use Rattle.session.specs.Table.{tableWords, retention, lawful, madeRetention, makeLawful, made, recordAt, wordsOf, store as storeOf, live, sessionPlace, freePlace, placeNumber, meetBy, meet, keep, admitted};
 
 pub const SESSIONS: usize = 64;
 
@@ -39,94 +40,11 @@ const PEER_SECOND: usize = 9;
 
 const PORT: usize = 10;
 
-// A caller's address: two numbers and a port.
-pub struct Peer {
-    pub first: u64,
-    pub second: u64,
-    pub port: u16,
-}
-
-// One record. Bit i of marks[k] marks packet ID high - 64 k - i.
-pub struct Session {
-    pub used: u64,
-    pub id: u64,
-    pub high: u64,
-    pub last: u64,
-    pub marks: [u64; 4],
-    pub peer: Peer,
-}
-
 // What a packet ID meets: it is accepted, or it is refusal 8 or 9.
 pub enum Admitted {
     Accepted,
     Replay,
     Full,
-}
-
-// ---- one session
-
-fn is_fresh(s: Session, p: u64) -> bool
-    ensures { λ r. ⌜ r ≡ freshIn (recordOf s) p ⌝ }
-{
-    let h = s.high;
-    if h < p {
-        return true;
-    }
-    if h - p < WINDOW {
-        let m = s.marks;
-        return !is_marked(m, h - p);
-    }
-    false
-}
-
-fn larger(x: u64, y: u64) -> u64
-    ensures { λ r. ⌜ r ≡ max x y ⌝ }
-{
-    if x < y { y } else { x }
-}
-
-// The session after it accepted p.
-fn accept(s: Session, p: u64, clock: u64, peer: Peer) -> Session
-    requires { ⌜ freshIn (recordOf s) p ≡ true ⌝ }
-    ensures { λ r. ⌜ recordOf r ≡ acceptIn clock peer p (recordOf s) ⌝ }
-{
-    let h = s.high;
-    let m = s.marks;
-    let last = larger(s.last, clock);
-    if h < p {
-        let up = moved(m, p - h);
-        return Session {
-            used: s.used,
-            id: s.id,
-            high: p,
-            last,
-            marks: up,
-            peer,
-        };
-    }
-    let same = with_mark(m, h - p);
-    Session {
-        used: s.used,
-        id: s.id,
-        high: h,
-        last,
-        marks: same,
-        peer,
-    }
-}
-
-// A session that begins with p.
-fn begin(id: u64, p: u64, clock: u64, peer: Peer) -> Session
-    ensures { λ r. ⌜ recordOf r ≡ newRecord clock peer id p ⌝ }
-{
-    Session {
-        used: 1,
-        id,
-        high: p,
-        last: clock,
-        marks: [1, 0, 0, 0],
-        peer,
-    }
 }
 
 // ---- the table

@@ -1,6 +1,6 @@
 // Streams of SIP022, section 3.1: a head with the stream's salt, then lengths and payloads by turns. Each piece is sealed in
-// AES-GCM under the stream's subkey and its own counter. Here are the pieces (pieces.rt) and sealing (sealing.rt); the crate
-// stream_open opens heads and chunks.
+// AES-GCM under the stream's subkey and its own counter. Here are the pieces (pieces.rt) and sealing chunks (sealing.rt); the
+// crate head_seal seals heads, and stream_open opens chunks.
 use protocol::Refusal;
 
 mod pieces;
@@ -8,14 +8,13 @@ mod sealing;
 
 pub use pieces::derive;
 pub use pieces::open_piece;
+pub use pieces::seal_piece;
+pub use pieces::seal_text;
 pub use sealing::seal_chunk;
-pub use sealing::seal_request;
-pub use sealing::seal_response;
+pub use sealing::size_answer;
 
 // The longest plaintext of a piece with a length of its own.
-const MAX_CHUNK: usize = 65535;
-
-pub const MAX_PADDING: usize = 900;
+pub const MAX_CHUNK: usize = 65535;
 
 // The counter that is never used.
 pub const LAST_COUNTER: u64 = 0xffff_ffff_ffff_ffff;

@@ -1,4 +1,2 @@
--- Laws of the definitions of opening.
-pub mod HeadLaws
-pub mod RequestLaws
+-- Laws of the definitions of opening behind a head.
 pub mod ChunkLaws

@@ -1,3 +1,1 @@
-pub mod Heads
-pub mod Requests
 pub mod Chunks

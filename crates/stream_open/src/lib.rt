@@ -1,17 +1,17 @@
-// Opening streams of SIP022, section 3.1: the fixed header of a head and a response's head (heads.rt), a request's head
-// (requests.rt), and the lengths and payloads behind a head, one a step (chunks.rt).
+// Opening a stream of SIP022, section 3.1, behind its head: its state, and one piece a step, a length and its payload by turns.
 use protocol::Refusal;
-use socks5::Target;
+use stream::LAST_COUNTER;
 use stream::Subkey;
+use stream::open_piece;
 ghost use mathlib.Core.Path.{_≡_};
-
-mod chunks;
-mod heads;
-mod requests;
-
-pub use chunks::open_chunk;
-pub use heads::open_response;
-pub use requests::open_request;
+ghost use Prim.Native.Nat.{_+_, _<_};
+ghost use lib.ListN.{length, take};
+ghost use Rattle.aes.specs.Keyed.{nkOf};
+ghost use Rattle.protocol.specs.Method.{keyLength};
+ghost use Rattle.stream.specs.Pieces.{openAt};
+ghost use Rattle.stream.specs.Sealing.{lastCounter};
+ghost use Rattle.stream_open.specs.declared.Turn.the-variants.{Length, Payload};
+ghost use Rattle.stream_open.specs.Chunks.{streamKey, turnAnswer, writtenBy, stepAnswer, stepOut, turnAfter, advances, refusedNext, stepNext};
 
 // What the receiving half of a stream opens next: a length, a payload of so many bytes, or nothing.
 pub enum Turn {
@@ -26,35 +26,6 @@ pub struct Receiver {
     pub turn: Turn,
     pub counter: u64,
     pub subkey: Subkey,
-}
-
-// What the head of a request says. A name's place and the payload's are places in the plaintext of the variable header,
-// which has the length given. So many bytes were used.
-pub struct Request {
-    pub target: Target,
-    pub port: u16,
-    pub time: u64,
-    pub padding: u16,
-    pub payload: usize,
-    pub length: u16,
-    pub used: usize,
-}
-
-pub enum RequestOpened {
-    Accepted(Request, Receiver),
-    Refused(Refusal),
-}
-
-// What the head of a response says: its time, the length of its first payload, and how many bytes were used.
-pub struct Response {
-    pub time: u64,
-    pub length: u16,
-    pub used: usize,
-}
-
-pub enum ResponseOpened {
-    Accepted(Response, Receiver),
-    Refused(Refusal),
 }
 
 // A piece that was opened: how many bytes were used, and the length that it said or the length of the payload.
@@ -74,28 +45,137 @@ pub struct Step {
     pub stream: Receiver,
 }
 
-// What the parts of a head's opening hand on to each other. They are public for the theorems about heads, which stand in
-// another crate; no function that is public takes or gives one.
-
-// The fixed header of a head: its time, and the length of the piece behind it.
-pub struct Fixed {
-    pub time: u64,
-    pub length: u16,
-}
-
-pub enum FixedRead {
-    Read(Fixed),
-    Refused(Refusal),
-}
-
-// A request's header before its stream.
-pub enum RequestRead {
-    Header(Request),
-    Refused(Refusal),
-}
-
 fn wide(x: u16) -> usize
     ensures { λ r. ⌜ r ≡ x ⌝ }
 {
     x as usize
+}
+
+// A length: refusals 11, 10 and 4, in this order, or what it says. Nothing is written.
+fn open_length(stream: Receiver, k: usize, s: &[u8], room: usize) -> Stepped
+    requires { ⌜ 0 < nkOf k ⌝ }
+    requires { ⌜ k ≡ keyLength (stream .method) ⌝ }
+    ensures { λ r. ⌜ r ≡ turnAnswer Length stream (now (s .entry)) room ⌝ }
+{
+    if stream.counter == LAST_COUNTER {
+        return Stepped::Refused(Refusal::Counter);
+    }
+    if s.len() < 18 {
+        return Stepped::Refused(Refusal::More(18));
+    }
+    let mut text = [0u8; 2];
+    let w = stream.subkey;
+    if open_piece(w, k, stream.counter, &s[..18], &mut text) {
+        return Stepped::Opened(Chunk {
+            used: 18,
+            length: octets::read_u16_be(&text, 0),
+        });
+    }
+    Stepped::Refused(Refusal::NotAuthentic)
+}
+
+// A payload of n bytes: refusals 11, 10, 3 and 4, in this order, or it is in the buffer.
+fn open_payload(stream: Receiver, k: usize, n: u16, s: &[u8], out: &mut [u8]) -> Stepped
+    requires { ⌜ 0 < nkOf k ⌝ }
+    requires { ⌜ k ≡ keyLength (stream .method) ⌝ }
+    ensures { λ r. ⌜ r ≡ turnAnswer (Payload n) stream (now (s .entry)) (length (now (out .entry))) ⌝ }
+    ensures { λ r. ⌜ now (out .exit) ≡ writtenBy r (Payload n) (openAt (streamKey stream) (stream .counter) (take (n + 16) (now (s .entry)))) (now (out .entry)) ⌝ }
+{
+    let due = wide(n);
+    if stream.counter == LAST_COUNTER {
+        return Stepped::Refused(Refusal::Counter);
+    }
+    if s.len() < due + 16 {
+        return Stepped::Refused(Refusal::More((due + 16) as u64));
+    }
+    if out.len() < due {
+        return Stepped::Refused(Refusal::Room);
+    }
+    let w = stream.subkey;
+    if open_piece(w, k, stream.counter, &s[..due + 16], out) {
+        return Stepped::Opened(Chunk {
+            used: due + 16,
+            length: n,
+        });
+    }
+    Stepped::Refused(Refusal::NotAuthentic)
+}
+
+fn open_turn(stream: Receiver, s: &[u8], out: &mut [u8]) -> Stepped
+    ensures { λ r. ⌜ r ≡ stepAnswer stream (now (s .entry)) (length (now (out .entry))) ⌝ }
+    ensures { λ r. ⌜ now (out .exit) ≡ stepOut stream (now (s .entry)) (now (out .entry)) ⌝ }
+{
+    let k = protocol::key_length(stream.method);
+    if k == 0 {
+        return Stepped::Refused(Refusal::Settings);
+    }
+    let turn = stream.turn;
+    match turn {
+        Turn::Length => open_length(stream, k, s, out.len()),
+        Turn::Payload(n) => open_payload(stream, k, n, s, out),
+        Turn::Ended => Stepped::Refused(Refusal::NotAuthentic),
+    }
+}
+
+// ---- the state behind a step
+
+fn turn_after(turn: Turn, n: u16) -> Turn
+    ensures { λ r. ⌜ r ≡ turnAfter turn n ⌝ }
+{
+    match turn {
+        Turn::Length => Turn::Payload(n),
+        Turn::Payload(_) => Turn::Length,
+        Turn::Ended => Turn::Ended,
+    }
+}
+
+// One counter further, at the other turn.
+fn advanced(stream: Receiver, n: u16) -> Receiver
+    requires { ⌜ (stream .counter ≡ lastCounter → ⊥) ⌝ }
+    ensures { λ r. ⌜ r ≡ advances stream n ⌝ }
+{
+    let turn = stream.turn;
+    let w = stream.subkey;
+    Receiver {
+        method: stream.method,
+        turn: turn_after(turn, n),
+        counter: stream.counter + 1,
+        subkey: w,
+    }
+}
+
+// Refusal 4 ends a stream, and no other moves it.
+fn refused_next(stream: Receiver, refusal: Refusal) -> Receiver
+    ensures { λ r. ⌜ r ≡ refusedNext refusal stream ⌝ }
+{
+    if refusal.number() == 4 {
+        let w = stream.subkey;
+        return Receiver {
+            method: stream.method,
+            turn: Turn::Ended,
+            counter: stream.counter,
+            subkey: w,
+        };
+    }
+    stream
+}
+
+// Opens the next piece of a stream: a length, or a payload to the front of the lent buffer. Refusals 1, 4 (of a stream that
+// has ended), 11, 10, 3 and 4, in this order; they write nothing, and only 4 moves the stream: it ends it.
+pub fn open_chunk(stream: Receiver, s: &[u8], out: &mut [u8]) -> Step
+    ensures { λ r. ⌜ r .answer ≡ stepAnswer stream (now (s .entry)) (length (now (out .entry))) ⌝ }
+    ensures { λ r. ⌜ r .stream ≡ stepNext stream (r .answer) ⌝ }
+    ensures { λ r. ⌜ now (out .exit) ≡ stepOut stream (now (s .entry)) (now (out .entry)) ⌝ }
+{
+    let answer = open_turn(stream, s, out);
+    match answer {
+        Stepped::Opened(c) => Step {
+            answer: answer,
+            stream: advanced(stream, c.length),
+        },
+        Stepped::Refused(r) => Step {
+            answer: answer,
+            stream: refused_next(stream, r),
+        },
+    }
 }

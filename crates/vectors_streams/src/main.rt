@@ -4,16 +4,16 @@
 // many differ.
 use libc::STDOUT_FILENO;
 use protocol::Refusal;
+use request_open::Request;
+use request_open::RequestOpened;
+use response_open::Response;
+use response_open::ResponseOpened;
 use socks5::Target;
 use stream::Sealed;
 use stream::Sender;
 use stream::Subkey;
 use stream_open::Chunk;
 use stream_open::Receiver;
-use stream_open::Request;
-use stream_open::RequestOpened;
-use stream_open::Response;
-use stream_open::ResponseOpened;
 use stream_open::Stepped;
 use stream_open::Turn;
 ghost use mathlib.Core.Path.{_≡_};
@@ -490,7 +490,7 @@ fn seals_request(
     let method = octets::read_u64_be(s, at + 8);
     let clock = octets::read_u64_be(s, at + 16);
     let padding = octets::read_u64_be(s, at + 24) as usize;
-    let sealed = stream::seal_request(method, key, salt, clock, address, padding, payload, out);
+    let sealed = head_seal::seal_request(method, key, salt, clock, address, padding, payload, out);
     sealed_so(s, at, sealed, words)
 }
 
@@ -508,7 +508,7 @@ fn seals_response(
 {
     let method = octets::read_u64_be(s, at + 8);
     let clock = octets::read_u64_be(s, at + 16);
-    let sealed = stream::seal_response(method, key, salt, binding, clock, payload, out);
+    let sealed = head_seal::seal_response(method, key, salt, binding, clock, payload, out);
     sealed_so(s, at, sealed, words)
 }
 
@@ -551,7 +551,7 @@ fn opens_request(
     }
     let method = octets::read_u64_be(s, at + 8);
     let clock = octets::read_u64_be(s, at + 16);
-    let opened = stream_open::open_request(method, key, clock, bytes, &mut words[..lent], out);
+    let opened = request_open::open_request(method, key, clock, bytes, &mut words[..lent], out);
     opened_request(s, at, opened, words)
 }
 
@@ -567,7 +567,7 @@ fn opens_response(
 {
     let method = octets::read_u64_be(s, at + 8);
     let clock = octets::read_u64_be(s, at + 16);
-    match stream_open::open_response(method, key, clock, salt, bytes) {
+    match response_open::open_response(method, key, clock, salt, bytes) {
         ResponseOpened::Accepted(h, r) => {
             write_receiver(words, stream_place(s, at), r);
             if accepted(s, at, h.used) {

@@ -8,8 +8,8 @@ use mathlib.Core.Path.{_≡_, refl, ap}
 use borrow.Author.Tests.{le-leb}
 use lib.ListN.{length, getD, set}
 use lib.Seq.{getD-set-same, getD-set-other}
-use Rattle.datagram.specs.declared.Side.{Side}
-use Rattle.datagram.specs.declared.Side.the-variants.{Client, Server}
+use Rattle.datagram_parts.specs.declared.Side.{Side}
+use Rattle.datagram_parts.specs.declared.Side.the-variants.{Client, Server}
 use Rattle.datagram.specs.declared.Sender.{Sender as Session}
 use Rattle.stream.specs.declared.Sender.{Sender}
 use Rattle.stream_open.specs.declared.Turn.{Turn}

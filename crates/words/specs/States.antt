@@ -4,8 +4,8 @@ use mathlib.Core.List.{List, [], _∷_}
 use Prim.Native.Nat.{ℕ, _%_}
 use lib.Dec.{eqb, leb}
 use lib.ListN.{length, getD}
-use Rattle.datagram.specs.declared.Side.{Side}
-use Rattle.datagram.specs.declared.Side.the-variants.{Client, Server}
+use Rattle.datagram_parts.specs.declared.Side.{Side}
+use Rattle.datagram_parts.specs.declared.Side.the-variants.{Client, Server}
 use Rattle.datagram.specs.declared.Sender.{Sender as Session}
 use Rattle.stream.specs.declared.Subkey.{Subkey}
 use Rattle.stream.specs.declared.Sender.{Sender}

@@ -6,7 +6,7 @@ use super::PAYLOAD_NEXT;
 use super::SEALING;
 use super::SESSION;
 use super::STREAM;
-use datagram::Side;
+use datagram_parts::Side;
 use stream::Subkey;
 use stream_open::Receiver;
 use stream_open::Turn;

@@ -1,6 +1,6 @@
 use mathlib.Core.Path.{ap, _∙_}
 use borrow.Author.Needs.{needs}
-use Rattle.blake3.specs.Words.{firstEight}
+use Rattle.blake3_compression.specs.Compression.{firstEight}
 use Rattle.blake3.specs.Tree.{contextKey}
 use Rattle.blake3.proofs.context_key.Statement.{statement}
 use Rattle.blake3.proofs.context_key.Tie as tie

@@ -1,5 +1,5 @@
 use mathlib.Core.Path.{refl}
-use Rattle.blake3.specs.Words.{firstEight}
+use Rattle.blake3_compression.specs.Compression.{firstEight}
 use borrow.Author.Needs.{needs}
 use Rattle.blake3.proofs.first_eight.Statement.{statement}
 use Rattle.blake3.proofs.first_eight.Tie as tie

@@ -1,6 +1,7 @@
 -- Each return is one case of what p meets in the record.
 use mathlib.Core.Path.{sym, ap, _∙_}
-use Rattle.session.specs.Table.{Record, Entry, freshIn, acceptIn, store as storeOf, keep, admitted}
+use Rattle.session_record.specs.Record.{Record, freshIn, acceptIn}
+use Rattle.session.specs.Table.{Entry, store as storeOf, keep, admitted}
 use Rattle.session.proofs.TableLaws.{is-fresh, is-replay}
 use borrow.Author.Needs.{needs}
 use Rattle.session.proofs.admit_known.Statement.{statement}

@@ -1,6 +1,6 @@
 use native.Mathlib.Omega.{arith}
 use borrow.Author.Needs.{needs}
-use Rattle.datagram.proofs.LengthLaws.{fixed-most}
+use Rattle.datagram_parts.proofs.LengthLaws.{fixed-most}
 use Rattle.datagram.proofs.AnswerLaws.{part-over, sum-over, sum-within}
 use Rattle.datagram.proofs.write.sealed_length.Statement.{statement}
 use Rattle.datagram.proofs.write.sealed_length.Tie as tie

@@ -1,7 +1,7 @@
 use native.Mathlib.Omega.{arith}
 use borrow.Author.Needs.{needs}
-use Rattle.datagram.proofs.LengthLaws.{length-plaintext}
-use Rattle.datagram.proofs.WritingLaws.{sealed-law}
+use Rattle.datagram_parts.proofs.LengthLaws.{length-plaintext}
+use Rattle.datagram_parts.proofs.WritingLaws.{sealed-law}
 use Rattle.datagram.proofs.write.write_body.Statement.{statement}
 use Rattle.datagram.proofs.write.write_body.Tie as tie
 

@@ -5,7 +5,7 @@ use lib.Dec.{lit≤}
 use lib.ListN.{drop}
 use lib.Seq.{drop-drop}
 use Rattle.octets.specs.Numbers.{be}
-use Rattle.octets.proofs.BufferLaws.{octets-fit, octets-drop}
+use Rattle.buffers.proofs.BufferLaws.{octets-fit, octets-drop}
 use Rattle.octets.proofs.NumberLaws.{be-join}
 use Rattle.octets.proofs.be.load_u32.Statement.{statement}
 use Rattle.octets.proofs.be.load_u32.Tie as tie

@@ -1,5 +1,5 @@
 use mathlib.Core.Path.{sym, _∙_}
-use Rattle.stream_open.specs.Heads.{openedResponse}
+use Rattle.response_open.specs.Heads.{openedResponse}
 use Rattle.relay.proofs.StreamLaws.{fitting, response-unfit, response-fit}
 use borrow.Author.Needs.{needs}
 use Rattle.relay.proofs.streams.relay_stream_open_response.Statement.{statement}

@@ -1,6 +1,6 @@
 use mathlib.Core.Path.{sym, _∙_}
 use lib.ListN.{length}
-use Rattle.stream.specs.Sealing.{responseAnswer, response}
+use Rattle.head_seal.specs.HeadSealing.{responseAnswer, response}
 use Rattle.relay.proofs.StreamLaws.{fitting, unfit, sealed-fit}
 use borrow.Author.Needs.{needs}
 use Rattle.relay.proofs.streams.relay_stream_seal_response.Statement.{statement}

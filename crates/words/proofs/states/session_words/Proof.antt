@@ -1,6 +1,6 @@
 use mathlib.Core.Path.{sym, ap}
 use mathlib.Core.List.{[], _∷_}
-use Rattle.datagram.specs.declared.Side.{Side}
+use Rattle.datagram_parts.specs.declared.Side.{Side}
 use Rattle.words.specs.States.{sideNumber, clientOf}
 use borrow.Author.Needs.{needs}
 use Rattle.words.proofs.states.session_words.Statement.{statement}

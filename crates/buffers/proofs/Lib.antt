@@ -1,0 +1,3 @@
+pub mod XorLaws
+pub mod Table
+pub mod BufferLaws

@@ -1,0 +1,22 @@
+-- SIP022, section 3.2: the parts of a datagram under its keys.
+use mathlib.Core.List.{List}
+use Prim.Native.Nat.{ℕ}
+use lib.ListN.{length}
+use Rattle.aes.specs.KeyExpansion.{aes}
+use Rattle.aes.specs.Keyed.{nkOf}
+use Rattle.gcm.specs.Gcm.{seal}
+use Rattle.gcm.specs.Keyed.{ciphOf}
+use Rattle.protocol.specs.Subkey.{sessionSubkey}
+use Rattle.datagram_parts.specs.Headers.{separateHeader, nonce}
+
+-- what UDP can carry over IPv4
+abbrev pub maxDatagram : ℕ
+maxDatagram = 65507
+
+-- the separate header as one block under the shared key
+unfoldable pub separateBlock : List ℕ → ℕ → ℕ → List ℕ
+separateBlock key id packet = aes (nkOf (length key)) key (separateHeader id packet)
+
+-- a body in GCM under the session's subkey
+unfoldable pub sealBody : List ℕ → ℕ → ℕ → List ℕ → List ℕ
+sealBody key id packet text = seal (ciphOf (sessionSubkey key id)) (nonce id packet) text

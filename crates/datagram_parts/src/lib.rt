@@ -1,0 +1,115 @@
+// What a datagram of SIP022, section 3.2, is made of: a separate header, one AES block under the shared key, and a body in
+// AES-GCM under the session's subkey, whose plaintext is the main header and the payload.
+ghost use mathlib.Core.Path.{_≡_};
+ghost use mathlib.Core.List.{_∷_};
+ghost use Prim.Native.Nat.{_+_, _<_, _≤_};
+ghost use lib.ListN.{length};
+ghost use Rattle.octets.specs.Buffers.{put};
+ghost use Rattle.octets.specs.Numbers.{toBe};
+ghost use Rattle.aes.specs.Keyed.{nkOf};
+ghost use Rattle.gcm.specs.Gcm.{textOf};
+ghost use Rattle.datagram_parts.specs.Headers.{separateHeader, fixedLength, fixedPart, plaintext};
+ghost use Rattle.datagram_parts.specs.Parts.{maxDatagram, separateBlock, sealBody};
+
+// The longest datagram: what UDP can carry over IPv4.
+pub const MAX_DATAGRAM: usize = 65507;
+
+// Whose datagram it is: a client's, or a server's in reply to the client session of an ID.
+pub enum Side {
+    Client,
+    Server(u64),
+}
+
+// The separate header in the clear.
+pub fn separate_header(id: u64, packet: u64) -> [u8; 16]
+    ensures { λ r. ⌜ r ≡ separateHeader id packet ⌝ }
+{
+    let mut header = [0u8; 16];
+    octets::write_u64_be(&mut header, 0, id);
+    octets::write_u64_be(&mut header, 8, packet);
+    header
+}
+
+// The length of the main header before its padding.
+pub fn fixed_length(side: Side) -> usize
+    ensures { λ r. ⌜ r ≡ fixedLength side ⌝ }
+{
+    match side {
+        Side::Client => 11,
+        Side::Server(_) => 19,
+    }
+}
+
+// Type and time.
+fn write_start(out: &mut [u8], kind: u8, clock: u64)
+    requires { ⌜ 9 ≤ length (now out) ⌝ }
+    ensures { λ _. ⌜ now (out .exit) ≡ put (now (out .entry)) 0 (kind ∷ toBe 8 clock) ⌝ }
+{
+    out[0] = kind;
+    octets::write_u64_be(out, 1, clock);
+}
+
+// The main header before its padding.
+fn write_fixed(out: &mut [u8], side: Side, clock: u64, padding: usize)
+    requires { ⌜ 19 ≤ length (now out) ⌝ }
+    requires { ⌜ padding ≤ maxDatagram ⌝ }
+    ensures { λ _. ⌜ now (out .exit) ≡ put (now (out .entry)) 0 (fixedPart side clock padding) ⌝ }
+{
+    match side {
+        Side::Client => {
+            write_start(out, 0, clock);
+            octets::write_u16_be(out, 9, padding as u16);
+        }
+        Side::Server(client) => {
+            write_start(out, 1, clock);
+            octets::write_u64_be(out, 9, client);
+            octets::write_u16_be(out, 17, padding as u16);
+        }
+    }
+}
+
+// The plaintext of a datagram's body, to the front of a buffer with room for it and for the tag.
+pub fn write_plaintext(
+    out: &mut [u8],
+    side: Side,
+    clock: u64,
+    address: &[u8],
+    padding: usize,
+    payload: &[u8],
+)
+    requires { ⌜ padding ≤ maxDatagram ⌝ }
+    requires { ⌜ fixedLength side + padding + length (now address) + length (now payload) + 16 ≤ length (now out) ⌝ }
+    ensures { λ _. ⌜ now (out .exit) ≡ put (now (out .entry)) 0 (plaintext side clock padding (now (address .entry)) (now (payload .entry))) ⌝ }
+{
+    write_fixed(out, side, clock, padding);
+    let fixed = fixed_length(side);
+    octets::zero(out, fixed, padding);
+    let at = fixed + padding;
+    octets::copy(out, at, address);
+    octets::copy(out, at + address.len(), payload);
+}
+
+// The encrypted separate header, to the front of a buffer.
+pub fn write_separate(out: &mut [u8], key: &[u8], id: u64, packet: u64)
+    requires { ⌜ 0 < nkOf (length (now key)) ⌝ }
+    requires { ⌜ 16 ≤ length (now out) ⌝ }
+    ensures { λ _. ⌜ now (out .exit) ≡ put (now (out .entry)) 0 (separateBlock (now (key .entry)) id packet) ⌝ }
+{
+    let mut header = separate_header(id, packet);
+    aes::encrypt::encrypt_block(key, &mut header);
+    octets::copy(out, 0, &header);
+}
+
+// Seals a body in place: its last 16 bytes are room for the tag.
+pub fn seal_body(body: &mut [u8], key: &[u8], id: u64, packet: u64)
+    requires { ⌜ 0 < nkOf (length (now key)) ⌝ }
+    requires { ⌜ 16 ≤ length (now body) ⌝ }
+    requires { ⌜ length (now body) ≤ maxDatagram ⌝ }
+    ensures { λ _. ⌜ now (body .exit) ≡ sealBody (now (key .entry)) id packet (textOf (now (body .entry))) ⌝ }
+{
+    let header = separate_header(id, packet);
+    let mut subkey = [0u8; 32];
+    protocol::derive_session_subkey(key, id, &mut subkey);
+    let n = key.len();
+    gcm::seal_in_place(&subkey[..n], &header[4..16], body);
+}

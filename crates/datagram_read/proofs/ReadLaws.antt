@@ -1,0 +1,219 @@
+-- What a header that was read tells, and what gives a header: each test of the order came out well. And what the buffer holds.
+-- Assumes nothing.
+use mathlib.Core.Path.{_≡_, refl, sym, ap, ap₂, _∙_}
+use mathlib.Core.Bool.{Bool, true, false}
+use mathlib.Core.List.{List}
+use Prim.Native.Nat.{ℕ, _+_, _-_, _≤_}
+use native.Mathlib.Omega.{arith}
+use lib.Dec.{eqb, leb}
+use lib.ListN.{length, getD, drop, replicate, length-drop, length-replicate}
+use borrow.Author.Tests.{leb-true}
+use Rattle.octets.specs.Buffers.{both, put}
+use Rattle.octets.proofs.BufferLaws.{put-again}
+use Rattle.aes.specs.KeyExpansion.{if}
+use Rattle.gcm.specs.Keyed.{ciphOf}
+use Rattle.gcm.proofs.GcmLaws.{length-opened}
+use Rattle.protocol.specs.Method.{keyFits}
+use Rattle.protocol.specs.declared.Refusal.{Refusal}
+use Rattle.protocol.specs.declared.Refusal.the-variants.{Settings, Length, Room, NotAuthentic, Malformed, WrongType, WrongTime, Binding}
+use Rattle.protocol.specs.Subkey.{sessionSubkey}
+use Rattle.protocol.specs.Time.{timeValid}
+use Rattle.socks5.specs.declared.Parsed.{Parsed}
+use Rattle.socks5.specs.declared.Parsed.the-variants.{Found, Malformed as NoAddress}
+use Rattle.socks5.specs.Address.{parseAt}
+use Rattle.datagram_parts.specs.declared.Side.{Side}
+use Rattle.datagram_parts.specs.Headers.{nonce, typeOf, fixedLength}
+use Rattle.datagram_read.specs.declared.Header.{Header}
+use Rattle.datagram_read.specs.declared.Opened.{Opened}
+use Rattle.datagram_read.specs.declared.Opened.the-variants.{Datagram, Refused}
+use Rattle.datagram_read.specs.Opening.{sessionOf, packetOf, bodyAuthentic, bodyText, pickOpened, timeOf, paddingOf, meant, headerWith, readAddress, readMain, lengthLawful, readBody, readAnswer, settled, bodyOut, readOut}
+
+-- ---- answers
+
+-- 1 for a header, 0 for a refusal
+abbrev isHeader : Opened → ℕ
+isHeader (Datagram h) = 1
+isHeader (Refused r) = 0
+
+not-refused : (r : Refusal) (h : Header) → Refused r ≡ Datagram h → ⊥
+not-refused r h e = let z : _≡_ {A = ℕ} 0 1 = ap isHeader e in omega arith
+
+both-left : (a b : Bool) → both a b ≡ true → a ≡ true
+both-left true b e = refl
+both-left false b e = e
+
+record Passed (b : Bool) (x : Opened) (h : Header) : Type 0 where
+  test : b ≡ true
+  then : x ≡ Datagram h
+
+passed : (b : Bool) (x : Opened) (r : Refusal) (h : Header) → pickOpened b x (Refused r) ≡ Datagram h → Passed b x h
+passed true x r h e = record { test = refl; then = e }
+passed false x r h e = absurd (not-refused r h e)
+
+-- ---- a header, exactly when
+
+-- the main header of a plaintext
+pub record Reads (side : Side) (clock id packet : ℕ) (plain : List ℕ) (h : Header) : Type 0 where
+  pub long : leb (fixedLength side) (length plain) ≡ true
+  pub kind : eqb (getD plain 0 0) (typeOf side) ≡ true
+  pub timely : timeValid (timeOf plain) clock ≡ true
+  pub ours : meant side plain ≡ true
+  pub address : readAddress side id packet plain ≡ Datagram h
+
+module _ (side : Side) (clock id packet : ℕ) (plain : List ℕ) (h : Header) where
+  pub main-tells : readMain side clock id packet plain ≡ Datagram h → Reads side clock id packet plain h
+  unfolding readMain
+  main-tells e =
+      let e₁ = passed (leb (fixedLength side) (length plain)) _ _ h e in
+      let e₂ = passed (eqb (getD plain 0 0) (typeOf side)) _ _ h (e₁ .then) in
+      let e₃ = passed (timeValid (timeOf plain) clock) _ _ h (e₂ .then) in
+      let e₄ = passed (meant side plain) _ _ h (e₃ .then) in
+      record { long = e₁ .test; kind = e₂ .test; timely = e₃ .test; ours = e₄ .test; address = e₄ .then }
+
+  pub main-given : Reads side clock id packet plain h → readMain side clock id packet plain ≡ Datagram h
+  unfolding readMain
+  main-given d =
+      (λ i. pickOpened (d .long i)
+      (pickOpened (d .kind i)
+      (pickOpened (d .timely i) (pickOpened (d .ours i) (readAddress side id packet plain) (Refused Binding)) (Refused WrongTime))
+      (Refused WrongType)) (Refused Malformed))
+      ∙ d .address
+
+-- the whole datagram, with lawful settings, length and room
+pub record Opens (method : ℕ) (key : List ℕ) (side : Side) (clock : ℕ) (s out : List ℕ) (h : Header) : Type 0 where
+  pub fits : keyFits method (length key) ≡ true
+  pub size : lengthLawful s ≡ true
+  pub room : leb (length s - 32) (length out) ≡ true
+  pub authentic : bodyAuthentic key (sessionOf key s) (packetOf key s) (drop 16 s) ≡ true
+  pub main : Reads side clock (sessionOf key s) (packetOf key s) (bodyText key (sessionOf key s) (packetOf key s) (drop 16 s)) h
+
+-- what a header that was read says of session and packet
+abbrev sessionIn : Opened → ℕ → ℕ
+sessionIn (Datagram h) other = h .session
+sessionIn (Refused r) other = other
+
+abbrev packetIn : Opened → ℕ → ℕ
+packetIn (Datagram h) other = h .packet
+packetIn (Refused r) other = other
+
+module _ (id packet time padding : ℕ) (h : Header) where
+  with-session : (p : Parsed) → headerWith id packet time padding p ≡ Datagram h → h .session ≡ id
+  with-session (Found a) e = sym (ap (λ (o : Opened). sessionIn o id) e)
+  with-session NoAddress e = absurd (not-refused Malformed h e)
+
+  with-packet : (p : Parsed) → headerWith id packet time padding p ≡ Datagram h → h .packet ≡ packet
+  with-packet (Found a) e = sym (ap (λ (o : Opened). packetIn o packet) e)
+  with-packet NoAddress e = absurd (not-refused Malformed h e)
+
+module _ (method : ℕ) (key : List ℕ) (side : Side) (clock : ℕ) (s out : List ℕ) where
+  abbrev id : ℕ
+  id = sessionOf key s
+
+  abbrev packet : ℕ
+  packet = packetOf key s
+
+  abbrev plain : List ℕ
+  plain = bodyText key id packet (drop 16 s)
+
+  -- as long as is due
+  pub length-plain : length plain ≡ length s - 32
+  unfolding bodyText
+  length-plain =
+      omega (arith, length-opened (ciphOf (sessionSubkey key id)) (nonce id packet) (drop 16 s), length-drop 16 s)
+
+  abbrev settings : Bool
+  settings = both (keyFits method (length key)) (both (lengthLawful s) (leb (length s - 32) (length out)))
+
+  module _ (h : Header) where
+    pub answer-tells : readAnswer method key side clock s out ≡ Datagram h → Opens method key side clock s out h
+    unfolding readAnswer readBody
+    answer-tells e =
+        let e₁ = passed (keyFits method (length key)) _ _ h e in
+        let e₂ = passed (lengthLawful s) _ _ h (e₁ .then) in
+        let e₃ = passed (leb (length s - 32) (length out)) _ _ h (e₂ .then) in
+        let e₄ = passed (bodyAuthentic key id packet (drop 16 s)) _ _ h (e₃ .then) in
+        record {
+          fits = e₁ .test;
+          size = e₂ .test;
+          room = e₃ .test;
+          authentic = e₄ .test;
+          main = main-tells side clock id packet plain h (e₄ .then);
+        }
+
+    pub answer-given : Opens method key side clock s out h → readAnswer method key side clock s out ≡ Datagram h
+    unfolding readAnswer readBody
+    answer-given d =
+        (λ i. pickOpened (d .fits i)
+        (pickOpened (d .size i)
+        (pickOpened (d .room i) (pickOpened (d .authentic i) (readMain side clock id packet plain) (Refused NotAuthentic)) (Refused Room))
+        (Refused Length)) (Refused Settings))
+        ∙ main-given side clock id packet plain h (d .main)
+
+    module _ (d : Opens method key side clock s out h) where
+      pub opens-long : 32 ≤ length s
+      unfolding lengthLawful
+      opens-long = leb-true 32 (length s) (both-left _ _ (d .size))
+
+      pub opens-room : length s - 32 ≤ length out
+      opens-room = leb-true (length s - 32) (length out) (d .room)
+
+      pub header-session : h .session ≡ id
+      unfolding readAddress
+      header-session = with-session id packet (timeOf plain) (paddingOf side plain) h (parseAt plain (fixedLength side + paddingOf side plain)) (d .main .address)
+
+      pub header-packet : h .packet ≡ packet
+      unfolding readAddress
+      header-packet = with-packet id packet (timeOf plain) (paddingOf side plain) h (parseAt plain (fixedLength side + paddingOf side plain)) (d .main .address)
+
+      -- the plaintext is in the buffer
+      pub opened-out : readOut method key side clock s out ≡ put out 0 plain
+      unfolding readOut bodyOut
+      opened-out =
+          let m = main-given side clock id packet plain h (d .main) in
+          (λ i. if (both (d .fits i) (both (d .size i) (d .room i)))
+          (if (d .authentic i) (settled (m i) (length (drop 16 s) - 16) (put out 0 plain)) out) out)
+
+  -- ---- what a refusal leaves
+
+  -- with unlawful settings, length or room, or a wrong tag: the buffer as it was
+  pub unlawful-out : settings ≡ false → readOut method key side clock s out ≡ out
+  unfolding readOut
+  unlawful-out e = ap (λ (b : Bool). if b (bodyOut side clock key id packet (drop 16 s) out) out) e
+
+  pub forged-out : bodyAuthentic key id packet (drop 16 s) ≡ false → readOut method key side clock s out ≡ out
+  unfolding readOut bodyOut
+  forged-out e =
+      ap
+      (λ (b : Bool). if settings (if b (settled (readMain side clock id packet plain) (length (drop 16 s) - 16) (put out 0 plain)) out) out)
+      e
+      ∙ same settings
+    where
+      same : (b : Bool) → if b out out ≡ out
+      same true = refl
+      same false = refl
+
+  -- after a good tag: zeros where the plaintext was, as many as are due
+  pub cleared-out : settings ≡ true → bodyAuthentic key id packet (drop 16 s) ≡ true → (r : Refusal)
+      → readAnswer method key side clock s out ≡ Refused r → length s - 32 ≤ length out
+      → readOut method key side clock s out ≡ put out 0 (replicate (length s - 32) 0)
+  unfolding readAnswer readBody readOut bodyOut
+  cleared-out e a r ea room =
+      let due : length (drop 16 s) - 16 ≡ length s - 32 = omega (arith, length-drop 16 s) in
+      let lp : length plain ≡ length s - 32 = length-plain in
+      let lz : length (replicate {A = ℕ} (length s - 32) 0) ≡ length s - 32 = length-replicate (length s - 32) 0 in
+      let fits = parts (keyFits method (length key)) (lengthLawful s) (leb (length s - 32) (length out)) e in
+      let main : readMain side clock id packet plain ≡ Refused r =
+      sym
+      (λ i. pickOpened (fits .0 i)
+      (pickOpened (fits .1 .0 i)
+      (pickOpened (fits .1 .1 i) (pickOpened (a i) (readMain side clock id packet plain) (Refused NotAuthentic)) (Refused Room)) (Refused Length))
+      (Refused Settings))
+      ∙ ea in
+      (λ i. if (e i) (if (a i) (settled (main i) (due i) (put out 0 plain)) out) out)
+      ∙ put-again out plain (replicate (length s - 32) 0) (omega (arith, lp)) (lz ∙ sym lp)
+    where
+      parts : (x y z : Bool) → both x (both y z) ≡ true → (x ≡ true) × ((y ≡ true) × (z ≡ true))
+      parts true true true e = (refl, (refl, refl))
+      parts true true false e = (refl, (refl, e))
+      parts true false z e = (refl, (e, absurd (let w : _≡_ {A = ℕ} 0 1 = cc in omega arith)))
+      parts false y z e = absurd (let w : _≡_ {A = ℕ} 0 1 = cc in omega arith)

@@ -1,0 +1,220 @@
+// Opening datagrams of SIP022, section 3.2, as far as their own bytes decide it. What is read here has still to be fresh in a
+// session.
+use datagram_parts::MAX_DATAGRAM;
+use datagram_parts::Side;
+use datagram_parts::fixed_length;
+use datagram_parts::separate_header;
+use protocol::Refusal;
+use socks5::Parsed;
+use socks5::Target;
+ghost use mathlib.Core.Path.{_≡_};
+ghost use Prim.Native.Nat.{_-_, _<_, _≤_};
+ghost use lib.ListN.{length};
+ghost use Rattle.octets.specs.Buffers.{put};
+ghost use Rattle.aes.specs.KeyExpansion.{if};
+ghost use Rattle.aes.specs.Keyed.{nkOf};
+ghost use Rattle.datagram_parts.specs.Headers.{typeOf, fixedLength};
+ghost use Rattle.datagram_parts.specs.Parts.{maxDatagram};
+ghost use Rattle.datagram_read.specs.Opening.{sessionOf, packetOf, bodyAuthentic, bodyText, meant, readAddress, readMain, settled, readBody, bodyOut, readAnswer, readOut};
+
+// What an opened datagram says. A name's place and the payload's are places in the plaintext.
+pub struct Header {
+    pub target: Target,
+    pub port: u16,
+    pub session: u64,
+    pub packet: u64,
+    pub time: u64,
+    pub padding: u16,
+    pub payload: usize,
+}
+
+// What opening answers.
+pub enum Opened {
+    Datagram(Header),
+    Refused(Refusal),
+}
+
+// The separate header's two numbers.
+struct Separate {
+    session: u64,
+    packet: u64,
+}
+
+// The separate header of a datagram.
+fn read_separate(key: &[u8], s: &[u8]) -> Separate
+    requires { ⌜ 0 < nkOf (length (now key)) ⌝ }
+    requires { ⌜ 16 ≤ length (now s) ⌝ }
+    ensures { λ r. ⌜ r .session ≡ sessionOf (now (key .entry)) (now (s .entry)) ⌝ }
+    ensures { λ r. ⌜ r .packet ≡ packetOf (now (key .entry)) (now (s .entry)) ⌝ }
+{
+    let mut header = [0u8; 16];
+    octets::copy(&mut header, 0, &s[..16]);
+    aes_inverse::decrypt_block(key, &mut header);
+    Separate {
+        session: octets::read_u64_be(&header, 0),
+        packet: octets::read_u64_be(&header, 8),
+    }
+}
+
+// Opens a body to the front of a buffer: whether its tag is good; if not, nothing is written.
+fn open_body(key: &[u8], id: u64, packet: u64, body: &[u8], out: &mut [u8]) -> bool
+    requires { ⌜ 0 < nkOf (length (now key)) ⌝ }
+    requires { ⌜ 16 ≤ length (now body) ⌝ }
+    requires { ⌜ length (now body) ≤ maxDatagram ⌝ }
+    requires { ⌜ length (now body) - 16 ≤ length (now out) ⌝ }
+    ensures { λ r. ⌜ r ≡ bodyAuthentic (now (key .entry)) id packet (now (body .entry)) ⌝ }
+    ensures { λ r. ⌜ now (out .exit) ≡ if r (put (now (out .entry)) 0 (bodyText (now (key .entry)) id packet (now (body .entry)))) (now (out .entry)) ⌝ }
+{
+    let header = separate_header(id, packet);
+    let mut subkey = [0u8; 32];
+    protocol::derive_session_subkey(key, id, &mut subkey);
+    let n = key.len();
+    match gcm::open(&subkey[..n], &header[4..16], body, out) {
+        gcm::Opened::Text => true,
+        gcm::Opened::Forged => false,
+        gcm::Opened::Unlawful => false,
+    }
+}
+
+// ---- the main header
+
+fn type_of(side: Side) -> u8
+    ensures { λ r. ⌜ r ≡ typeOf side ⌝ }
+{
+    match side {
+        Side::Client => 0,
+        Side::Server(_) => 1,
+    }
+}
+
+// Whether a server's datagram names our session; a client's names none.
+fn is_meant(side: Side, plain: &[u8]) -> bool
+    ensures { λ r. ⌜ r ≡ meant side (now (plain .entry)) ⌝ }
+{
+    match side {
+        Side::Client => true,
+        Side::Server(client) => octets::read_u64_be(plain, 9) == client,
+    }
+}
+
+fn wide(x: u16) -> usize
+    ensures { λ r. ⌜ r ≡ x ⌝ }
+{
+    x as usize
+}
+
+// Padding and address.
+fn read_address(side: Side, id: u64, packet: u64, plain: &[u8]) -> Opened
+    ensures { λ r. ⌜ r ≡ readAddress side id packet (now (plain .entry)) ⌝ }
+{
+    let fixed = fixed_length(side);
+    let padding = octets::read_u16_be(plain, fixed - 2);
+    match socks5::parse(plain, fixed + wide(padding)) {
+        Parsed::Found(address) => {
+            let target = address.target;
+            Opened::Datagram(Header {
+                target: target,
+                port: address.port,
+                session: id,
+                packet: packet,
+                time: octets::read_u64_be(plain, 1),
+                padding: padding,
+                payload: address.end,
+            })
+        }
+        Parsed::Malformed => Opened::Refused(Refusal::Malformed),
+    }
+}
+
+// Refusals 5, 6, 7, 13 and 5 again, in this order, or the header.
+fn read_main(side: Side, clock: u64, id: u64, packet: u64, plain: &[u8]) -> Opened
+    ensures { λ r. ⌜ r ≡ readMain side clock id packet (now (plain .entry)) ⌝ }
+{
+    if plain.len() < fixed_length(side) {
+        return Opened::Refused(Refusal::Malformed);
+    }
+    if octets::byte_or_zero(plain, 0) != type_of(side) {
+        return Opened::Refused(Refusal::WrongType);
+    }
+    if protocol::time_valid(octets::read_u64_be(plain, 1), clock) {
+        if is_meant(side, plain) {
+            return read_address(side, id, packet, plain);
+        }
+        return Opened::Refused(Refusal::Binding);
+    }
+    Opened::Refused(Refusal::WrongTime)
+}
+
+// ---- the whole
+
+// A refusal clears what the plaintext has filled.
+pub fn settle(answer: Opened, due: usize, out: &mut [u8])
+    requires { ⌜ due ≤ length (now out) ⌝ }
+    ensures { λ _. ⌜ now (out .exit) ≡ settled answer due (now (out .entry)) ⌝ }
+{
+    if let Opened::Refused(_) = answer {
+        octets::zero(out, 0, due);
+    }
+}
+
+// The body, by the separate header's numbers.
+fn read_body(
+    side: Side,
+    clock: u64,
+    key: &[u8],
+    id: u64,
+    packet: u64,
+    body: &[u8],
+    out: &mut [u8],
+) -> Opened
+    requires { ⌜ 0 < nkOf (length (now key)) ⌝ }
+    requires { ⌜ 16 ≤ length (now body) ⌝ }
+    requires { ⌜ length (now body) ≤ maxDatagram ⌝ }
+    requires { ⌜ length (now body) - 16 ≤ length (now out) ⌝ }
+    ensures { λ r. ⌜ r ≡ readBody side clock (now (key .entry)) id packet (now (body .entry)) ⌝ }
+    ensures { λ r. ⌜ now (out .exit) ≡ bodyOut side clock (now (key .entry)) id packet (now (body .entry)) (now (out .entry)) ⌝ }
+{
+    if open_body(key, id, packet, body, out) {
+        let due = body.len() - 16;
+        let answer = read_main(side, clock, id, packet, &out[..due]);
+        settle(answer, due, out);
+        return answer;
+    }
+    Opened::Refused(Refusal::NotAuthentic)
+}
+
+// Refusals 1, 2, 3, 4, 5, 6, 7, 13 and 5, in this order, or the header; its plaintext is then at the front of the buffer.
+pub fn read_datagram(
+    method: u64,
+    key: &[u8],
+    side: Side,
+    clock: u64,
+    s: &[u8],
+    out: &mut [u8],
+) -> Opened
+    ensures { λ r. ⌜ r ≡ readAnswer method (now (key .entry)) side clock (now (s .entry)) (now (out .entry)) ⌝ }
+    ensures { λ r. ⌜ now (out .exit) ≡ readOut method (now (key .entry)) side clock (now (s .entry)) (now (out .entry)) ⌝ }
+{
+    if protocol::key_fits(method, key.len()) {
+        if s.len() < 32 {
+            return Opened::Refused(Refusal::Length);
+        }
+        if MAX_DATAGRAM < s.len() {
+            return Opened::Refused(Refusal::Length);
+        }
+        if out.len() < s.len() - 32 {
+            return Opened::Refused(Refusal::Room);
+        }
+        let header = read_separate(key, s);
+        return read_body(
+            side,
+            clock,
+            key,
+            header.session,
+            header.packet,
+            &s[16..],
+            out,
+        );
+    }
+    Opened::Refused(Refusal::Settings)
+}

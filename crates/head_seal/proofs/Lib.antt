@@ -1,0 +1,3 @@
+pub mod HeadLengthLaws
+pub mod HeadAnswerLaws
+pub mod HeadWriteLaws

@@ -1,0 +1,52 @@
+use mathlib.Core.Path.{refl, sym}
+use mathlib.Core.List.{[], _∷_}
+use native.Mathlib.Omega.{arith}
+use borrow.Author.Needs.{needs}
+use lib.Seq.{length-take-le}
+use Rattle.stream_open.proofs.ChunkLaws.{length-counter, length-more, length-good, length-forged}
+use Rattle.stream_open.proofs.open_length.Statement.{statement}
+use Rattle.stream_open.proofs.open_length.Tie as tie
+
+returns : tie.Need-returns
+returns c = length-counter _ _ _ (c .if1 .taken)
+
+returns-2 : tie.Need-returns-2
+returns-2 c = length-more _ _ _ (c .before .if1 .left) (c .if2 .taken)
+
+slice-aggregate-open-piece : tie.Need-slice-aggregate-open-piece
+slice-aggregate-open-piece c = sym (length-take-le 18 (c .before .before .before .before .before .before .args .s .now) (c .before .before .if2 .left))
+
+open-piece-requires : tie.Need-open-piece-requires
+open-piece-requires c κs =
+    let e = c .before .before .before in
+    let a = e .before .before .before .before in
+    let n = length-take-le 18 (a .args .s .now) (e .if2 .left) in
+    (a .pre .0, (omega (arith, n), (omega (arith, n), omega (arith, n))))
+
+returns-3 : tie.Need-returns-3
+returns-3 c =
+    let t = c .before .before in
+    let p = t .before .before in
+    let e = p .before .before .before .before in
+    length-good _ _ _ (e .before .if1 .left) (e .if2 .left) _ _ (e .before .before .before .before .pre .1) (p .open-piece .ensures .0) (0 ∷ 0 ∷ []) _ _ refl
+    (p .open-piece .ensures .1) (c .read-u16-be .ensures) (t .if3 .taken)
+
+returns-4 : tie.Need-returns-4
+returns-4 c =
+    let p = c .before .before in
+    let e = p .before .before .before .before in
+    length-forged _ _ _ (e .before .if1 .left) (e .if2 .left) _ _ (e .before .before .before .before .pre .1) (p .open-piece .ensures .0) (c .if3 .left)
+
+pub open-length-spec : {M : Type 1} → statement M
+open-length-spec =
+    tie.close
+    (tie.spec
+    returns
+    returns-2
+    slice-aggregate-open-piece
+    (λ c. search needs)
+    open-piece-requires
+    (λ c. search needs)
+    (λ c κs. search needs)
+    returns-3
+    returns-4)

@@ -1,0 +1,109 @@
+// What a call about a stream answers, told in words that a host lends: the stream as it is then, and an answer. Each function gives
+// 0 or the number of a refusal.
+use request_open::RequestOpened;
+use response_open::ResponseOpened;
+use stream::Sealed;
+use stream_open::Chunk;
+use stream_open::Step;
+use stream_open::Stepped;
+use words::ENDED;
+use words::chunk_words;
+use words::receiver_words;
+use words::refuse;
+use words::request_words;
+use words::sender_words;
+ghost use mathlib.Core.Path.{_≡_};
+ghost use lib.ListN.{length};
+ghost use Rattle.words.specs.Answers.{answerWords};
+ghost use Rattle.words.specs.States.{streamSize};
+ghost use Rattle.telling.specs.Told as told;
+
+// Gives the stream and the number of bytes sealed to the caller.
+pub fn tell_sealed(sealed: Sealed, stream: &mut [u64], answer: &mut [u64]) -> u64
+    requires { ⌜ length (now stream) ≡ streamSize ⌝ }
+    requires { ⌜ length (now answer) ≡ answerWords ⌝ }
+    ensures { λ r. ⌜ r ≡ told.sealedNumber sealed ⌝ }
+    ensures { λ r. ⌜ now (stream .exit) ≡ told.sealedStream sealed (now (stream .entry)) ⌝ }
+    ensures { λ r. ⌜ now (answer .exit) ≡ told.sealedWords sealed (now (answer .entry)) ⌝ }
+{
+    match sealed {
+        Sealed::Bytes(n, sender) => {
+            let words = sender_words(sender);
+            records::write(stream, 0, &words);
+            answer[0] = n as u64;
+            0
+        }
+        Sealed::Refused(refusal) => refusal.number(),
+    }
+}
+
+// Gives the header and the stream to the caller.
+pub fn tell_request(opened: RequestOpened, stream: &mut [u64], answer: &mut [u64]) -> u64
+    requires { ⌜ length (now stream) ≡ streamSize ⌝ }
+    requires { ⌜ length (now answer) ≡ answerWords ⌝ }
+    ensures { λ r. ⌜ r ≡ told.requestNumber opened ⌝ }
+    ensures { λ r. ⌜ now (stream .exit) ≡ told.requestStream opened (now (stream .entry)) ⌝ }
+    ensures { λ r. ⌜ now (answer .exit) ≡ told.requestAnswer opened (now (answer .entry)) ⌝ }
+{
+    match opened {
+        RequestOpened::Accepted(header, receiver) => {
+            let state = receiver_words(receiver);
+            records::write(stream, 0, &state);
+            let words = request_words(header);
+            records::write(answer, 0, &words);
+            0
+        }
+        RequestOpened::Refused(refusal) => refuse(refusal, answer),
+    }
+}
+
+// Gives the counts and the stream to the caller.
+pub fn tell_response(opened: ResponseOpened, stream: &mut [u64], answer: &mut [u64]) -> u64
+    requires { ⌜ length (now stream) ≡ streamSize ⌝ }
+    requires { ⌜ length (now answer) ≡ answerWords ⌝ }
+    ensures { λ r. ⌜ r ≡ told.responseNumber opened ⌝ }
+    ensures { λ r. ⌜ now (stream .exit) ≡ told.responseStream opened (now (stream .entry)) ⌝ }
+    ensures { λ r. ⌜ now (answer .exit) ≡ told.responseAnswer opened (now (answer .entry)) ⌝ }
+{
+    match opened {
+        ResponseOpened::Accepted(header, receiver) => {
+            let state = receiver_words(receiver);
+            records::write(stream, 0, &state);
+            let words = chunk_words(Chunk {
+                used: header.used,
+                length: header.length,
+            });
+            records::write(answer, 0, &words);
+            0
+        }
+        ResponseOpened::Refused(refusal) => refuse(refusal, answer),
+    }
+}
+
+// Gives the counts and the stream to the caller. A refusal writes no word of the stream, but 4 ends it.
+pub fn tell_step(step: Step, stream: &mut [u64], answer: &mut [u64]) -> u64
+    requires { ⌜ length (now stream) ≡ streamSize ⌝ }
+    requires { ⌜ length (now answer) ≡ answerWords ⌝ }
+    ensures { λ r. ⌜ r ≡ told.steppedNumber (step .answer) ⌝ }
+    ensures { λ r. ⌜ now (stream .exit) ≡ told.stepStream (step .answer) (step .stream) (now (stream .entry)) ⌝ }
+    ensures { λ r. ⌜ now (answer .exit) ≡ told.steppedAnswer (step .answer) (now (answer .entry)) ⌝ }
+{
+    let stepped = step.answer;
+    match stepped {
+        Stepped::Opened(chunk) => {
+            let next = step.stream;
+            let state = receiver_words(next);
+            records::write(stream, 0, &state);
+            let words = chunk_words(chunk);
+            records::write(answer, 0, &words);
+            0
+        }
+        Stepped::Refused(refusal) => {
+            let n = refuse(refusal, answer);
+            if n == 4 {
+                stream[0] = ENDED;
+            }
+            n
+        }
+    }
+}
