@@ -86,9 +86,11 @@ pub fn cipher(t: &[u32; 256], sbox: &[u8; 256], w: &[u32; 60], rounds: usize, x:
     final_round(sbox, s, round_key(w, rounds))
 }
 
-// Encrypts a block in place under a key of 16, 24 or 32 bytes. Any other length of either is refused: false, and the block
-// stays.
-pub fn encrypt_block(key: &[u8], block: &mut [u8]) -> bool
+// Encrypts a block in place under a key of 16, 24 or 32 bytes, from lent tables. Any other length of either is refused: false,
+// and the block stays.
+pub fn encrypt_with(t: &[u32; 256], sbox: &[u8; 256], key: &[u8], block: &mut [u8]) -> bool
+    requires { ⌜ IsTable mixEntry (now t) ⌝ }
+    requires { ⌜ IsTable sBox (now sbox) ⌝ }
     ensures { λ r. ⌜ r ≡ lawful 16 (now (key .entry)) (now (block .entry)) ⌝ }
     ensures { λ r. ⌜ now (block .exit) ≡ inPlace aes (now (key .entry)) (now (block .entry)) ⌝ }
 {
@@ -99,10 +101,18 @@ pub fn encrypt_block(key: &[u8], block: &mut [u8]) -> bool
     if block.len() != 16 {
         return false;
     }
-    let sbox = aes_tables::sbox();
-    let t = aes_tables::mix_table();
-    let w = expand(&sbox, key, nk);
-    let x = cipher(&t, &sbox, &w, nk + 6, read_block(block, 0));
+    let w = expand(sbox, key, nk);
+    let x = cipher(t, sbox, &w, nk + 6, read_block(block, 0));
     write_block(block, 0, x);
     true
+}
+
+// The same, with tables of its own.
+pub fn encrypt_block(key: &[u8], block: &mut [u8]) -> bool
+    ensures { λ r. ⌜ r ≡ lawful 16 (now (key .entry)) (now (block .entry)) ⌝ }
+    ensures { λ r. ⌜ now (block .exit) ≡ inPlace aes (now (key .entry)) (now (block .entry)) ⌝ }
+{
+    let sbox = aes_tables::sbox();
+    let t = aes_tables::mix_table();
+    encrypt_with(&t, &sbox, key, block)
 }

@@ -244,9 +244,18 @@ pub fn seal(key: &[u8], nonce: &[u8], text: &[u8], out: &mut [u8]) -> bool
     true
 }
 
-// Seals in place: the text is all but the last 16 bytes of the lent buffer, which are for the tag. A wrong length of key or
-// nonce, a buffer without room for a tag or a text over 2^36 - 32 bytes is refused: false, and nothing is written.
-pub fn seal_in_place(key: &[u8], nonce: &[u8], body: &mut [u8]) -> bool
+// Seals in place, from lent tables: the text is all but the last 16 bytes of the lent buffer, which are for the tag. A wrong
+// length of key or nonce, a buffer without room for a tag or a text over 2^36 - 32 bytes is refused: false, and nothing is
+// written.
+pub fn seal_in_place_with(
+    t: &[u32; 256],
+    sbox: &[u8; 256],
+    key: &[u8],
+    nonce: &[u8],
+    body: &mut [u8],
+) -> bool
+    requires { ⌜ IsTable mixEntry (now t) ⌝ }
+    requires { ⌜ IsTable sBox (now sbox) ⌝ }
     ensures { λ r. ⌜ r ≡ inPlaceLawful (now (key .entry)) (now (nonce .entry)) (now (body .entry)) ⌝ }
     ensures { λ r. ⌜ now (body .exit) ≡ sealedInPlace (now (key .entry)) (now (nonce .entry)) (now (body .entry)) ⌝ }
 {
@@ -258,11 +267,19 @@ pub fn seal_in_place(key: &[u8], nonce: &[u8], body: &mut [u8]) -> bool
     if nk == 0 {
         return false;
     }
+    let w = aes::key::expand(sbox, key, nk);
+    seal_in_place_at(t, sbox, &w, nk + 6, ctr::read_nonce(nonce), body);
+    true
+}
+
+// The same, with tables of its own.
+pub fn seal_in_place(key: &[u8], nonce: &[u8], body: &mut [u8]) -> bool
+    ensures { λ r. ⌜ r ≡ inPlaceLawful (now (key .entry)) (now (nonce .entry)) (now (body .entry)) ⌝ }
+    ensures { λ r. ⌜ now (body .exit) ≡ sealedInPlace (now (key .entry)) (now (nonce .entry)) (now (body .entry)) ⌝ }
+{
     let sbox = aes_tables::sbox();
     let t = aes_tables::mix_table();
-    let w = aes::key::expand(&sbox, key, nk);
-    seal_in_place_at(&t, &sbox, &w, nk + 6, ctr::read_nonce(nonce), body);
-    true
+    seal_in_place_with(&t, &sbox, key, nonce, body)
 }
 
 // Opens ciphertext and tag: the text, 16 bytes less, to the front of the lent buffer. Nothing is written where the tag is

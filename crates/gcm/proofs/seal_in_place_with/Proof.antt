@@ -4,8 +4,8 @@ use native.Mathlib.Omega.{arith}
 use borrow.Author.Needs.{needs}
 use lib.ListN.{length}
 use Rattle.gcm.proofs.KeyedLaws.{Fits, fits-not, fits-are, in-place-short, in-place-refused, in-place-done}
-use Rattle.gcm.proofs.seal_in_place.Statement.{statement}
-use Rattle.gcm.proofs.seal_in_place.Tie as tie
+use Rattle.gcm.proofs.seal_in_place_with.Statement.{statement}
+use Rattle.gcm.proofs.seal_in_place_with.Tie as tie
 
 -- where everything fits
 facts : (c : tie.Else2) → let a = c .before .before .before .before .before .before .args in
@@ -20,44 +20,42 @@ returns-2 c =
 
 expand-requires : tie.Need-expand-requires
 expand-requires c κs =
-    let k = facts (c .before .before .before) .key in
-    (c .before .before .sbox .ensures, (k .words, (k .least, k .most)))
+    let k = facts c .key in
+    (c .before .before .before .before .before .before .pre .1, (k .words, (k .least, k .most)))
 
 add-seal-in-place-at : tie.Need-add-seal-in-place-at
-add-seal-in-place-at c = omega (arith, facts (c .before .before .before .before .before .before .before) .key .most)
+add-seal-in-place-at c = omega (arith, facts (c .before .before) .key .most)
 
 read-nonce-requires : tie.Need-read-nonce-requires
-read-nonce-requires c κs = facts (c .before .before .before .before .before .before .before) .nonce
+read-nonce-requires c κs = facts (c .before .before) .nonce
 
 seal-in-place-at-requires : tie.Need-seal-in-place-at-requires
 seal-in-place-at-requires c κs =
-    let m = c .before .before .before .before .before .before .before in
-    let k = m .before .before in
+    let k = c .before .before .before .before in
+    let p = k .before .before .before .before .before .before .pre in
     let f = facts k in (
-      m .mix-table .ensures,
-      (m .before .sbox .ensures, (omega (arith, f .key .least), (omega (arith, f .key .most), (k .before .before .if1 .left, f .text)))),
+      p .0,
+      (p .1, (omega (arith, f .key .least), (omega (arith, f .key .most), (k .before .before .if1 .left, f .text)))),
     )
 
 returns-3 : tie.Need-returns-3
 returns-3 c =
     let r = c .before .before in
     let n = r .before .before in
-    let e = n .before .before .before .before in
-    let k = e .before .before .before .before in
+    let e = n .before .before in
+    let k = e .before in
     let f = facts k in
     in-place-done _ _ _ (k .before .lawful-words .result) (e .expand .result) _ _ (k .before .before .if1 .left) (f .lawful) (f .words-are)
     (e .expand .ensures) (n .read-nonce .ensures) (r .seal-in-place-at .ensures)
 
-pub seal-in-place-spec : {M : Type 1} → statement M
-seal-in-place-spec =
+pub seal-in-place-with-spec : {M : Type 1} → statement M
+seal-in-place-with-spec =
     tie.close
     (tie.spec
     (λ c. in-place-short _ _ _ (c .if1 .taken))
     (λ c. search needs)
     (λ c κs. search needs)
     returns-2
-    (λ c κs. search needs)
-    (λ c κs. search needs)
     expand-requires
     add-seal-in-place-at
     read-nonce-requires
