@@ -13,6 +13,8 @@ ghost use mathlib.Core.Path.{_≡_};
 ghost use Prim.Native.Nat.{_+_, _-_, _<_, _≤_, _^_};
 ghost use lib.ListN.{length};
 ghost use Rattle.octets.specs.Buffers.{put};
+ghost use Rattle.aes_tables.specs.SBox.{sBox};
+ghost use Rattle.aes_tables.specs.Tables.{IsTable, mixEntry};
 ghost use Rattle.aes.specs.Keyed.{nkOf};
 ghost use Rattle.datagram_parts.specs.Headers.{fixedLength, plaintext};
 ghost use Rattle.datagram_parts.specs.Parts.{maxDatagram, sealBody};
@@ -135,6 +137,8 @@ fn sealing(sender: Sender, answer: Sealed) -> Sealing
 // ---- what is written
 
 fn write_body(
+    t: &[u32; 256],
+    sbox: &[u8; 256],
     body: &mut [u8],
     key: &[u8],
     sender: Sender,
@@ -146,11 +150,13 @@ fn write_body(
     requires { ⌜ 0 < nkOf (length (now key)) ⌝ }
     requires { ⌜ length (now body) ≡ fixedLength (sender .side) + padding + length (now address) + length (now payload) + 16 ⌝ }
     requires { ⌜ length (now body) ≤ maxDatagram ⌝ }
+    requires { ⌜ IsTable mixEntry (now t) ⌝ }
+    requires { ⌜ IsTable sBox (now sbox) ⌝ }
     ensures { λ _. ⌜ now (body .exit) ≡ sealBody (now (key .entry)) (sender .id) (sender .packet) (plaintext (sender .side) clock padding (now (address .entry)) (now (payload .entry))) ⌝ }
 {
     let side = sender.side;
     write_plaintext(body, side, clock, address, padding, payload);
-    seal_body(body, key, sender.id, sender.packet);
+    seal_body(t, sbox, body, key, sender.id, sender.packet);
 }
 
 // A datagram of n bytes, to the front of a buffer. The body is sealed where it stands, behind the separate header.
@@ -170,8 +176,12 @@ fn write_datagram(
     requires { ⌜ n ≤ length (now out) ⌝ }
     ensures { λ _. ⌜ now (out .exit) ≡ put (now (out .entry)) 0 (datagram (now (key .entry)) sender clock (now (address .entry)) padding (now (payload .entry))) ⌝ }
 {
-    write_separate(out, key, sender.id, sender.packet);
+    let sbox = aes_tables::sbox();
+    let t = aes_tables::mix_table();
+    write_separate(&t, &sbox, out, key, sender.id, sender.packet);
     write_body(
+        &t,
+        &sbox,
         &mut out[16..n],
         key,
         sender,

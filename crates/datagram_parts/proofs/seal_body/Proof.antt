@@ -18,8 +18,8 @@ array-share-prefix-subkey c =
     let d = c .before in
     omega (arith, key-most _ (d .before .before .before .before .before .pre .0), d .derive-session-subkey .kept .1)
 
-slice-aggregate-seal-in-place : tie.Need-slice-aggregate-seal-in-place
-slice-aggregate-seal-in-place c = sym (length-take-le _ _ (array-share-prefix-subkey (c .before)))
+slice-aggregate-seal-in-place-with : tie.Need-slice-aggregate-seal-in-place-with
+slice-aggregate-seal-in-place-with c = sym (length-take-le _ _ (array-share-prefix-subkey (c .before)))
 
 returns : tie.Need-returns
 returns c =
@@ -28,9 +28,9 @@ returns c =
     let h = d .before .before in
     let start = h .before .before .before in
     let q = start .pre in
-    body-law _ _ _ _ _ _ _ (q .0) (q .1 .0) (q .1 .1)
+    body-law _ _ _ _ _ _ _ (q .0) (q .1 .0) (q .1 .1 .0)
     (subkey-front _ _ (q .0) (replicate 32 0) _ refl (d .derive-session-subkey .ensures)) (header-nonce _ _ _ (h .separate-header .ensures))
-    (g .seal-in-place .ensures .1)
+    (g .seal-in-place-with .ensures .1)
 
 pub seal-body-spec : {M : Type 1} → statement M
 seal-body-spec =
@@ -40,7 +40,7 @@ seal-body-spec =
     (λ c. search needs)
     derive-session-subkey-requires
     array-share-prefix-subkey
-    slice-aggregate-seal-in-place
+    slice-aggregate-seal-in-place-with
     (λ c. search needs)
     (λ c. search needs)
     (λ c. search needs)

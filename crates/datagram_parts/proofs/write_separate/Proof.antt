@@ -12,7 +12,7 @@ returns c =
     let h = e .before .before in
     let start = h .before .before .before in
     k .copy .ensures
-    ∙ ap (put (start .args .out .now) 0) (block-law _ _ _ _ _ (start .pre .0) (h .separate-header .ensures) (e .encrypt-block .ensures .1))
+    ∙ ap (put (start .args .out .now) 0) (block-law _ _ _ _ _ (start .pre .0) (h .separate-header .ensures) (e .encrypt-with .ensures .1))
 
 pub write-separate-spec : {M : Type 1} → statement M
 write-separate-spec =

@@ -14,5 +14,12 @@ returns c =
     let l = length-plaintext (a .sender .side) (a .clock) (a .padding) (a .address .now) (a .payload .now) in
     sealed-law _ _ _ _ _ _ _ (omega (arith, l, start .pre .1 .0)) (w .write-plaintext .ensures) (s .seal-body .ensures)
 
+seal-body-requires : tie.Need-seal-body-requires
+seal-body-requires c κs =
+    let w = c .before .before .before in
+    let q = w .before .before .before .before .before .before .pre in
+    let n = w .write-plaintext .kept in
+    (q .0, (omega (arith, n .0, q .1 .0), (omega (arith, n .0, q .1 .1 .0), q .1 .1 .1)))
+
 pub write-body-spec : {M : Type 1} → statement M
-write-body-spec = tie.close (tie.spec (λ c κs. search needs) (λ c κs. search needs) (λ c. search needs) returns)
+write-body-spec = tie.close (tie.spec (λ c κs. search needs) seal-body-requires (λ c. search needs) returns)

@@ -17,44 +17,48 @@ least c = omega (arith, c .pre .1 .0)
 
 write-separate-requires : tie.Need-write-separate-requires
 write-separate-requires c κs =
-    let start = c .before .before .before .before .before in
-    (start .pre .0, omega (arith, least start, start .pre .1 .1 .1))
+    let m = c .before .before .before in
+    let start = m .before .before .before .before .before .before in
+    (start .pre .0, (omega (arith, least start, start .pre .1 .1 .1), (m .mix-table .ensures, m .before .sbox .ensures)))
 
 sub-write-body : tie.Need-sub-write-body
-sub-write-body c = omega (arith, least (c .before .before .before .before .before .before .before .before))
+sub-write-body c = omega (arith, least (c .before .before .before .before .before .before .before .before .before .before .before .before .before .before))
 
 part-write-body-start : tie.Need-part-write-body-start
 part-write-body-start c = sub-write-body c
 
 -- the part behind the separate header
-body-part : (c : tie.After-write-separate) → let n = c .before .before .before .before .before .before .args .n in
-    length (take (n - 16) (drop 16 (c .write-separate .last .0))) ≡ n - 16
+body-part : (c : tie.After-write-separate) → let n = c .before .before .before .before .before .before .before .before .before .before .args .n in
+    length (take (n - 16) (drop 16 (c .write-separate .last .1 .1 .0))) ≡ n - 16
 body-part c =
-    let start = c .before .before .before .before .before .before in
-    length-take-le _ (drop 16 (c .write-separate .last .0))
-    (omega (arith, length-drop 16 (c .write-separate .last .0), c .write-separate .kept .0, start .pre .1 .1 .1))
+    let start = c .before .before .before .before .before .before .before .before .before .before in
+    length-take-le _ (drop 16 (c .write-separate .last .1 .1 .0))
+    (omega (arith, length-drop 16 (c .write-separate .last .1 .1 .0), c .write-separate .kept .1 .1 .0, start .pre .1 .1 .1))
 
 write-body-requires : tie.Need-write-body-requires
 unfolding sealedLength
 write-body-requires c κs =
-    let s = c .before .before .before in
-    let start = s .before .before .before .before .before .before in
+    let s = c .before .before .before .before .before in
+    let m = s .before .before .before .before in
+    let start = m .before .before .before .before .before .before in
     let q = start .pre in
     let l = body-part s in
-    (q .0, (omega (arith, l, q .1 .0), omega (arith, l, q .1 .1 .0)))
+    (q .0, (omega (arith, l, q .1 .0), (omega (arith, l, q .1 .1 .0), (m .mix-table .ensures, m .before .sbox .ensures))))
 
 returns : tie.Need-returns
 returns c =
     let b = c .before .before in
-    let s = b .before .before .before .before in
-    let start = s .before .before .before .before .before .before in
+    let s = b .before .before .before .before .before .before in
+    let start = s .before .before .before .before .before .before .before .before .before .before in
     datagram-law _ _ _ _ _ _ _ _ _ _ (omega (arith, least start, start .pre .1 .1 .1)) (s .write-separate .ensures) (b .write-body .ensures)
-    (part-put _ _ 16 _ (b .write-body .kept .0 ∙ body-part s))
+    (part-put _ _ 16 _ (b .write-body .kept .1 .1 .0 ∙ body-part s))
 
 pub write-datagram-spec : {M : Type 1} → statement M
 write-datagram-spec =
     tie.close
     (tie.spec
+    (λ c κs. search needs)
+    (λ c κs. search needs)
     write-separate-requires
     sub-write-body
     part-write-body-start
