@@ -47,6 +47,7 @@ import session_cases  # noqa: E402
 import sessions  # noqa: E402
 from session_cases import BUFFER_LIMIT, FILL, WORD_LIMIT, Making, Opening, Words  # noqa: E402
 from sessions import MIN_LENGTH, TABLE_WORDS  # noqa: E402
+from vectors import changes, numbers, stored  # noqa: E402
 
 KINDS = {Opening: 0, Making: 1, Words: 2}
 
@@ -90,24 +91,6 @@ class Store:
         if string not in self.data:
             self.data += string
         return 4 + self.data.find(string)
-
-
-def numbers(*pairs):
-    return b"".join(vectors.number(*pair) for pair in pairs)
-
-
-def stored(text):
-    """The text without what is the pattern at its end."""
-    end = len(text)
-    while end and text[end - 1] == (end - 1) % 251:
-        end -= 1
-    return text[:end]
-
-
-def changes(before, after):
-    places = [place for place in range(WORD_LIMIT) if before[place] != after[place]]
-    pairs = (pair for place in places for pair in ((place, 2), (after[place], 8)))
-    return numbers((len(places), 2), *pairs)
 
 
 def written(call, answer):

@@ -51,6 +51,7 @@ import stream_cases  # noqa: E402
 import streams  # noqa: E402
 from stream_calls import BUFFER_LIMIT, FILL, OPEN_REQUEST, SEALING, WORD_LIMIT  # noqa: E402
 from stream_calls import Making, Run, Words  # noqa: E402
+from vectors import changes, numbers, stored  # noqa: E402
 
 MAKING, WORDS = 6, 7
 
@@ -72,18 +73,6 @@ class Store:
         return 4 + self.data.index(string)
 
 
-def numbers(*pairs):
-    return b"".join(vectors.number(*pair) for pair in pairs)
-
-
-def stored(text):
-    """The text without what is the pattern at its end."""
-    end = len(text)
-    while end and text[end - 1] == (end - 1) % 251:
-        end -= 1
-    return text[:end]
-
-
 def written(answer):
     """The output without the filling at its end."""
     return answer.output.rstrip(FILL)
@@ -94,12 +83,6 @@ def strings_of(record):
     call, answer = record.call, record.answer
     output = stored(written(answer)) if answer.number == 0 else b""
     return call.key, call.salt, call.other, stored(call.data), output
-
-
-def changes(before, after):
-    places = [place for place in range(WORD_LIMIT) if before[place] != after[place]]
-    pairs = (pair for place in places for pair in ((place, 2), (after[place], 8)))
-    return numbers((len(places), 2), *pairs)
 
 
 def target_fields(record):

@@ -29,6 +29,25 @@ def number(value, size):
     return value.to_bytes(size, "big")
 
 
+def numbers(*pairs):
+    return b"".join(number(*pair) for pair in pairs)
+
+
+def stored(text):
+    """The text without what is the pattern at its end."""
+    end = len(text)
+    while end and text[end - 1] == (end - 1) % 251:
+        end -= 1
+    return text[:end]
+
+
+def changes(before, after):
+    """The words that differ: their count, then for each its place and what it is then."""
+    places = [place for place, word in enumerate(before) if word != after[place]]
+    pairs = (pair for place in places for pair in ((place, 2), (after[place], 8)))
+    return numbers((len(places), 2), *pairs)
+
+
 def name_field(name):
     return number(len(name), 1) + name.encode("ascii")
 

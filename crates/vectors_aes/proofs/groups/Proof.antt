@@ -1,14 +1,15 @@
-use borrow.Author.Needs.{needs}
-use Prim.Native.Nat.{_≤_, _-_}
+use mathlib.Core.Path.{_≡_}
+use Prim.Native.Nat.{_-_}
 use lib.ListN.{length}
+use borrow.Author.Needs.{needs}
 use Rattle.vectors_aes.proofs.groups.Statement.{statement}
 use Rattle.vectors_aes.proofs.groups.Tie as tie
 
 abbrev Inv-loop : tie.InvT-loop
-Inv-loop s keys step₀ step = step .next ≤ length s
+Inv-loop s reading₀ reading = reading .at ≡ reading .at
 
 abbrev μ-loop : tie.MeasureT-loop
-μ-loop s keys step₀ step = length s - step .next
+μ-loop s reading₀ reading = length s - reading .at
 
 pub groups-spec : {M : Type 1} → statement M
 groups-spec =
@@ -17,8 +18,6 @@ groups-spec =
     Inv-loop
     μ-loop
     (λ c κs. search needs)
-    (λ c. search needs)
-    (λ c. search needs)
     (λ c. search needs)
     (λ c κs. search needs)
     (λ c κs. search needs)

@@ -1,0 +1,30 @@
+use mathlib.Core.Path.{_≡_}
+use Prim.Native.Nat.{_-_}
+use lib.ListN.{length}
+use borrow.Author.Needs.{needs}
+use Rattle.vectors_aes.proofs.expansions.Statement.{statement}
+use Rattle.vectors_aes.proofs.expansions.Tie as tie
+
+abbrev Inv-loop : tie.InvT-loop
+Inv-loop s reading₀ reading = reading .at ≡ reading .at
+
+abbrev μ-loop : tie.MeasureT-loop
+μ-loop s reading₀ reading = length s - reading .at
+
+pub expansions-spec : {M : Type 1} → statement M
+expansions-spec =
+    tie.close
+    (tie.spec
+    Inv-loop
+    μ-loop
+    (λ c κs. search needs)
+    (λ c κs. search needs)
+    (λ c. search needs)
+    (λ c. search needs)
+    (λ c. search needs)
+    (λ c κs. search needs)
+    (λ c κs. search needs)
+    (λ c κs. search needs)
+    (λ c. search needs)
+    (λ c. search needs)
+    (λ c. search needs))
