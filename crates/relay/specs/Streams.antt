@@ -21,7 +21,7 @@ use Rattle.request_open.specs.Requests.{pickRequest, requestOut, requestPool}
 use Rattle.stream_open.specs.Chunks.{pickStepped, stepAnswer, stepOut, stepNext}
 use Rattle.words.specs.Answers.{answerWords}
 use Rattle.words.specs.States.{streamSize, turnOf, senderIn, receiverLawful, receiverIn}
-pub use Rattle.telling.specs.Told.{sealedNumber, sealedWords, sealedStream, requestNumber, requestAnswer, requestStream, responseNumber, responseAnswer, responseStream, steppedNumber, steppedAnswer, stepStream}
+pub use Rattle.stream_answers.specs.Told.{sealedNumber, sealedWords, sealedStream, requestNumber, requestAnswer, requestStream, responseNumber, responseAnswer, responseStream, steppedNumber, steppedAnswer, stepStream}
 
 -- a stream and an answer of these lengths
 abbrev pub fits : (stream answer : ℕ) → Bool

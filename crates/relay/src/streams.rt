@@ -1,10 +1,10 @@
 // Salt pools and streams.
 use super::SETTINGS;
 use protocol::Refusal;
-use telling::tell_request;
-use telling::tell_response;
-use telling::tell_sealed;
-use telling::tell_step;
+use stream_answers::tell_request;
+use stream_answers::tell_response;
+use stream_answers::tell_sealed;
+use stream_answers::tell_step;
 use words::ANSWER;
 use words::ENDED;
 use words::SEALING;

@@ -1,7 +1,7 @@
-use Rattle.telling.proofs.ToldLaws.{told-request, told-no-request}
+use Rattle.stream_answers.proofs.ToldLaws.{told-request, told-no-request}
 use borrow.Author.Needs.{needs}
-use Rattle.telling.proofs.tell_request.Statement.{statement}
-use Rattle.telling.proofs.tell_request.Tie as tie
+use Rattle.stream_answers.proofs.tell_request.Statement.{statement}
+use Rattle.stream_answers.proofs.tell_request.Tie as tie
 
 returns : tie.Need-returns
 returns c =

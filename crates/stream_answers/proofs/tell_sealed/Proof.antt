@@ -1,7 +1,7 @@
-use Rattle.telling.proofs.ToldLaws.{told-bytes, told-unsealed}
+use Rattle.stream_answers.proofs.ToldLaws.{told-bytes, told-unsealed}
 use borrow.Author.Needs.{needs}
-use Rattle.telling.proofs.tell_sealed.Statement.{statement}
-use Rattle.telling.proofs.tell_sealed.Tie as tie
+use Rattle.stream_answers.proofs.tell_sealed.Statement.{statement}
+use Rattle.stream_answers.proofs.tell_sealed.Tie as tie
 
 returns : tie.Need-returns
 returns c =

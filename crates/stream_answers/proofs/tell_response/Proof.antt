@@ -1,7 +1,7 @@
-use Rattle.telling.proofs.ToldLaws.{told-response, told-no-response}
+use Rattle.stream_answers.proofs.ToldLaws.{told-response, told-no-response}
 use borrow.Author.Needs.{needs}
-use Rattle.telling.proofs.tell_response.Statement.{statement}
-use Rattle.telling.proofs.tell_response.Tie as tie
+use Rattle.stream_answers.proofs.tell_response.Statement.{statement}
+use Rattle.stream_answers.proofs.tell_response.Tie as tie
 
 returns : tie.Need-returns
 returns c =

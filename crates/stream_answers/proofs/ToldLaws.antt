@@ -24,7 +24,7 @@ use Rattle.stream_open.specs.declared.Stepped.the-variants.{Opened, Refused as 
 use Rattle.words.specs.Answers.{requestWords, chunkWords, refusedAnswer}
 use Rattle.words.specs.States.{streamSize, senderWords, receiverWords}
 use Rattle.words.proofs.LentLaws.{filled}
-use Rattle.telling.specs.Told.{sealedNumber, sealedWords, sealedStream, requestNumber, requestAnswer, requestStream, responseNumber, responseAnswer, responseStream, steppedNumber, steppedAnswer, stepStream}
+use Rattle.stream_answers.specs.Told.{sealedNumber, sealedWords, sealedStream, requestNumber, requestAnswer, requestStream, responseNumber, responseAnswer, responseStream, steppedNumber, steppedAnswer, stepStream}
 
 -- ---- what was sealed is told
 

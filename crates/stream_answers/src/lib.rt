@@ -16,7 +16,7 @@ ghost use mathlib.Core.Path.{_≡_};
 ghost use lib.ListN.{length};
 ghost use Rattle.words.specs.Answers.{answerWords};
 ghost use Rattle.words.specs.States.{streamSize};
-ghost use Rattle.telling.specs.Told as told;
+ghost use Rattle.stream_answers.specs.Told as told;
 
 // Gives the stream and the number of bytes sealed to the caller.
 pub fn tell_sealed(sealed: Sealed, stream: &mut [u64], answer: &mut [u64]) -> u64

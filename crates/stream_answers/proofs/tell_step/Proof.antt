@@ -1,7 +1,7 @@
-use Rattle.telling.proofs.ToldLaws.{told-chunk, told-ended, told-stays}
+use Rattle.stream_answers.proofs.ToldLaws.{told-chunk, told-ended, told-stays}
 use borrow.Author.Needs.{needs}
-use Rattle.telling.proofs.tell_step.Statement.{statement}
-use Rattle.telling.proofs.tell_step.Tie as tie
+use Rattle.stream_answers.proofs.tell_step.Statement.{statement}
+use Rattle.stream_answers.proofs.tell_step.Tie as tie
 
 returns : tie.Need-returns
 returns c =
