@@ -1,14 +1,14 @@
 -- Two rounds, of which all but the last byte's share was made before.
 -- Assumes nothing.
-use mathlib.Core.Path.{_≡_, refl, sym, ap, ap₂, _∙_, subst}
+use mathlib.Core.Path.{_≡_, sym, ap, ap₂, _∙_}
 use mathlib.Core.List.{List, map}
-use Prim.Native.Nat.{ℕ, _+_, _*_, _/_, _%_, _^_, _<_}
+use Prim.Native.Nat.{ℕ, _+_, _*_, _/_, _%_, _^_}
 use native.Mathlib.Omega.{arith}
 use lib.Bits.{bitXor, xor-comm}
 use lib.ListN.{getD}
 use Rattle.octets.specs.Buffers.{_⊞_}
 use Rattle.octets.proofs.XorLaws.{xor-assoc}
-use Rattle.aes.specs.Cipher.{subBytes, shiftRows, mixColumns, addRoundKey, roundKey, rounds, cipher}
+use Rattle.aes.specs.Cipher.{subBytes, shiftRows, mixColumns, addRoundKey, roundKey, rounds}
 use Rattle.aes.specs.Words.{bytes}
 use Rattle.aes.proofs.RoundLaws.{round-key-law}
 use Rattle.aes_wide.specs.Wide.{Wide, part, columnOf, stateOf}

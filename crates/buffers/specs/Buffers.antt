@@ -1,7 +1,6 @@
 -- Byte strings: what is written into a buffer, exclusive or, comparison.
 use mathlib.Core.Bool.{Bool, true, false}
 use mathlib.Core.List.{List, [], _∷_, _++_}
-use mathlib.Core.Path.{_≡_}
 use Prim.Native.Nat.{ℕ, _+_, _/_, _<_}
 use lib.Bits.{bitXor}
 use lib.Dec.{eqb}

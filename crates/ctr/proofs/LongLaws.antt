@@ -1,6 +1,6 @@
 -- Counter blocks whose counters differ in their last byte alone.
 -- Assumes nothing.
-use mathlib.Core.Path.{_≡_, refl, sym, ap, ap₂, _∙_, subst}
+use mathlib.Core.Path.{_≡_, sym, ap, ap₂, _∙_, subst}
 use mathlib.Core.List.{List, _++_, map}
 use Prim.Native.Nat.{ℕ, _+_, _*_, _/_, _%_, _^_, _<_}
 use native.Mathlib.Omega.{arith}
@@ -9,7 +9,7 @@ use lib.Pow.{shr-shr}
 use lib.ListN.{getD}
 use Rattle.octets.specs.Buffers.{_⊞_}
 use Rattle.octets.specs.Numbers.{toBe}
-use Rattle.aes.specs.Cipher.{addRoundKey, roundKey}
+use Rattle.aes.specs.Cipher.{addRoundKey}
 use Rattle.aes.specs.Words.{bytes}
 use Rattle.aes.proofs.RoundLaws.{add-law, round-key-law}
 use Rattle.aes_wide.specs.Wide.{stateOf}

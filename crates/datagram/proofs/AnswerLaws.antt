@@ -16,7 +16,7 @@ use Rattle.protocol.specs.declared.Refusal.the-variants.{Settings, Length, Room
 use Rattle.protocol.specs.Method.{keyFits}
 use Rattle.socks5.specs.Address.{isAddress}
 use Rattle.datagram_parts.specs.declared.Side.{Side}
-use Rattle.datagram_parts.specs.declared.Side.the-variants.{Client, Server}
+use Rattle.datagram_parts.specs.declared.Side.the-variants.{Server}
 use Rattle.datagram.specs.declared.Sender.{Sender}
 use Rattle.datagram.specs.declared.Begun.the-variants.{Ready, Refused as NotBegun}
 use Rattle.datagram.specs.declared.Sealed.{Sealed}

@@ -2,11 +2,10 @@
 use mathlib.Core.Bool.{Bool, true, false, not}
 use mathlib.Core.List.{List, _++_}
 use Prim.Native.Nat.{ℕ, _+_, _-_, _^_}
-use lib.Dec.{eqb, leb, ltb}
+use lib.Dec.{eqb, leb}
 use lib.ListN.{length}
 use Rattle.octets.specs.Buffers.{both, put}
 use Rattle.aes.specs.Keyed.{pick}
-use Rattle.protocol.specs.declared.Refusal.{Refusal}
 use Rattle.protocol.specs.declared.Refusal.the-variants.{Settings, Length, Room, Counter, Argument}
 use Rattle.protocol.specs.Method.{keyFits}
 use Rattle.socks5.specs.Address.{isAddress}

@@ -1,6 +1,6 @@
 -- Opening as a call on the session table: what the arguments of a call decide for a method and a key, which session a datagram
 -- names, and the answer, the buffer and the table that a call leaves.
-use mathlib.Core.Bool.{Bool, cond, _&&_}
+use mathlib.Core.Bool.{cond, _&&_}
 use mathlib.Core.List.{List}
 use mathlib.Core.Option.{Option, none, some}
 use Prim.Native.Nat.{ℕ}

@@ -3,10 +3,8 @@
 use mathlib.Core.Path.{_≡_, refl, sym, ap, ap₂, _∙_}
 use mathlib.Core.List.{List, [], _∷_, _++_, append-assoc}
 use Prim.Native.Nat.{ℕ, _+_, _-_, _≤_, _<_}
-use native.Mathlib.Nat.{zero-add}
 use native.Mathlib.Omega.{arith}
-use lib.ListN.{length, take, drop, set, replicate, length-append, length-replicate}
-use lib.Seq.{take-at}
+use lib.ListN.{length, take, set, replicate, length-append, length-replicate}
 use Rattle.octets.specs.Buffers.{put}
 use Rattle.octets.specs.Numbers.{toBe}
 use Rattle.octets.proofs.BufferLaws.{length-put, put-behind, put-one, put-whole, take-put}
@@ -14,8 +12,8 @@ use Rattle.octets.proofs.NumberLaws.{length-toBe}
 use Rattle.aes.specs.KeyExpansion.{aes}
 use Rattle.aes.specs.Keyed.{nkOf, inPlace}
 use Rattle.aes.proofs.KeyedLaws.{in-place-lawful}
-use Rattle.gcm.specs.Gcm.{seal, textOf}
-use Rattle.gcm.specs.Keyed.{maxText, ciphOf, sealedInPlace}
+use Rattle.gcm.specs.Gcm.{textOf}
+use Rattle.gcm.specs.Keyed.{maxText, sealedInPlace}
 use Rattle.gcm.proofs.KeyedLaws.{in-place-seals}
 use Rattle.protocol.specs.Subkey.{sessionSubkey}
 use Rattle.datagram_parts.specs.declared.Side.{Side}

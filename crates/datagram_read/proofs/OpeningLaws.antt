@@ -32,7 +32,7 @@ use Rattle.socks5.specs.declared.Parsed.{Parsed}
 use Rattle.socks5.specs.declared.Parsed.the-variants.{Found, Malformed as NoAddress}
 use Rattle.socks5.specs.Address.{parseAt}
 use Rattle.datagram_parts.specs.declared.Side.{Side}
-use Rattle.datagram_parts.specs.declared.Side.the-variants.{Client, Server}
+use Rattle.datagram_parts.specs.declared.Side.the-variants.{Server}
 use Rattle.datagram_parts.specs.Headers.{separateHeader, nonce, typeOf, fixedLength}
 use Rattle.datagram_parts.specs.Parts.{maxDatagram}
 use Rattle.datagram_parts.proofs.LengthLaws.{length-nonce}

@@ -24,7 +24,6 @@ use Rattle.datagram_parts.specs.declared.Side.{Side}
 use Rattle.datagram_parts.specs.declared.Side.the-variants.{Client, Server}
 use Rattle.datagram_parts.specs.Headers.{nonce, typeOf, fixedLength}
 use Rattle.datagram_parts.specs.Parts.{maxDatagram}
-use Rattle.datagram_read.specs.declared.Header.{Header}
 use Rattle.datagram_read.specs.declared.Opened.{Opened}
 use Rattle.datagram_read.specs.declared.Opened.the-variants.{Datagram, Refused}
 

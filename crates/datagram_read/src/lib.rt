@@ -13,7 +13,7 @@ ghost use lib.ListN.{length};
 ghost use Rattle.octets.specs.Buffers.{put};
 ghost use Rattle.aes.specs.KeyExpansion.{if};
 ghost use Rattle.aes.specs.Keyed.{nkOf};
-ghost use Rattle.datagram_parts.specs.Headers.{typeOf, fixedLength};
+ghost use Rattle.datagram_parts.specs.Headers.{typeOf};
 ghost use Rattle.datagram_parts.specs.Parts.{maxDatagram};
 ghost use Rattle.datagram_read.specs.Opening.{sessionOf, packetOf, bodyAuthentic, bodyText, meant, readAddress, readMain, settled, readBody, bodyOut, readAnswer, readOut};
 

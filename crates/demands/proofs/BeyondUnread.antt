@@ -1,7 +1,6 @@
 -- An accepted call reads no byte behind those that it used: its conditions speak of these alone.
 -- Assumes nothing.
 use mathlib.Core.Path.{_≡_, refl, sym, ap, _∙_, subst}
-use mathlib.Core.Bool.{true}
 use mathlib.Core.List.{List, [], _∷_}
 use Prim.Native.Nat.{ℕ, zero, suc, _+_, _≤_, min}
 use native.Mathlib.Omega.{arith}
@@ -10,8 +9,7 @@ use lib.Seq.{take-take, length-take-le}
 use Rattle.octets.specs.Buffers.{put}
 use Rattle.octets.specs.Numbers.{be}
 use Rattle.protocol.specs.Subkey.{subkey}
-use Rattle.protocol.specs.Method.{keyFits, saltLength}
-use Rattle.pool.specs.declared.Met.the-variants.{Room as Free}
+use Rattle.protocol.specs.Method.{saltLength}
 use Rattle.pool.specs.Pool.{meet, store}
 use Rattle.stream.specs.Pieces.{authenticAt, openAt, subkeyWords}
 use Rattle.stream_open.specs.declared.Turn.{Turn}
@@ -23,7 +21,7 @@ use Rattle.response_open.specs.declared.Response.{Response}
 use Rattle.response_open.specs.Heads.{frontLength, fixedOf, bindingOf, receiver}
 use Rattle.stream_open.specs.Chunks.{streamKey}
 use Rattle.demands.specs.StreamsKeep.{saltOf}
-use Rattle.demands.specs.StreamsOpen.{FixedOpens, ValidVariable, variableAt, HeadOpens, RequestOpens, ResponseOpens, PieceOpens, TurnOpens, turnText, StepOpens, Begins, BeyondUnread}
+use Rattle.demands.specs.StreamsOpen.{FixedOpens, ValidVariable, variableAt, RequestOpens, ResponseOpens, PieceOpens, TurnOpens, turnText, Begins, BeyondUnread}
 use Rattle.demands.proofs.HeadTells.{request-exactly-when, response-exactly-when}
 use Rattle.demands.proofs.StreamTells.{step-exactly-when}
 

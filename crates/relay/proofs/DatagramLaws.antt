@@ -12,7 +12,7 @@ use Rattle.protocol.specs.declared.Refusal.{Refusal}
 use Rattle.protocol.specs.declared.Refusal.the-variants.{Settings}
 use Rattle.protocol.specs.Refusal.{refusalNumber}
 use Rattle.session_record.specs.declared.Peer.{Peer}
-use Rattle.book.specs.Call.{Answer, refused, opened}
+use Rattle.book.specs.Call.{Answer, refused}
 use Rattle.datagram_read.specs.declared.Header.{Header}
 use Rattle.datagram.specs.declared.Sender.{Sender}
 use Rattle.datagram.specs.declared.Begun.{Begun}
@@ -21,7 +21,7 @@ use Rattle.datagram.specs.declared.Sealed.{Sealed}
 use Rattle.datagram.specs.declared.Sealed.the-variants.{Datagram, Refused}
 use Rattle.datagram_read.specs.declared.Opened.{Opened}
 use Rattle.datagram_read.specs.declared.Opened.the-variants.{Datagram as OpenedDatagram, Refused as NotOpened}
-use Rattle.datagram.specs.Sealing.{pickBegun, pickSealed, sealAnswer, packetsOf, datagram, sealOut}
+use Rattle.datagram.specs.Sealing.{pickBegun, pickSealed, sealAnswer, packetsOf, sealOut}
 use Rattle.datagram_open.specs.Deciding.{answerOf, openAnswer, openOut, openTable}
 use Rattle.words.specs.Answers.{answerWords, headerWords}
 use Rattle.words.specs.States.{sessionSize, sessionLawful, sessionIn, sessionWords}

@@ -20,7 +20,7 @@ use Rattle.response_open.specs.declared.ResponseOpened.{ResponseOpened}
 use Rattle.response_open.specs.declared.ResponseOpened.the-variants.{Refused as ResponseRefused}
 use Rattle.stream_open.specs.declared.Stepped.{Stepped}
 use Rattle.stream_open.specs.declared.Stepped.the-variants.{Refused as StepRefused}
-use Rattle.stream.specs.Sealing.{pickSealed, chunkAnswer, chunk, senderKey, sealOut}
+use Rattle.stream.specs.Sealing.{pickSealed, chunkAnswer, chunk, sealOut}
 use Rattle.response_open.specs.Heads.{pickResponse}
 use Rattle.request_open.specs.Requests.{pickRequest, openedRequest, requestOut, requestPool}
 use Rattle.stream_open.specs.Chunks.{pickStepped, stepAnswer, stepOut, stepNext}

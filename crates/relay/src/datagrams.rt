@@ -19,7 +19,7 @@ ghost use Rattle.datagram.specs.declared.Begun.the-variants.{Ready};
 ghost use Rattle.datagram.specs.Sealing.{clientSender, begun, datagram, sealOut};
 ghost use Rattle.datagram_open.specs.Deciding.{answerOf};
 ghost use Rattle.words.specs.Answers.{answerWords};
-ghost use Rattle.words.specs.States.{sessionSize, sessionIn};
+ghost use Rattle.words.specs.States.{sessionIn};
 ghost use Rattle.relay.specs.Datagrams.{settingsNumber, begunIn, begunNumber, begunSession, sealedAnswer, sealedNumber, sealedWords, sealedSession, openedNumber, openedWords, callerOf, relayedAnswer, relayedOut, relayedTable};
 
 // Makes a session table of 705 words, with a retention of 60 to 3,600 seconds; 0 stands for 60.

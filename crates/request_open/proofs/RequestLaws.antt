@@ -10,16 +10,16 @@ use native.Mathlib.Omega.{arith}
 use lib.Dec.{eqb, leb, ltb}
 use lib.ListN.{length, getD, take, drop, length-drop}
 use lib.Seq.{length-take-le}
-use borrow.Author.Tests.{le-leb, lt-leb, leb-true, leb-false, lt-ltb, le-ltb, ltb-true, eqb-true}
-use Rattle.octets.specs.Buffers.{Octets, both, put}
+use borrow.Author.Tests.{le-leb, lt-leb, leb-true, leb-false, lt-ltb, le-ltb, eqb-true}
+use Rattle.octets.specs.Buffers.{both, put}
 use Rattle.octets.proofs.BufferLaws.{take-put}
 use Rattle.aes.specs.KeyExpansion.{if}
 use Rattle.aes.specs.Keyed.{nkOf}
 use Rattle.protocol.specs.declared.Refusal.{Refusal}
 use Rattle.protocol.specs.declared.Refusal.the-variants.{Settings, Room, NotAuthentic, Malformed, Replay, Full, More}
-use Rattle.protocol.specs.Method.{keyFits, keyLength, saltLength}
+use Rattle.protocol.specs.Method.{keyFits, saltLength}
 use Rattle.protocol.specs.Subkey.{subkey}
-use Rattle.protocol.proofs.MethodLaws.{Sizes, fits-sizes}
+use Rattle.protocol.proofs.MethodLaws.{fits-sizes}
 use Rattle.socks5.specs.declared.Address.{Address}
 use Rattle.socks5.specs.declared.Parsed.{Parsed}
 use Rattle.socks5.specs.declared.Parsed.the-variants.{Found, Malformed as NoAddress}
@@ -39,8 +39,8 @@ use Rattle.request_open.specs.declared.Request.{Request}
 use Rattle.request_open.specs.declared.RequestRead.{RequestRead}
 use Rattle.request_open.specs.declared.RequestRead.the-variants.{Header, Refused as Unheaded}
 use Rattle.request_open.specs.declared.RequestOpened.{RequestOpened}
-use Rattle.request_open.specs.declared.RequestOpened.the-variants.{Accepted, Refused}
-use Rattle.response_open.specs.Heads.{frontLength, fixedOf, receiver, openFixed}
+use Rattle.request_open.specs.declared.RequestOpened.the-variants.{Refused}
+use Rattle.response_open.specs.Heads.{frontLength, fixedOf, openFixed}
 use Rattle.request_open.specs.Requests.{pickRead, paddingAt, paddingFits, headerWith, readVariable, headLength, variableOf, openVariable, settled, variableOut, openedAs, metAs, fixedAs, readHead, metOut, fixedOut, headOut, storedIn, headPool, pickRequest, settings, openedRequest, requestOut, requestPool}
 
 -- ---- the padding behind an address that ends at the place e

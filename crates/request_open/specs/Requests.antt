@@ -1,18 +1,16 @@
 -- Opening the head of a request (SIP022, section 3.1) on a salt pool: what is answered, what the lent buffer holds then, and
 -- what becomes of the pool.
-use mathlib.Core.Bool.{Bool, true, false, not}
+use mathlib.Core.Bool.{Bool, true, false}
 use mathlib.Core.List.{List}
-use Prim.Native.Nat.{ℕ, _+_, _-_}
-use lib.Dec.{eqb, leb, ltb}
+use Prim.Native.Nat.{ℕ, _+_}
+use lib.Dec.{leb, ltb}
 use lib.ListN.{length, take, drop, replicate}
 use Rattle.octets.specs.Buffers.{both, put}
 use Rattle.octets.specs.Numbers.{be}
 use Rattle.aes.specs.KeyExpansion.{if}
-use Rattle.protocol.specs.declared.Refusal.{Refusal}
 use Rattle.protocol.specs.declared.Refusal.the-variants.{Settings, Room, NotAuthentic, Malformed, Replay, Full, More}
 use Rattle.protocol.specs.Method.{keyFits, saltLength}
 use Rattle.protocol.specs.Subkey.{subkey}
-use Rattle.socks5.specs.declared.Address.{Address}
 use Rattle.socks5.specs.declared.Parsed.{Parsed}
 use Rattle.socks5.specs.declared.Parsed.the-variants.{Found, Malformed as NoAddress}
 use Rattle.socks5.specs.Address.{parseAt}
@@ -26,7 +24,6 @@ use Rattle.stream_open.specs.declared.Turn.the-variants.{Length}
 use Rattle.response_open.specs.declared.Fixed.{Fixed}
 use Rattle.response_open.specs.declared.FixedRead.{FixedRead}
 use Rattle.response_open.specs.declared.FixedRead.the-variants.{Read, Refused as Unread}
-use Rattle.request_open.specs.declared.Request.{Request}
 use Rattle.request_open.specs.declared.RequestRead.{RequestRead}
 use Rattle.request_open.specs.declared.RequestRead.the-variants.{Header, Refused as Unheaded}
 use Rattle.request_open.specs.declared.RequestOpened.{RequestOpened}

@@ -6,7 +6,6 @@ use lib.Dec.{eqb, leb}
 use lib.ListN.{length, getD, take, drop}
 use Rattle.octets.specs.Buffers.{both, same}
 use Rattle.octets.specs.Numbers.{be}
-use Rattle.protocol.specs.declared.Refusal.{Refusal}
 use Rattle.protocol.specs.declared.Refusal.the-variants.{Settings, NotAuthentic, WrongType, WrongTime, More, Binding}
 use Rattle.protocol.specs.Method.{keyFits, saltLength}
 use Rattle.protocol.specs.Subkey.{subkey}
@@ -19,7 +18,6 @@ use Rattle.stream_open.specs.declared.Receiver.{Receiver}
 use Rattle.response_open.specs.declared.Fixed.{Fixed}
 use Rattle.response_open.specs.declared.FixedRead.{FixedRead}
 use Rattle.response_open.specs.declared.FixedRead.the-variants.{Read, Refused as Unread}
-use Rattle.response_open.specs.declared.Response.{Response}
 use Rattle.response_open.specs.declared.ResponseOpened.{ResponseOpened}
 use Rattle.response_open.specs.declared.ResponseOpened.the-variants.{Accepted, Refused}
 

@@ -1,6 +1,5 @@
 -- The loops' invariants: x entries are those of the row; and each entry from the second row up to n is the one of the row before,
 -- turned.
-use mathlib.Core.Path.{_≡_}
 use Prim.Native.Nat.{_-_, _≤_}
 use native.Mathlib.Omega.{arith}
 use borrow.Author.Needs.{needs}

@@ -2,7 +2,6 @@ use mathlib.Core.Path.{_≡_, sym, ap, _∙_}
 use mathlib.Core.Bool.{true}
 use native.Mathlib.Omega.{arith}
 use borrow.Author.Needs.{needs}
-use lib.ListN.{length}
 use Rattle.session.specs.Table.{lawful}
 use Rattle.datagram_open.specs.Deciding.{answerOf}
 use Rattle.datagram_read.proofs.ReadLaws.{Opens, answer-tells, opens-long, opens-room}

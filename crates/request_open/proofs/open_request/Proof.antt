@@ -1,7 +1,7 @@
 -- Each return is one case of the settings and of the front.
 use mathlib.Core.Path.{sym}
 use native.Mathlib.Omega.{arith}
-use lib.ListN.{length, length-take}
+use lib.ListN.{length}
 use lib.Seq.{length-take-le}
 use borrow.Author.Needs.{needs}
 use Rattle.request_open.proofs.RequestLaws.{Lawful, lawful-settings, request-settings, request-more, request-done}

@@ -1,10 +1,7 @@
 -- Each return is one case of an address and its padding.
-use mathlib.Core.Path.{_≡_, sym, ap, _∙_}
-use Prim.Native.Nat.{_+_, _≤_}
+use mathlib.Core.Path.{sym, _∙_}
 use native.Mathlib.Omega.{arith}
-use lib.ListN.{length}
 use borrow.Author.Needs.{needs}
-use Rattle.request_open.specs.Requests.{paddingAt}
 use Rattle.request_open.proofs.RequestLaws.{padding-within, variable-none, variable-bad, variable-read}
 use Rattle.request_open.proofs.read_variable.Statement.{statement}
 use Rattle.request_open.proofs.read_variable.Tie as tie

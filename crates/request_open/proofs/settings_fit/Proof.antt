@@ -1,4 +1,3 @@
-use mathlib.Core.Bool.{false}
 use mathlib.Core.Path.{refl}
 use borrow.Author.Needs.{needs}
 use Rattle.request_open.proofs.RequestLaws.{settings-law}

@@ -1,6 +1,5 @@
 use mathlib.Core.Path.{ap, _∙_}
-use mathlib.Core.List.{List, map}
-use Prim.Native.Nat.{ℕ}
+use mathlib.Core.List.{map}
 use borrow.Author.Needs.{needs}
 use Rattle.aes.specs.Cipher.{rounds as roundsOf}
 use Rattle.aes.specs.Words.{bytes}

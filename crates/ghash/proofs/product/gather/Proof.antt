@@ -1,10 +1,8 @@
 -- The loop's invariant: s holds 4 * k lookups for each word.
-use mathlib.Core.Path.{_≡_, refl, sym, ap, _∙_}
-use Prim.Native.Nat.{ℕ, _-_, _*_, _/_, _^_, _≤_}
-use native.Mathlib.Numerals.{add-one}
+use mathlib.Core.Path.{_≡_, refl, ap, _∙_}
+use Prim.Native.Nat.{ℕ, _-_, _*_, _≤_}
 use native.Mathlib.Omega.{arith}
 use borrow.Author.Needs.{needs}
-use lib.Bits.{bitXor}
 use Rattle.ghash.specs.Table.{TableFor, lookups, gather}
 use Rattle.ghash.specs.Words.{longOf}
 use Rattle.ghash.proofs.GatherLaws.{gather-more}
