@@ -16,7 +16,7 @@ ghost use mathlib.Core.Path.{_≡_};
 ghost use mathlib.Core.List.{map, _∷_, []};
 ghost use Prim.Native.Nat.{_/_, _%_, _<_};
 ghost use Rattle.octets.specs.Buffers.{_⊞_};
-ghost use Rattle.aes_tables.specs.SBox.{invSBox};
+ghost use Rattle.aes_tables.specs.SBox.{sBox, invSBox};
 ghost use Rattle.aes_tables.specs.Tables.{IsTable, invMixEntry};
 ghost use Rattle.aes_inverse.specs.InvCipher.{invSubBytes, invShiftRows, invMixColumns, invMixColumn, invCipher as invCipherOf, invAes};
 ghost use Rattle.aes.specs.Keyed.{lawful, inPlace};
@@ -82,8 +82,9 @@ pub fn inv_cipher(t: &[u32; 256], sbox: &[u8; 256], w: &[u32; 60], rounds: usize
     sub_round(sbox, s, round_key(w, 0))
 }
 
-// Decrypts a block in place, as encrypt_block encrypts it.
-pub fn decrypt_block(key: &[u8], block: &mut [u8]) -> bool
+// Decrypts a block in place, as encrypt_with encrypts it, with the key expansion's table lent.
+pub fn decrypt_with(key_sbox: &[u8; 256], key: &[u8], block: &mut [u8]) -> bool
+    requires { ⌜ IsTable sBox (now «key_sbox») ⌝ }
     ensures { λ r. ⌜ r ≡ lawful 16 (now (key .entry)) (now (block .entry)) ⌝ }
     ensures { λ r. ⌜ now (block .exit) ≡ inPlace invAes (now (key .entry)) (now (block .entry)) ⌝ }
 {
@@ -94,11 +95,19 @@ pub fn decrypt_block(key: &[u8], block: &mut [u8]) -> bool
     if block.len() != 16 {
         return false;
     }
-    let key_sbox = aes_tables::sbox();
-    let w = expand(&key_sbox, key, nk);
+    let w = expand(key_sbox, key, nk);
     let sbox = aes_tables::inv_sbox();
     let t = aes_tables::inv_mix_table();
     let x = inv_cipher(&t, &sbox, &w, nk + 6, read_block(block, 0));
     write_block(block, 0, x);
     true
+}
+
+// The same, with tables of its own.
+pub fn decrypt_block(key: &[u8], block: &mut [u8]) -> bool
+    ensures { λ r. ⌜ r ≡ lawful 16 (now (key .entry)) (now (block .entry)) ⌝ }
+    ensures { λ r. ⌜ now (block .exit) ≡ inPlace invAes (now (key .entry)) (now (block .entry)) ⌝ }
+{
+    let sbox = aes_tables::sbox();
+    decrypt_with(&sbox, key, block)
 }

@@ -12,6 +12,8 @@ ghost use Prim.Native.Nat.{_-_, _<_, _≤_};
 ghost use lib.ListN.{length};
 ghost use Rattle.octets.specs.Buffers.{put};
 ghost use Rattle.aes.specs.KeyExpansion.{if};
+ghost use Rattle.aes_tables.specs.SBox.{sBox};
+ghost use Rattle.aes_tables.specs.Tables.{IsTable};
 ghost use Rattle.aes.specs.Keyed.{nkOf};
 ghost use Rattle.datagram_parts.specs.Headers.{typeOf};
 ghost use Rattle.datagram_parts.specs.Parts.{maxDatagram};
@@ -41,15 +43,16 @@ struct Separate {
 }
 
 // The separate header of a datagram.
-fn read_separate(key: &[u8], s: &[u8]) -> Separate
+fn read_separate(sbox: &[u8; 256], key: &[u8], s: &[u8]) -> Separate
     requires { ⌜ 0 < nkOf (length (now key)) ⌝ }
     requires { ⌜ 16 ≤ length (now s) ⌝ }
+    requires { ⌜ IsTable sBox (now sbox) ⌝ }
     ensures { λ r. ⌜ r .session ≡ sessionOf (now (key .entry)) (now (s .entry)) ⌝ }
     ensures { λ r. ⌜ r .packet ≡ packetOf (now (key .entry)) (now (s .entry)) ⌝ }
 {
     let mut header = [0u8; 16];
     octets::copy(&mut header, 0, &s[..16]);
-    aes_inverse::decrypt_block(key, &mut header);
+    aes_inverse::decrypt_with(sbox, key, &mut header);
     Separate {
         session: octets::read_u64_be(&header, 0),
         packet: octets::read_u64_be(&header, 8),
@@ -57,11 +60,19 @@ fn read_separate(key: &[u8], s: &[u8]) -> Separate
 }
 
 // Opens a body to the front of a buffer: whether its tag is good; if not, nothing is written.
-fn open_body(key: &[u8], id: u64, packet: u64, body: &[u8], out: &mut [u8]) -> bool
+fn open_body(
+    sbox: &[u8; 256],
+    key: &[u8],
+    id: u64,
+    packet: u64,
+    body: &[u8],
+    out: &mut [u8],
+) -> bool
     requires { ⌜ 0 < nkOf (length (now key)) ⌝ }
     requires { ⌜ 16 ≤ length (now body) ⌝ }
     requires { ⌜ length (now body) ≤ maxDatagram ⌝ }
     requires { ⌜ length (now body) - 16 ≤ length (now out) ⌝ }
+    requires { ⌜ IsTable sBox (now sbox) ⌝ }
     ensures { λ r. ⌜ r ≡ bodyAuthentic (now (key .entry)) id packet (now (body .entry)) ⌝ }
     ensures { λ r. ⌜ now (out .exit) ≡ if r (put (now (out .entry)) 0 (bodyText (now (key .entry)) id packet (now (body .entry)))) (now (out .entry)) ⌝ }
 {
@@ -69,7 +80,8 @@ fn open_body(key: &[u8], id: u64, packet: u64, body: &[u8], out: &mut [u8]) -> b
     let mut subkey = [0u8; 32];
     protocol::derive_session_subkey(key, id, &mut subkey);
     let n = key.len();
-    match gcm::open(&subkey[..n], &header[4..16], body, out) {
+    let t = aes_tables::mix_table();
+    match gcm::open_with(&t, sbox, &subkey[..n], &header[4..16], body, out) {
         gcm::Opened::Text => true,
         gcm::Opened::Forged => false,
         gcm::Opened::Unlawful => false,
@@ -159,6 +171,7 @@ pub fn settle(answer: Opened, due: usize, out: &mut [u8])
 
 // The body, by the separate header's numbers.
 fn read_body(
+    sbox: &[u8; 256],
     side: Side,
     clock: u64,
     key: &[u8],
@@ -171,10 +184,11 @@ fn read_body(
     requires { ⌜ 16 ≤ length (now body) ⌝ }
     requires { ⌜ length (now body) ≤ maxDatagram ⌝ }
     requires { ⌜ length (now body) - 16 ≤ length (now out) ⌝ }
+    requires { ⌜ IsTable sBox (now sbox) ⌝ }
     ensures { λ r. ⌜ r ≡ readBody side clock (now (key .entry)) id packet (now (body .entry)) ⌝ }
     ensures { λ r. ⌜ now (out .exit) ≡ bodyOut side clock (now (key .entry)) id packet (now (body .entry)) (now (out .entry)) ⌝ }
 {
-    if open_body(key, id, packet, body, out) {
+    if open_body(sbox, key, id, packet, body, out) {
         let due = body.len() - 16;
         let answer = read_main(side, clock, id, packet, &out[..due]);
         settle(answer, due, out);
@@ -205,8 +219,10 @@ pub fn read_datagram(
         if out.len() < s.len() - 32 {
             return Opened::Refused(Refusal::Room);
         }
-        let header = read_separate(key, s);
+        let sbox = aes_tables::sbox();
+        let header = read_separate(&sbox, key, s);
         return read_body(
+            &sbox,
             side,
             clock,
             key,

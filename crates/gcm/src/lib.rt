@@ -282,9 +282,18 @@ pub fn seal_in_place(key: &[u8], nonce: &[u8], body: &mut [u8]) -> bool
     seal_in_place_with(&t, &sbox, key, nonce, body)
 }
 
-// Opens ciphertext and tag: the text, 16 bytes less, to the front of the lent buffer. Nothing is written where the tag is
-// wrong, or where a length or the room is.
-pub fn open(key: &[u8], nonce: &[u8], s: &[u8], out: &mut [u8]) -> Opened
+// Opens ciphertext and tag, from lent tables: the text, 16 bytes less, to the front of the lent buffer. Nothing is written where
+// the tag is wrong, or where a length or the room is.
+pub fn open_with(
+    t: &[u32; 256],
+    sbox: &[u8; 256],
+    key: &[u8],
+    nonce: &[u8],
+    s: &[u8],
+    out: &mut [u8],
+) -> Opened
+    requires { ⌜ IsTable mixEntry (now t) ⌝ }
+    requires { ⌜ IsTable sBox (now sbox) ⌝ }
     ensures { λ r. ⌜ r ≡ openAnswer (now (key .entry)) (now (nonce .entry)) (now (s .entry)) (now (out .entry)) ⌝ }
     ensures { λ r. ⌜ now (out .exit) ≡ openOut (now (key .entry)) (now (nonce .entry)) (now (s .entry)) (now (out .entry)) ⌝ }
 {
@@ -296,11 +305,19 @@ pub fn open(key: &[u8], nonce: &[u8], s: &[u8], out: &mut [u8]) -> Opened
     if nk == 0 {
         return Opened::Unlawful;
     }
-    let sbox = aes_tables::sbox();
-    let t = aes_tables::mix_table();
-    let w = aes::key::expand(&sbox, key, nk);
-    if open_at(&t, &sbox, &w, nk + 6, ctr::read_nonce(nonce), s, out) {
+    let w = aes::key::expand(sbox, key, nk);
+    if open_at(t, sbox, &w, nk + 6, ctr::read_nonce(nonce), s, out) {
         return Opened::Text;
     }
     Opened::Forged
+}
+
+// The same, with tables of its own.
+pub fn open(key: &[u8], nonce: &[u8], s: &[u8], out: &mut [u8]) -> Opened
+    ensures { λ r. ⌜ r ≡ openAnswer (now (key .entry)) (now (nonce .entry)) (now (s .entry)) (now (out .entry)) ⌝ }
+    ensures { λ r. ⌜ now (out .exit) ≡ openOut (now (key .entry)) (now (nonce .entry)) (now (s .entry)) (now (out .entry)) ⌝ }
+{
+    let sbox = aes_tables::sbox();
+    let t = aes_tables::mix_table();
+    open_with(&t, &sbox, key, nonce, s, out)
 }

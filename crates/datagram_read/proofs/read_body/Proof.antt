@@ -9,7 +9,7 @@ use Rattle.datagram_read.proofs.read_body.Tie as tie
 slice-aggregate-read-main : tie.Need-slice-aggregate-read-main
 slice-aggregate-read-main c =
     let o = c .before .before .before .before in
-    sym (length-take-le _ _ (omega (arith, o .open-body .kept .1 .1 .1, o .before .before .before .before .before .pre .1 .1 .1)))
+    sym (length-take-le _ _ (omega (arith, o .open-body .kept .1 .1 .1 .1, o .before .before .before .before .before .pre .1 .1 .1 .0)))
 
 returns : tie.Need-returns
 returns c =
@@ -18,7 +18,7 @@ returns c =
     let t = m .before .before in
     let o = t .before .before .before in
     let q = o .before .before .before .before .before .pre in
-    read-opened _ _ _ _ _ _ _ _ _ (o .open-body .ensures .0) (o .open-body .ensures .1) (q .1 .1 .1) (t .if1 .taken) _ _ (m .read-main .ensures)
+    read-opened _ _ _ _ _ _ _ _ _ (o .open-body .ensures .0) (o .open-body .ensures .1) (q .1 .1 .1 .0) (t .if1 .taken) _ _ (m .read-main .ensures)
     (s .settle .ensures)
 
 returns-2 : tie.Need-returns-2

@@ -32,21 +32,25 @@ has-key : (c : tie.Then1) → 0 < nkOf (length (c .before .before .before .befor
 has-key c = key-of-method _ _ (sym (c .before .key-fits .ensures) ∙ c .if1 .taken)
 
 read-separate-requires : tie.Need-read-separate-requires
-read-separate-requires c κs = let l = c .before .before in (has-key (l .before), omega (arith, l .if2 .left))
+read-separate-requires c κs =
+    let x = c .before in
+    let l = x .before .before .before in
+    (has-key (l .before), (omega (arith, l .if2 .left), x .sbox .ensures))
 
 read-body-requires : tie.Need-read-body-requires
 read-body-requires c κs =
-    let r = c .before .before .before in
+    let x = c .before .before .before .before .before in
+    let r = x .before in
     let m = r .before in
     let l = m .before in
     let n = length-body (l .before .before .before .before .before .before .args .s .now) in
-    (has-key (l .before), (omega (arith, n, l .if2 .left), (omega (arith, n, m .if3 .left), omega (arith, n, r .if4 .left))))
+    (has-key (l .before), (omega (arith, n, l .if2 .left), (omega (arith, n, m .if3 .left), (omega (arith, n, r .if4 .left), x .sbox .ensures))))
 
 returns-4 : tie.Need-returns-4
 returns-4 c =
     let b = c .before .before in
-    let h = b .before .before .before in
-    let r = h .before in
+    let h = b .before .before .before .before in
+    let r = h .before .before .before in
     let m = r .before in
     let l = m .before in
     let k = l .before in
@@ -65,6 +69,7 @@ read-datagram-spec =
     returns-2
     (λ c. search needs)
     returns-3
+    (λ c κs. search needs)
     read-separate-requires
     (λ c. search needs)
     (λ c. search needs)

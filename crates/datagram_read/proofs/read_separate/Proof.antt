@@ -8,7 +8,7 @@ use Rattle.datagram_read.proofs.read_separate.Statement.{statement}
 use Rattle.datagram_read.proofs.read_separate.Tie as tie
 
 slice-aggregate-copy-2 : tie.Need-slice-aggregate-copy-2
-slice-aggregate-copy-2 c = sym (length-take-le 16 (c .before .before .before .before .args .s .now) (c .before .before .before .before .pre .1))
+slice-aggregate-copy-2 c = sym (length-take-le 16 (c .before .before .before .before .args .s .now) (c .before .before .before .before .pre .1 .0))
 
 copy-requires : tie.Need-copy-requires
 copy-requires c κs = simp length-take (omega arith)
@@ -19,7 +19,7 @@ returns c =
     let d = r .before .before .before in
     let k = d .before .before .before in
     let q = k .before .before .before .before .before .pre in
-    separate-read _ _ (replicate 16 0) _ _ _ _ (q .0) (q .1) refl (k .copy .ensures) (d .decrypt-block .ensures .1) (r .read-u64-be .ensures)
+    separate-read _ _ (replicate 16 0) _ _ _ _ (q .0) (q .1 .0) refl (k .copy .ensures) (d .decrypt-with .ensures .1) (r .read-u64-be .ensures)
     (c .read-u64-be2 .ensures)
 
 pub read-separate-spec : {M : Type 1} → statement M

@@ -6,8 +6,8 @@ use borrow.Author.Needs.{needs}
 use lib.ListN.{length}
 use Rattle.gcm.specs.Keyed.{answer}
 use Rattle.gcm.proofs.KeyedLaws.{Fits, fits-not, fits-are, open-short, open-refused, open-done}
-use Rattle.gcm.proofs.open.Statement.{statement}
-use Rattle.gcm.proofs.open.Tie as tie
+use Rattle.gcm.proofs.open_with.Statement.{statement}
+use Rattle.gcm.proofs.open_with.Tie as tie
 
 -- where everything fits
 facts : (c : tie.Else2) → let a = c .before .before .before .before .before .before .before .args in
@@ -25,30 +25,30 @@ returns-2 c =
 
 expand-requires : tie.Need-expand-requires
 expand-requires c κs =
-    let k = facts (c .before .before .before) .key in
-    (c .before .before .sbox .ensures, (k .words, (k .least, k .most)))
+    let k = facts c .key in
+    (c .before .before .before .before .before .before .before .pre .1, (k .words, (k .least, k .most)))
 
 add-open-at : tie.Need-add-open-at
-add-open-at c = omega (arith, facts (c .before .before .before .before .before .before .before) .key .most)
+add-open-at c = omega (arith, facts (c .before .before) .key .most)
 
 read-nonce-requires : tie.Need-read-nonce-requires
-read-nonce-requires c κs = facts (c .before .before .before .before .before .before .before) .nonce
+read-nonce-requires c κs = facts (c .before .before) .nonce
 
 open-at-requires : tie.Need-open-at-requires
 open-at-requires c κs =
-    let m = c .before .before .before .before .before .before .before in
-    let k = m .before .before in
+    let k = c .before .before .before .before in
+    let p = k .before .before .before .before .before .before .before .pre in
     let f = facts k in (
-      m .mix-table .ensures,
-      (m .before .sbox .ensures, (omega (arith, f .key .least), (omega (arith, f .key .most), (k .before .before .if1 .left, (f .text, f .space))))),
+      p .0,
+      (p .1, (omega (arith, f .key .least), (omega (arith, f .key .most), (k .before .before .if1 .left, (f .text, f .space))))),
     )
 
 returns-3 : tie.Need-returns-3
 returns-3 c =
     let r = c .before .before .before in
     let n = r .before .before in
-    let e = n .before .before .before .before in
-    let k = e .before .before .before .before in
+    let e = n .before .before in
+    let k = e .before in
     let f = facts k in
     let d =
     open-done _ _ _ _ (k .before .lawful-words .result) (e .expand .result) _ _ (r .open-at .result) (k .before .before .if1 .left) (f .lawful)
@@ -59,24 +59,22 @@ returns-4 : tie.Need-returns-4
 returns-4 c =
     let r = c .before .before .before in
     let n = r .before .before in
-    let e = n .before .before .before .before in
-    let k = e .before .before .before .before in
+    let e = n .before .before in
+    let k = e .before in
     let f = facts k in
     let d =
     open-done _ _ _ _ (k .before .lawful-words .result) (e .expand .result) _ _ (r .open-at .result) (k .before .before .if1 .left) (f .lawful)
     (f .words-are) (e .expand .ensures) (n .read-nonce .ensures) (r .open-at .ensures .0) (r .open-at .ensures .1) in
     (ap (answer true) (sym (c .if3 .left)) ∙ d .0, d .1)
 
-pub open-spec : {M : Type 1} → statement M
-open-spec =
+pub open-with-spec : {M : Type 1} → statement M
+open-with-spec =
     tie.close
     (tie.spec
     returns
     (λ c. search needs)
     (λ c κs. search needs)
     returns-2
-    (λ c κs. search needs)
-    (λ c κs. search needs)
     expand-requires
     add-open-at
     read-nonce-requires
