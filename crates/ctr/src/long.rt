@@ -22,6 +22,7 @@ fn last_column(w: &[u32; 60], c: u32) -> u32
     swapped(c) ^ w[3]
 }
 
+// The first two rounds of the block with the counter c, but for what its last byte decides.
 fn prepared(t: &[u32; 1024], w: &[u32; 60], n: Nonce, c: u32) -> Prepared
     ensures { λ r. ⌜ Ready (now (t .entry)) (now (w .entry)) n c r ⌝ }
 {
@@ -45,6 +46,7 @@ fn renewed(t: &[u32; 1024], w: &[u32; 60], n: Nonce, c: u32, m: Prepared) -> Pre
     }
 }
 
+// GCTR from four tables, block by block.
 fn blocks(
     t: &[u32; 1024],
     sbox: &[u8; 256],
@@ -71,6 +73,7 @@ fn blocks(
     }
 }
 
+// The same from the one table that is lent: the other three are made of it.
 pub fn gctr_long(
     t: &[u32; 256],
     sbox: &[u8; 256],
