@@ -1,15 +1,14 @@
-use mathlib.Core.Path.{_≡_}
-use Prim.Native.Nat.{_-_}
+use Prim.Native.Nat.{_≤_, _-_}
 use lib.ListN.{length}
 use borrow.Author.Needs.{needs}
 use Rattle.vectors_blake3.proofs.groups.Statement.{statement}
 use Rattle.vectors_blake3.proofs.groups.Tie as tie
 
 abbrev Inv-loop : tie.InvT-loop
-Inv-loop s reading₀ reading = reading .at ≡ reading .at
+Inv-loop s step₀ step = step .next ≤ length s
 
 abbrev μ-loop : tie.MeasureT-loop
-μ-loop s reading₀ reading = length s - reading .at
+μ-loop s step₀ step = length s - step .next
 
 pub groups-spec : {M : Type 1} → statement M
 groups-spec =
@@ -18,7 +17,8 @@ groups-spec =
     Inv-loop
     μ-loop
     (λ c κs. search needs)
-    (λ c κs. search needs)
+    (λ c. search needs)
+    (λ c. search needs)
     (λ c. search needs)
     (λ c κs. search needs)
     (λ c κs. search needs)

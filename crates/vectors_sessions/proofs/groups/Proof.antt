@@ -1,15 +1,14 @@
-use mathlib.Core.Path.{_≡_}
-use Prim.Native.Nat.{_-_}
+use Prim.Native.Nat.{_≤_, _-_}
 use lib.ListN.{length}
 use borrow.Author.Needs.{needs}
 use Rattle.vectors_sessions.proofs.groups.Statement.{statement}
 use Rattle.vectors_sessions.proofs.groups.Tie as tie
 
 abbrev Inv-loop : tie.InvT-loop
-Inv-loop s table₀ expected₀ reading₀ table expected reading = (length table ≡ 706) × (length expected ≡ 706)
+Inv-loop s from step₀ step = step .next ≤ length s
 
 abbrev μ-loop : tie.MeasureT-loop
-μ-loop s table₀ expected₀ reading₀ table expected reading = length s - reading .at
+μ-loop s from step₀ step = length s - step .next
 
 pub groups-spec : {M : Type 1} → statement M
 groups-spec =
@@ -17,6 +16,8 @@ groups-spec =
     (tie.spec
     Inv-loop
     μ-loop
+    (λ c κs. search needs)
+    (λ c. search needs)
     (λ c κs. search needs)
     (λ c. search needs)
     (λ c κs. search needs)

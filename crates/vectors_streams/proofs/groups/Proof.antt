@@ -1,15 +1,14 @@
-use mathlib.Core.Path.{_≡_}
-use Prim.Native.Nat.{_-_}
+use Prim.Native.Nat.{_≤_, _-_}
 use lib.ListN.{length}
 use borrow.Author.Needs.{needs}
 use Rattle.vectors_streams.proofs.groups.Statement.{statement}
 use Rattle.vectors_streams.proofs.groups.Tie as tie
 
 abbrev Inv-loop : tie.InvT-loop
-Inv-loop s words₀ expected₀ reading₀ words expected reading = (length words ≡ 1570) × (length expected ≡ 1570)
+Inv-loop s from read₀ read = read .next ≤ length s
 
 abbrev μ-loop : tie.MeasureT-loop
-μ-loop s words₀ expected₀ reading₀ words expected reading = length s - reading .at
+μ-loop s from read₀ read = length s - read .next
 
 pub groups-spec : {M : Type 1} → statement M
 groups-spec =
@@ -17,6 +16,8 @@ groups-spec =
     (tie.spec
     Inv-loop
     μ-loop
+    (λ c κs. search needs)
+    (λ c. search needs)
     (λ c κs. search needs)
     (λ c. search needs)
     (λ c κs. search needs)

@@ -8,10 +8,7 @@ pub makes-spec : {M : Type 1} → statement M
 makes-spec =
     tie.close
     (tie.spec
-    (λ c κs. search needs)
-    (λ c κs. search needs)
-    (λ c κs. search needs)
-    (λ c κs. search needs)
+    (λ c. search needs)
     (λ c. search needs)
     (λ c. simp length-take (omega arith))
     (λ c κs. search needs)
