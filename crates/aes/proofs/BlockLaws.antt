@@ -1,7 +1,7 @@
 -- The steps of the cipher keep a state a block: 16 bytes. And a block is the state of its bytes.
 -- Assumes nothing.
 use mathlib.Core.Path.{_≡_, refl, sym, ap, _∙_, subst}
-use mathlib.Core.Bool.{Bool, true, false}
+use mathlib.Core.Bool.{Bool, true, false, cond}
 use mathlib.Core.List.{List, [], _∷_, _++_, map}
 use Prim.Native.Nat.{ℕ, zero, suc, _+_, _-_, _*_, _/_, _%_, _≤_, _<_}
 use native.Mathlib.Nat.{add-suc, suc-add}
@@ -17,7 +17,7 @@ use Rattle.aes_tables.specs.SBox.{sBox}
 use Rattle.aes_tables.proofs.Substitution.{sBox-lt}
 use Rattle.aes_tables.proofs.Products.{xTimes-lt, product-lt}
 use Rattle.aes.specs.Cipher.{IsBlock, at, state, byColumn, subBytes, shiftRows, mixColumn, mixColumns, word, roundKey, addRoundKey, rounds, cipher}
-use Rattle.aes.specs.KeyExpansion.{rotWord, subWord, xPower, rcon, if, temp, keyWords, expanded, keyExpansion, aes}
+use Rattle.aes.specs.KeyExpansion.{rotWord, subWord, xPower, rcon, temp, keyWords, expanded, keyExpansion, aes}
 
 -- ---- a block is the state of its bytes
 
@@ -155,7 +155,7 @@ unfolding xPower
 xPower-lt zero = lit< tt
 xPower-lt (suc n) = xTimes-lt (xPower n) (xPower-lt n)
 
-octets-if : (b : Bool) (s t : List ℕ) → Octets s → Octets t → Octets (if b s t)
+octets-if : (b : Bool) (s t : List ℕ) → Octets s → Octets t → Octets (cond b s t)
 octets-if true s t p q = p
 octets-if false s t p q = q
 

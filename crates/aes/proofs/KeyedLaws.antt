@@ -1,7 +1,7 @@
 -- The cipher at the words that the key expansion left is AES under the key; the lengths of keys; blocks in place.
 -- Assumes nothing.
 use mathlib.Core.Path.{_≡_, refl, sym, ap, ap₂, _∙_, subst}
-use mathlib.Core.Bool.{Bool, true, false}
+use mathlib.Core.Bool.{Bool, true, false, cond, _&&_}
 use mathlib.Core.List.{List, [], _∷_, _++_, map}
 use Prim.Native.Nat.{ℕ, zero, suc, _+_, _-_, _*_, _≤_, _<_}
 use native.Mathlib.Omega.{arith}
@@ -9,11 +9,11 @@ use lib.Dec.{T, eqb, ltb, eqb→eq}
 use lib.ListN.{length, getD, take}
 use lib.Seq.{getD-take, take-all}
 use borrow.Author.Tests.{eq-eqb, ne-eqb, lt-ltb, le-ltb}
-use Rattle.octets.specs.Buffers.{both, put, _⊞_}
+use Rattle.octets.specs.Buffers.{put, _⊞_}
 use Rattle.octets.proofs.BufferLaws.{put-whole}
 use Rattle.aes.specs.Cipher.{subBytes, shiftRows, mixColumns, word, roundKey, addRoundKey, rounds, cipher}
-use Rattle.aes.specs.KeyExpansion.{if, keyExpansion, aes}
-use Rattle.aes.specs.Keyed.{pick, nkOf, lawful, inPlace}
+use Rattle.aes.specs.KeyExpansion.{keyExpansion, aes}
+use Rattle.aes.specs.Keyed.{nkOf, lawful, inPlace}
 use Rattle.aes.specs.Words.{bytes}
 use Rattle.aes.proofs.RoundLaws.{word-law}
 
@@ -71,8 +71,8 @@ pub key-length : (n : ℕ) → (nkOf n ≡ 0 → ⊥) → KeyLength n (nkOf n)
 unfolding nkOf
 key-length n = go (eqb n 16) (eqb n 24) (eqb n 32) (eqb→eq n 16) (eqb→eq n 24) (eqb→eq n 32)
   where
-    go : (a b c : Bool) → (T a → n ≡ 16) → (T b → n ≡ 24) → (T c → n ≡ 32) → (pick a 4 (pick b 6 (pick c 8 0)) ≡ 0 → ⊥)
-        → KeyLength n (pick a 4 (pick b 6 (pick c 8 0)))
+    go : (a b c : Bool) → (T a → n ≡ 16) → (T b → n ≡ 24) → (T c → n ≡ 32) → (_≡_ {A = ℕ} (cond a 4 (cond b 6 (cond c 8 0))) 0 → ⊥)
+        → KeyLength n (cond a 4 (cond b 6 (cond c 8 0)))
     go true b c e f g h = record { words = e tt; least = omega arith; most = omega arith }
     go false true c e f g h = record { words = f tt; least = omega arith; most = omega arith }
     go false false true e f g h = record { words = g tt; least = omega arith; most = omega arith }
@@ -89,26 +89,26 @@ key-most n h =
 module _ (n : ℕ) (key s : List ℕ) where
   pub no-key : nkOf (length key) ≡ 0 → lawful n key s ≡ false
   unfolding lawful
-  no-key e = ap (λ (k : ℕ). both (ltb 0 k) (eqb (length s) n)) e
+  no-key e = ap (λ (k : ℕ). ltb 0 k && eqb (length s) n) e
 
   pub no-string : (nkOf (length key) ≡ 0 → ⊥) → (length s ≡ n → ⊥) → lawful n key s ≡ false
   unfolding lawful
-  no-string h e = let k : 0 < nkOf (length key) = omega arith in ap₂ both (lt-ltb _ _ k) (ne-eqb _ _ e)
+  no-string h e = let k : 0 < nkOf (length key) = omega arith in ap₂ _&&_ (lt-ltb _ _ k) (ne-eqb _ _ e)
 
   pub both-lawful : (nkOf (length key) ≡ 0 → ⊥) → length s ≡ n → lawful n key s ≡ true
   unfolding lawful
-  both-lawful h e = let k : 0 < nkOf (length key) = omega arith in ap₂ both (lt-ltb _ _ k) (eq-eqb _ _ e)
+  both-lawful h e = let k : 0 < nkOf (length key) = omega arith in ap₂ _&&_ (lt-ltb _ _ k) (eq-eqb _ _ e)
 
 -- ---- a block in place
 
 module _ (key s : List ℕ) (f : ℕ → List ℕ → List ℕ → List ℕ) where
   pub in-place-refused : lawful 16 key s ≡ false → s ≡ inPlace f key s
   unfolding inPlace
-  in-place-refused e = sym (ap (λ (b : Bool). if b (f (nkOf (length key)) key s) s) e)
+  in-place-refused e = sym (ap (λ (b : Bool). cond b (f (nkOf (length key)) key s) s) e)
 
   pub in-place-lawful : 0 < nkOf (length key) → length s ≡ 16 → inPlace f key s ≡ f (nkOf (length key)) key s
   unfolding inPlace
-  in-place-lawful k l = ap (λ (b : Bool). if b (f (nkOf (length key)) key s) s) (both-lawful 16 key s (λ e. omega arith) l)
+  in-place-lawful k l = ap (λ (b : Bool). cond b (f (nkOf (length key)) key s) s) (both-lawful 16 key s (λ e. omega arith) l)
 
   -- the block x is read, and y, the same under f, is written in its place
   pub in-place : (nk : ℕ) (o x y : List ℕ) → lawful 16 key s ≡ true → length s ≡ 16 → nk ≡ nkOf (length key) → x ≡ take 16 s
@@ -116,4 +116,4 @@ module _ (key s : List ℕ) (f : ℕ → List ℕ → List ℕ → List ℕ) whe
   unfolding inPlace
   in-place nk o x y e l en ex ey ly eo =
       eo ∙ put-whole s y (omega arith) ∙ ey ∙ (λ i. f (en i) key (ex i)) ∙ ap (f (nkOf (length key)) key) (take-all 16 s (omega arith))
-      ∙ sym (ap (λ (b : Bool). if b (f (nkOf (length key)) key s) s) e)
+      ∙ sym (ap (λ (b : Bool). cond b (f (nkOf (length key)) key s) s) e)

@@ -1,5 +1,5 @@
 -- FIPS 197, section 5.2: the key expansion. Nk, the key's length in words, is 4, 6 or 8, and Nr, the number of rounds, Nk + 6.
-use mathlib.Core.Bool.{Bool, true, false}
+use mathlib.Core.Bool.{cond}
 use mathlib.Core.List.{List, [], _∷_, _++_, map}
 use Prim.Native.Nat.{ℕ, zero, suc, _+_, _-_, _*_, _/_, _%_}
 use lib.Dec.{eqb, ltb}
@@ -26,13 +26,9 @@ xPower (suc n) = xTimes (xPower n)
 unfoldable pub rcon : ℕ → List ℕ
 rcon j = xPower (j - 1) ∷ 0 ∷ 0 ∷ 0 ∷ []
 
-abbrev pub if : Bool → List ℕ → List ℕ → List ℕ
-if true a b = a
-if false a b = b
-
 -- temp of Algorithm 2: what is added to w[i - Nk], from w[i - 1]
 unfoldable pub temp : ℕ → ℕ → List ℕ → List ℕ
-temp nk i t = if (eqb (i % nk) 0) (subWord (rotWord t) ⊞ rcon (i / nk)) (if (ltb 6 nk) (if (eqb (i % nk) 4) (subWord t) t) t)
+temp nk i t = cond (eqb (i % nk) 0) (subWord (rotWord t) ⊞ rcon (i / nk)) (cond (ltb 6 nk) (cond (eqb (i % nk) 4) (subWord t) t) t)
 
 -- the first n words of the key
 unfoldable pub keyWords : List ℕ → ℕ → List (List ℕ)

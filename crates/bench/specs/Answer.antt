@@ -1,12 +1,11 @@
 -- The numbers that the exported functions answer.
-use mathlib.Core.Bool.{Bool, true, false}
+use mathlib.Core.Bool.{Bool, true, false, cond, _&&_}
 use mathlib.Core.List.{List}
 use Prim.Native.Nat.{ℕ}
 use lib.Dec.{eqb, leb}
 use lib.ListN.{length}
-use Rattle.octets.specs.Buffers.{both, put}
+use Rattle.octets.specs.Buffers.{put}
 use Rattle.octets.specs.Numbers.{be, toBe}
-use Rattle.aes.specs.KeyExpansion.{if}
 use Rattle.ghash.specs.Ghash.{blocks, ghash}
 use Rattle.protocol.specs.Subkey.{subkey}
 use Rattle.session_record.specs.declared.Peer.{Peer}
@@ -38,17 +37,17 @@ number Forged = 2
 
 -- GHASH asks for a hash key of 16 bytes and room for 16
 unfoldable pub hashLawful : List ℕ → List ℕ → Bool
-hashLawful h out = both (eqb (length h) 16) (leb 16 (length out))
+hashLawful h out = eqb (length h) 16 && leb 16 (length out)
 
 unfoldable pub hashOut : List ℕ → List ℕ → List ℕ → List ℕ
-hashOut h text out = if (hashLawful h out) (put out 0 (toBe 16 (ghash (be 16 h) (blocks text)))) out
+hashOut h text out = cond (hashLawful h out) (put out 0 (toBe 16 (ghash (be 16 h) (blocks text)))) out
 
 -- a subkey asks for a key and a salt of 32 bytes at most, and room for 32
 unfoldable pub subkeyLawful : List ℕ → List ℕ → List ℕ → Bool
-subkeyLawful key salt out = both (leb (length key) 32) (both (leb (length salt) 32) (leb 32 (length out)))
+subkeyLawful key salt out = leb (length key) 32 && (leb (length salt) 32 && leb 32 (length out))
 
 unfoldable pub subkeyOut : List ℕ → List ℕ → List ℕ → List ℕ
-subkeyOut key salt out = if (subkeyLawful key salt out) (put out 0 (subkey key salt)) out
+subkeyOut key salt out = cond (subkeyLawful key salt out) (put out 0 (subkey key salt)) out
 
 -- the length of a sealed datagram, and 0 for a refusal
 abbrev pub sealedNumber : Sealed → ℕ

@@ -1,6 +1,6 @@
 -- The key words of the subkey's context, computed; what a derivation answers.
 -- Assumes nothing.
-use mathlib.Core.Bool.{Bool, true, false}
+use mathlib.Core.Bool.{Bool, true, false, _&&_}
 use mathlib.Core.Path.{_≡_, refl, sym, ap, _∙_}
 use mathlib.Core.List.{List, [], _∷_}
 use Prim.Native.Nat.{ℕ, _<_, _≤_}
@@ -8,7 +8,7 @@ use borrow.Author.Tests.{le-leb, lt-leb}
 use lib.Dec.{leb}
 use lib.ListN.{length, replicate}
 use Rattle.octets.specs.Numbers.{le}
-use Rattle.octets.specs.Buffers.{Octets, both}
+use Rattle.octets.specs.Buffers.{Octets}
 use Rattle.blake3_mixing.specs.Mixing.{add32, sum3, rotr, xor}
 use Rattle.blake3_compression.specs.Compression.{firstEight}
 use Rattle.blake3.specs.Words.{blockWords}
@@ -50,7 +50,7 @@ octets-deriveKey context material = octets-output (rootOf (contextKey context) 6
 
 -- ---- the answers
 
-both-false : (x : Bool) → both x false ≡ false
+both-false : (x : Bool) → (x && false) ≡ false
 both-false true = refl
 both-false false = refl
 
@@ -58,19 +58,19 @@ module _ (context material : List ℕ) where
   pub refused-context : 64 < length context → record { ok = false; bytes = replicate 64 0 } ≡ derived context material
   unfolding derived short
   refused-context p =
-      sym (ap (λ (x : Bool). answer (both x (leb (length material) 64)) (deriveKey context material)) (lt-leb (length context) 64 p))
+      sym (ap (λ (x : Bool). answer (x && leb (length material) 64) (deriveKey context material)) (lt-leb (length context) 64 p))
 
   pub refused-material : 64 < length material → record { ok = false; bytes = replicate 64 0 } ≡ derived context material
   unfolding derived short
   refused-material p =
-      sym (ap (λ (x : Bool). answer (both (leb (length context) 64) x) (deriveKey context material)) (lt-leb (length material) 64 p)
+      sym (ap (λ (x : Bool). answer (leb (length context) 64 && x) (deriveKey context material)) (lt-leb (length material) 64 p)
       ∙ ap (λ (x : Bool). answer x (deriveKey context material)) (both-false (leb (length context) 64)))
 
   pub derived-short : length context ≤ 64 → length material ≤ 64
       → record { ok = true; bytes = deriveKey context material } ≡ derived context material
   unfolding derived short
   derived-short p q =
-      sym (λ i. answer (both (le-leb (length context) 64 p i) (le-leb (length material) 64 q i)) (deriveKey context material))
+      sym (λ i. answer (le-leb (length context) 64 p i && le-leb (length material) 64 q i) (deriveKey context material))
 
   -- as the code has it, from the context's key words k
   pub derived-at : {k s : List ℕ} → length context ≤ 64 → length material ≤ 64 → k ≡ contextKey context → s ≡ deriveAt k material

@@ -1,16 +1,15 @@
 -- Key derivation from a context and key material of one block each: what is answered; and the context of a subkey.
-use mathlib.Core.Bool.{Bool, true, false}
+use mathlib.Core.Bool.{Bool, true, false, _&&_}
 use mathlib.Core.List.{List, [], _∷_}
 use Prim.Native.Nat.{ℕ}
 use lib.Dec.{leb}
 use lib.ListN.{length, replicate}
-use Rattle.octets.specs.Buffers.{both}
 use Rattle.blake3.specs.Tree.{deriveKey}
 use Rattle.blake3.specs.declared.Derived.{Derived}
 
 -- each is at most 64 bytes long
 unfoldable pub short : List ℕ → List ℕ → Bool
-short context material = both (leb (length context) 64) (leb (length material) 64)
+short context material = leb (length context) 64 && leb (length material) 64
 
 -- the bytes, or a refusal
 abbrev pub answer : Bool → List ℕ → Derived

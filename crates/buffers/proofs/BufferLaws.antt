@@ -1,6 +1,6 @@
 -- Laws of byte strings: exclusive or, bytes, what is put into a buffer, comparison.
 -- Assumes nothing.
-use mathlib.Core.Bool.{Bool, true, false}
+use mathlib.Core.Bool.{Bool, true, false, _&&_}
 use mathlib.Core.Path.{_≡_, refl, sym, ap, ap₂, _∙_, subst}
 use mathlib.Core.List.{List, [], _∷_, _++_, append-assoc, append-nil}
 use Prim.Native.Nat.{ℕ, zero, suc, _+_, _-_, _≤_, _<_, min}
@@ -15,7 +15,7 @@ use borrow.Author.Tests.{eq-eqb, ne-eqb, eqb-true, eqb-false}
 use lib.Dec.{T, eqb, eqb→eq, eqb-refl, lit<}
 use lib.ListN.{length, getD, take, drop, set, replicate, length-append, length-drop, drop-of-length-le}
 use lib.Seq.{getD-drop, take-at, drop-at, drop-drop, length-take-le, append-snoc, set-split, paste-zero, take-suc, take-length, take-all, take-nil}
-use Rattle.buffers.specs.Buffers.{Octets, put, _⊞_, both, same}
+use Rattle.buffers.specs.Buffers.{Octets, put, _⊞_, same}
 use Rattle.buffers.proofs.XorLaws.{xor-cancel, xor-zero}
 
 -- ---- bytes
@@ -240,7 +240,7 @@ unfolding same
 same-refl [] = tt
 same-refl (a ∷ s) = go (eqb a a) (eqb-refl a) (same-refl s)
   where
-    go : (b : Bool) → T b → T (same s s) → T (both b (same s s))
+    go : (b : Bool) → T b → T (same s s) → T (b && same s s)
     go true t p = p
     go false t p = t
 
@@ -251,38 +251,38 @@ same-eq [] (b ∷ t) p = absurd p
 same-eq (a ∷ s) [] p = absurd p
 same-eq (a ∷ s) (b ∷ t) p = go (eqb a b) (eqb→eq a b) (same-eq s t) p
   where
-    go : (x : Bool) → (T x → a ≡ b) → (T (same s t) → s ≡ t) → T (both x (same s t)) → a ∷ s ≡ b ∷ t
+    go : (x : Bool) → (T x → a ≡ b) → (T (same s t) → s ≡ t) → T (x && same s t) → a ∷ s ≡ b ∷ t
     go true e f q = ap₂ (λ (n : ℕ) (l : List ℕ). n ∷ l) (e tt) (f q)
     go false e f q = absurd q
 
-both-true : (x : Bool) → both x true ≡ x
+both-true : (x : Bool) → (x && true) ≡ x
 both-true true = refl
 both-true false = refl
 
-both-assoc : (x y z : Bool) → both x (both y z) ≡ both (both x y) z
+both-assoc : (x y z : Bool) → (x && (y && z)) ≡ ((x && y) && z)
 both-assoc true y z = refl
 both-assoc false y z = refl
 
 -- one more byte
 same-suc : (s t : List ℕ) (i : ℕ) → i < length s → i < length t
-    → same (take (suc i) s) (take (suc i) t) ≡ both (same (take i s) (take i t)) (eqb (getD s i 0) (getD t i 0))
+    → same (take (suc i) s) (take (suc i) t) ≡ (same (take i s) (take i t) && eqb (getD s i 0) (getD t i 0))
 unfolding same
 same-suc [] t i h l = absurd (not-suc-le-zero h)
 same-suc (a ∷ s) [] i h l = absurd (not-suc-le-zero l)
 same-suc (a ∷ s) (b ∷ t) zero h l = both-true (eqb a b)
 same-suc (a ∷ s) (b ∷ t) (suc i) h l =
-    ap (both (eqb a b)) (same-suc s t i (le-of-suc-le-suc h) (le-of-suc-le-suc l))
+    ap (_&&_ (eqb a b)) (same-suc s t i (le-of-suc-le-suc h) (le-of-suc-le-suc l))
     ∙ both-assoc (eqb a b) (same (take i s) (take i t)) (eqb (getD s i 0) (getD t i 0))
 
 pub same-next : (s t : List ℕ) (i : ℕ) → i < length s → i < length t
-    → same (take (i + 1) s) (take (i + 1) t) ≡ both (same (take i s) (take i t)) (eqb (getD s i 0) (getD t i 0))
+    → same (take (i + 1) s) (take (i + 1) t) ≡ (same (take i s) (take i t) && eqb (getD s i 0) (getD t i 0))
 same-next s t i h l = ap (λ (n : ℕ). same (take n s) (take n t)) (add-one i) ∙ same-suc s t i h l
 
 -- the differences so far, or that of two more bytes: none if there was none and the two are equal
-pub no-difference : (d a b : ℕ) → eqb (bitOr d (bitXor a b)) 0 ≡ both (eqb d 0) (eqb a b)
+pub no-difference : (d a b : ℕ) → eqb (bitOr d (bitXor a b)) 0 ≡ (eqb d 0 && eqb a b)
 no-difference d a b = go (eqb d 0) (eqb a b) refl refl
   where
-    go : (x y : Bool) → eqb d 0 ≡ x → eqb a b ≡ y → eqb (bitOr d (bitXor a b)) 0 ≡ both x y
+    go : (x y : Bool) → eqb d 0 ≡ x → eqb a b ≡ y → eqb (bitOr d (bitXor a b)) 0 ≡ (x && y)
     go true true p q =
         eq-eqb (bitOr d (bitXor a b)) 0
         (ap₂ (λ (m n : ℕ). bitOr m (bitXor n b)) (eqb-true d 0 p) (eqb-true a b q) ∙ or-zero-l (bitXor b b) ∙ xor-self b)

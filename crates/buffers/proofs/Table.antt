@@ -1,19 +1,18 @@
 -- The rule of a table: one test that antt computes at each entry, and the rule at every entry.
 -- Assumes nothing.
 use mathlib.Core.Path.{_≡_, _∙_, subst, sym}
-use mathlib.Core.Bool.{Bool, true, false}
+use mathlib.Core.Bool.{Bool, true, false, _&&_}
 use mathlib.Core.List.{List, [], _∷_}
 use Prim.Native.Nat.{ℕ, zero, suc, _+_, _<_}
 use native.Mathlib.Nat.{add-zero, zero-add, add-suc, suc-add, le-of-suc-le-suc, not-suc-le-zero}
 use lib.Dec.{T, eqb, eqb→eq}
 use lib.ListN.{length, getD}
-use Rattle.buffers.specs.Buffers.{both}
 
-both-left : (a b : Bool) → T (both a b) → T a
+both-left : (a b : Bool) → T (a && b) → T a
 both-left true b t = tt
 both-left false b t = t
 
-both-right : (a b : Bool) → T (both a b) → T b
+both-right : (a b : Bool) → T (a && b) → T b
 both-right true b t = t
 both-right false b t = absurd t
 
@@ -22,7 +21,7 @@ both-right false b t = absurd t
 -- the test f passes at each of the n numbers from i on
 abbrev pub passes : (ℕ → Bool) → ℕ → ℕ → Bool
 passes f zero i = true
-passes f (suc n) i = both (f i) (passes f n (suc i))
+passes f (suc n) i = f i && passes f n (suc i)
 
 passes-from : (f : ℕ → Bool) (n i : ℕ) → T (passes f n i) → (k : ℕ) → k < n → T (f (i + k))
 passes-from f zero i t k h = absurd (not-suc-le-zero h)
@@ -39,7 +38,7 @@ at-each n f t k h = subst (λ (m : ℕ). T (f m)) (zero-add k) (passes-from f n 
 -- each entry is what f says of its place, counted from i
 abbrev pub holds : (ℕ → ℕ) → ℕ → List ℕ → Bool
 holds f i [] = true
-holds f i (x ∷ xs) = both (eqb x (f i)) (holds f (suc i) xs)
+holds f i (x ∷ xs) = eqb x (f i) && holds f (suc i) xs
 
 holds-from : (f : ℕ → ℕ) (xs : List ℕ) (i : ℕ) → T (holds f i xs) → (k : ℕ) → k < length xs → getD xs k 0 ≡ f (i + k)
 holds-from f [] i t k h = absurd (not-suc-le-zero h)

@@ -1,5 +1,5 @@
 -- Byte strings: what is written into a buffer, exclusive or, comparison.
-use mathlib.Core.Bool.{Bool, true, false}
+use mathlib.Core.Bool.{Bool, true, false, _&&_}
 use mathlib.Core.List.{List, [], _∷_, _++_}
 use Prim.Native.Nat.{ℕ, _+_, _/_, _<_}
 use lib.Bits.{bitXor}
@@ -25,14 +25,9 @@ unfoldable pub _⊞_ : List ℕ → List ℕ → List ℕ
 abbrev pub blockCount : List ℕ → ℕ
 blockCount s = (length s + 15) / 16
 
--- both tests
-abbrev pub both : Bool → Bool → Bool
-both true b = b
-both false b = false
-
 -- s and t are the same string
 unfoldable pub same : List ℕ → List ℕ → Bool
 same [] [] = true
 same [] (b ∷ t) = false
 same (a ∷ s) [] = false
-same (a ∷ s) (b ∷ t) = both (eqb a b) (same s t)
+same (a ∷ s) (b ∷ t) = eqb a b && same s t

@@ -1,7 +1,7 @@
 -- GCTR block by block, in place; that it keeps the length and undoes itself; AES in counter mode.
 -- Assumes nothing.
 use mathlib.Core.Path.{_≡_, refl, sym, ap, ap₂, _∙_, subst}
-use mathlib.Core.Bool.{Bool, true, false}
+use mathlib.Core.Bool.{Bool, true, false, cond}
 use mathlib.Core.List.{List, [], _∷_, _++_, map, append-assoc, append-nil}
 use mathlib.Core.Logic.{_⊎_, inl, inr}
 use Prim.Native.Nat.{ℕ, zero, suc, _+_, _-_, _*_, _/_, _%_, _^_, _≤_, _<_, min}
@@ -14,7 +14,7 @@ use lib.Seq.{take-at, drop-at, take-all, drop-drop}
 use Rattle.octets.specs.Buffers.{blockCount, put, _⊞_}
 use Rattle.octets.proofs.BufferLaws.{length-xor, xor-twice, length-put, take-put-min, drop-put-min}
 use Rattle.octets.specs.Numbers.{toBe}
-use Rattle.aes.specs.KeyExpansion.{if, keyExpansion}
+use Rattle.aes.specs.KeyExpansion.{keyExpansion}
 use Rattle.aes.specs.Keyed.{nkOf, lawful}
 use Rattle.aes.specs.Words.{bytes}
 use Rattle.aes.proofs.KeyedLaws.{cipher-aes}
@@ -166,7 +166,7 @@ ciph-aes nk key w e = λ i x. cipher-aes nk key w e (toBe 16 x) i
 module _ (key nonce : List ℕ) (c : ℕ) (s : List ℕ) where
   pub ctr-refused : lawful 12 key nonce ≡ false → s ≡ aesCtr key nonce c s
   unfolding aesCtr
-  ctr-refused e = sym (ap (λ (b : Bool). if b (gctr (aesBlock (nkOf (length key)) key) (counterBlock nonce c) s) s) e)
+  ctr-refused e = sym (ap (λ (b : Bool). cond b (gctr (aesBlock (nkOf (length key)) key) (counterBlock nonce c) s) s) e)
 
   pub ctr-done : lawful 12 key nonce ≡ true → (o : List ℕ) (nk : ℕ) (w m : List ℕ) → nk ≡ nkOf (length key)
       → map bytes (take (4 * nk + 28) w) ≡ keyExpansion nk key → m ≡ nonce
@@ -174,4 +174,4 @@ module _ (key nonce : List ℕ) (c : ℕ) (s : List ℕ) where
   unfolding aesCtr
   ctr-done e o nk w m en ew em eo =
       eo ∙ (λ i. gctr (ciph-aes nk key w ew i) (counterBlock (em i) c) s) ∙ (λ i. gctr (aesBlock (en i) key) (counterBlock nonce c) s)
-      ∙ sym (ap (λ (b : Bool). if b (gctr (aesBlock (nkOf (length key)) key) (counterBlock nonce c) s) s) e)
+      ∙ sym (ap (λ (b : Bool). cond b (gctr (aesBlock (nkOf (length key)) key) (counterBlock nonce c) s) s) e)

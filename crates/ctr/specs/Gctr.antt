@@ -1,5 +1,6 @@
 -- SP 800-38D, sections 6.2 and 6.5: the counter and GCTR. A block of 128 bits is the number below 2^128 whose binary digits
 -- it is, the first bit highest; its bytes are toBe 16 of it.
+use mathlib.Core.Bool.{cond}
 use mathlib.Core.List.{List, [], _++_, map}
 use Prim.Native.Nat.{ℕ, zero, suc, _+_, _*_, _/_, _%_, _^_}
 use lib.ListN.{length, take, drop}
@@ -7,7 +8,7 @@ use Rattle.octets.specs.Buffers.{blockCount, _⊞_}
 use Rattle.octets.specs.Numbers.{be, toBe}
 use Rattle.aes.specs.Cipher.{cipher}
 use Rattle.aes.specs.Words.{bytes}
-use Rattle.aes.specs.KeyExpansion.{if, aes}
+use Rattle.aes.specs.KeyExpansion.{aes}
 use Rattle.aes.specs.Keyed.{nkOf, lawful}
 
 -- 6.2: the low 32 bits go up by one, modulo 2^32
@@ -36,4 +37,4 @@ counterBlock nonce c = be 12 nonce * 2 ^ 32 + c
 
 -- AES in counter mode, from the counter c on; s as it was where key or nonce has a wrong length
 unfoldable pub aesCtr : List ℕ → List ℕ → ℕ → List ℕ → List ℕ
-aesCtr key nonce c s = if (lawful 12 key nonce) (gctr (aesBlock (nkOf (length key)) key) (counterBlock nonce c) s) s
+aesCtr key nonce c s = cond (lawful 12 key nonce) (gctr (aesBlock (nkOf (length key)) key) (counterBlock nonce c) s) s

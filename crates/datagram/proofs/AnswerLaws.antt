@@ -1,7 +1,7 @@
 -- What sealing answers: one law for each way out, and what an answered length tells.
 -- Assumes nothing.
 use mathlib.Core.Path.{_≡_, refl, sym, ap, ap₂, _∙_}
-use mathlib.Core.Bool.{Bool, true, false}
+use mathlib.Core.Bool.{Bool, true, false, cond, _&&_}
 use mathlib.Core.List.{List}
 use Prim.Native.Nat.{ℕ, _+_, _-_, _^_, _≤_, _<_}
 use native.Mathlib.Decide.{decLe}
@@ -9,8 +9,7 @@ use native.Mathlib.Omega.{arith}
 use lib.Dec.{T, eqb, leb, leb→le}
 use lib.ListN.{length}
 use borrow.Author.Tests.{eq-eqb, ne-eqb, le-leb, lt-leb, leb-true, eqb-false}
-use Rattle.octets.specs.Buffers.{both}
-use Rattle.aes.specs.Keyed.{pick, nkOf}
+use Rattle.aes.specs.Keyed.{nkOf}
 use Rattle.protocol.specs.declared.Refusal.{Refusal}
 use Rattle.protocol.specs.declared.Refusal.the-variants.{Settings, Length, Room, Counter, Argument}
 use Rattle.protocol.specs.Method.{keyFits}
@@ -23,7 +22,7 @@ use Rattle.datagram.specs.declared.Sealed.{Sealed}
 use Rattle.datagram.specs.declared.Sealed.the-variants.{Datagram, Refused}
 use Rattle.datagram_parts.specs.Headers.{fixedLength}
 use Rattle.datagram_parts.specs.Parts.{maxDatagram}
-use Rattle.datagram.specs.Sealing.{pickBegun, begun, differs, sealedLength, capped, pickSealed, lengthAnswer, argumentAnswer, sealAnswer, idsDiffer, packetsOf}
+use Rattle.datagram.specs.Sealing.{begun, differs, sealedLength, capped, lengthAnswer, argumentAnswer, sealAnswer, idsDiffer, packetsOf}
 use Rattle.datagram_parts.proofs.SubkeyLaws.{key-of-method}
 
 -- ---- beginning
@@ -31,11 +30,11 @@ use Rattle.datagram_parts.proofs.SubkeyLaws.{key-of-method}
 module _ (id client : ℕ) where
   pub begun-refused : id ≡ client → NotBegun Argument ≡ begun id client
   begun-refused e =
-      sym (ap (λ (b : Bool). pickBegun b (NotBegun Argument) (Ready (record { side = Server client; id = id; packet = 0 }))) (eq-eqb id client e))
+      sym (ap (λ (b : Bool). cond b (NotBegun Argument) (Ready (record { side = Server client; id = id; packet = 0 }))) (eq-eqb id client e))
 
   pub begun-ready : (id ≡ client → ⊥) → Ready (record { side = Server client; id = id; packet = 0 }) ≡ begun id client
   begun-ready f =
-      sym (ap (λ (b : Bool). pickBegun b (NotBegun Argument) (Ready (record { side = Server client; id = id; packet = 0 }))) (ne-eqb id client f))
+      sym (ap (λ (b : Bool). cond b (NotBegun Argument) (Ready (record { side = Server client; id = id; packet = 0 }))) (ne-eqb id client f))
 
 -- the side that was found
 pub differs-law : (id : ℕ) (p q : Side) → p ≡ q → differs q id ≡ differs p id
@@ -45,11 +44,11 @@ differs-law id p q e = ap (λ (side : Side). differs side id) (sym e)
 
 pub capped-over : (n x : ℕ) → maxDatagram < x → x ≤ n → 0 ≡ capped n
 unfolding capped
-capped-over n x h l = let m : maxDatagram < n = omega arith in sym (ap (λ (b : Bool). pick b n 0) (lt-leb n maxDatagram m))
+capped-over n x h l = let m : maxDatagram < n = omega arith in sym (ap (λ (b : Bool). cond b n 0) (lt-leb n maxDatagram m))
 
 pub capped-within : (n : ℕ) → n ≤ maxDatagram → n ≡ capped n
 unfolding capped
-capped-within n h = sym (ap (λ (b : Bool). pick b n 0) (le-leb n maxDatagram h))
+capped-within n h = sym (ap (λ (b : Bool). cond b n 0) (le-leb n maxDatagram h))
 
 module _ (side : Side) (address padding payload : ℕ) where
   -- a part that is too long by itself
@@ -72,7 +71,7 @@ capped-is : (n : ℕ) → (capped n ≡ 0 → ⊥) → (capped n ≡ n) × (n �
 unfolding capped
 capped-is n f = go (leb n maxDatagram) refl (leb→le n maxDatagram) f
   where
-    go : (b : Bool) → leb n maxDatagram ≡ b → (T b → n ≤ maxDatagram) → (pick b n 0 ≡ 0 → ⊥) → (pick b n 0 ≡ n) × (n ≤ maxDatagram)
+    go : (b : Bool) → leb n maxDatagram ≡ b → (T b → n ≤ maxDatagram) → (cond b n 0 ≡ 0 → ⊥) → (cond b n 0 ≡ n) × (n ≤ maxDatagram)
     go true e l g = (refl, l tt)
     go false e l g = absurd (g refl)
 
@@ -80,10 +79,10 @@ capped-is n f = go (leb n maxDatagram) refl (leb→le n maxDatagram) f
 
 module _ (packet n room : ℕ) where
   length-decided : (a b c : Bool) → eqb packet (2 ^ 64 - 1) ≡ a → eqb n 0 ≡ b → leb n room ≡ c
-      → pickSealed a (Refused Counter) (pickSealed b (Refused Length) (pickSealed c (Datagram n) (Refused Room))) ≡ lengthAnswer packet n room
+      → cond a (Refused Counter) (cond b (Refused Length) (cond c (Datagram n) (Refused Room))) ≡ lengthAnswer packet n room
   unfolding lengthAnswer
   length-decided a b c ea eb ec =
-      λ i. pickSealed (sym ea i) (Refused Counter) (pickSealed (sym eb i) (Refused Length) (pickSealed (sym ec i) (Datagram n) (Refused Room)))
+      λ i. cond (sym ea i) (Refused Counter) (cond (sym eb i) (Refused Length) (cond (sym ec i) (Datagram n) (Refused Room)))
 
   pub counter-used : packet ≡ 2 ^ 64 - 1 → Refused Counter ≡ lengthAnswer packet n room
   counter-used h = length-decided true (eqb n 0) (leb n room) (eq-eqb packet (2 ^ 64 - 1) h) refl refl
@@ -98,36 +97,36 @@ module _ (packet n room : ℕ) where
   fitting f z h = length-decided false false true (ne-eqb packet (2 ^ 64 - 1) f) (ne-eqb n 0 z) (le-leb n room h)
 
 module _ (sender : Sender) (address : List ℕ) (padding payload room : ℕ) where
-  argument-decided : (b : Bool) → both (isAddress address) (idsDiffer sender) ≡ b
-      → pickSealed b (lengthAnswer (sender .packet) (capped (sealedLength (sender .side) (length address) padding payload)) room) (Refused Argument)
+  argument-decided : (b : Bool) → (isAddress address && idsDiffer sender) ≡ b
+      → cond b (lengthAnswer (sender .packet) (capped (sealedLength (sender .side) (length address) padding payload)) room) (Refused Argument)
       ≡ argumentAnswer sender address padding payload room
   unfolding argumentAnswer
   argument-decided b e =
       ap
-      (λ (x : Bool). pickSealed x (lengthAnswer (sender .packet) (capped (sealedLength (sender .side) (length address) padding payload)) room) (Refused Argument))
+      (λ (x : Bool). cond x (lengthAnswer (sender .packet) (capped (sealedLength (sender .side) (length address) padding payload)) room) (Refused Argument))
       (sym e)
 
   pub no-address : isAddress address ≡ false → Refused Argument ≡ argumentAnswer sender address padding payload room
-  no-address e = argument-decided false (ap (λ (b : Bool). both b (idsDiffer sender)) e)
+  no-address e = argument-decided false (ap (λ (b : Bool). b && idsDiffer sender) e)
 
   pub same-ids : isAddress address ≡ true → idsDiffer sender ≡ false → Refused Argument ≡ argumentAnswer sender address padding payload room
-  same-ids e f = argument-decided false (ap₂ both e f)
+  same-ids e f = argument-decided false (ap₂ _&&_ e f)
 
   pub good-argument : isAddress address ≡ true → idsDiffer sender ≡ true → (n : ℕ)
       → n ≡ capped (sealedLength (sender .side) (length address) padding payload) → (r : Sealed) → r ≡ lengthAnswer (sender .packet) n room
       → r ≡ argumentAnswer sender address padding payload room
   good-argument e f n en r er =
-      er ∙ ap (λ (m : ℕ). lengthAnswer (sender .packet) m room) en ∙ argument-decided true (ap₂ both e f)
+      er ∙ ap (λ (m : ℕ). lengthAnswer (sender .packet) m room) en ∙ argument-decided true (ap₂ _&&_ e f)
 
 module _ (method k : ℕ) (sender : Sender) (address : List ℕ) (padding payload room : ℕ) where
   pub unlawful : keyFits method k ≡ false → Refused Settings ≡ sealAnswer method k sender address padding payload room
   unfolding sealAnswer
-  unlawful e = ap (λ (b : Bool). pickSealed b (argumentAnswer sender address padding payload room) (Refused Settings)) (sym e)
+  unlawful e = ap (λ (b : Bool). cond b (argumentAnswer sender address padding payload room) (Refused Settings)) (sym e)
 
   pub lawful : keyFits method k ≡ true → (r : Sealed) → r ≡ argumentAnswer sender address padding payload room
       → r ≡ sealAnswer method k sender address padding payload room
   unfolding sealAnswer
-  lawful e r er = er ∙ ap (λ (b : Bool). pickSealed b (argumentAnswer sender address padding payload room) (Refused Settings)) (sym e)
+  lawful e r er = er ∙ ap (λ (b : Bool). cond b (argumentAnswer sender address padding payload room) (Refused Settings)) (sym e)
 
 -- ---- what a length that was answered tells
 
@@ -147,15 +146,15 @@ lengthOf (Refused r) = 0
 not-refused : (r : Refusal) (n : ℕ) → Refused r ≡ Datagram n → ⊥
 not-refused r n e = let z : _≡_ {A = ℕ} 0 1 = ap packetsOf e in omega arith
 
-passed : (b : Bool) (x : Sealed) (r : Refusal) (n : ℕ) → pickSealed b x (Refused r) ≡ Datagram n → (b ≡ true) × (x ≡ Datagram n)
+passed : (b : Bool) (x : Sealed) (r : Refusal) (n : ℕ) → cond b x (Refused r) ≡ Datagram n → (b ≡ true) × (x ≡ Datagram n)
 passed true x r n e = (refl, e)
 passed false x r n e = absurd (not-refused r n e)
 
-escaped : (b : Bool) (x : Sealed) (r : Refusal) (n : ℕ) → pickSealed b (Refused r) x ≡ Datagram n → (b ≡ false) × (x ≡ Datagram n)
+escaped : (b : Bool) (x : Sealed) (r : Refusal) (n : ℕ) → cond b (Refused r) x ≡ Datagram n → (b ≡ false) × (x ≡ Datagram n)
 escaped true x r n e = absurd (not-refused r n e)
 escaped false x r n e = (refl, e)
 
-both-true : (a b : Bool) → both a b ≡ true → a ≡ true
+both-true : (a b : Bool) → (a && b) ≡ true → a ≡ true
 both-true true b e = refl
 both-true false b e = e
 
@@ -165,7 +164,7 @@ module _ (method k : ℕ) (sender : Sender) (address : List ℕ) (padding payloa
   sealable e =
       let s = sealedLength (sender .side) (length address) padding payload in
       let e₁ = passed (keyFits method k) _ _ n e in
-      let e₂ = passed (both (isAddress address) (idsDiffer sender)) _ _ n (e₁ .1) in
+      let e₂ = passed (isAddress address && idsDiffer sender) _ _ n (e₁ .1) in
       let e₃ = escaped (eqb (sender .packet) (2 ^ 64 - 1)) _ _ n (e₂ .1) in
       let e₄ = escaped (eqb (capped s) 0) _ _ n (e₃ .1) in
       let e₅ = passed (leb (capped s) room) _ _ n (e₄ .1) in

@@ -1,11 +1,10 @@
 -- Sending sessions, and sealing datagrams (SIP022, section 3.2): what is answered and what is written.
-use mathlib.Core.Bool.{Bool, true, false, not}
+use mathlib.Core.Bool.{Bool, true, cond, not, _&&_}
 use mathlib.Core.List.{List, _++_}
 use Prim.Native.Nat.{ℕ, _+_, _-_, _^_}
 use lib.Dec.{eqb, leb}
 use lib.ListN.{length}
-use Rattle.octets.specs.Buffers.{both, put}
-use Rattle.aes.specs.Keyed.{pick}
+use Rattle.octets.specs.Buffers.{put}
 use Rattle.protocol.specs.declared.Refusal.the-variants.{Settings, Length, Room, Counter, Argument}
 use Rattle.protocol.specs.Method.{keyFits}
 use Rattle.socks5.specs.Address.{isAddress}
@@ -24,13 +23,9 @@ use Rattle.datagram_parts.specs.Parts.{maxDatagram, separateBlock, sealBody}
 abbrev pub clientSender : ℕ → Sender
 clientSender id = record { side = Client; id = id; packet = 0 }
 
-abbrev pub pickBegun : Bool → Begun → Begun → Begun
-pickBegun true a b = a
-pickBegun false a b = b
-
 -- a server's ID is not its client's
 abbrev pub begun : ℕ → ℕ → Begun
-begun id client = pickBegun (eqb id client) (NotBegun Argument) (Ready (record { side = Server client; id = id; packet = 0 }))
+begun id client = cond (eqb id client) (NotBegun Argument) (Ready (record { side = Server client; id = id; packet = 0 }))
 
 abbrev pub differs : Side → ℕ → Bool
 differs Client id = true
@@ -47,28 +42,24 @@ sealedLength side address padding payload = fixedLength side + padding + address
 
 -- a length, and 0 for one that no datagram has
 unfoldable pub capped : ℕ → ℕ
-capped n = pick (leb n maxDatagram) n 0
-
-abbrev pub pickSealed : Bool → Sealed → Sealed → Sealed
-pickSealed true a b = a
-pickSealed false a b = b
+capped n = cond (leb n maxDatagram) n 0
 
 -- refusals 11, 2 and 3, of a capped length
 unfoldable pub lengthAnswer : ℕ → ℕ → ℕ → Sealed
 lengthAnswer packet n room =
-    pickSealed (eqb packet (2 ^ 64 - 1)) (Refused Counter)
-    (pickSealed (eqb n 0) (Refused Length) (pickSealed (leb n room) (Datagram n) (Refused Room)))
+    cond (eqb packet (2 ^ 64 - 1)) (Refused Counter)
+    (cond (eqb n 0) (Refused Length) (cond (leb n room) (Datagram n) (Refused Room)))
 
 -- refusal 12, and those behind it
 unfoldable pub argumentAnswer : Sender → List ℕ → ℕ → ℕ → ℕ → Sealed
 argumentAnswer sender address padding payload room =
-    pickSealed (both (isAddress address) (idsDiffer sender))
+    cond (isAddress address && idsDiffer sender)
     (lengthAnswer (sender .packet) (capped (sealedLength (sender .side) (length address) padding payload)) room) (Refused Argument)
 
 -- refusal 1, and those behind it; a key of k bytes, a payload of that length, and the room
 unfoldable pub sealAnswer : ℕ → ℕ → Sender → List ℕ → ℕ → ℕ → ℕ → Sealed
 sealAnswer method k sender address padding payload room =
-    pickSealed (keyFits method k) (argumentAnswer sender address padding payload room) (Refused Settings)
+    cond (keyFits method k) (argumentAnswer sender address padding payload room) (Refused Settings)
 
 -- ---- what becomes of the sending session: one packet further for each datagram
 

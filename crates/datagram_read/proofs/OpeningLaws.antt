@@ -1,7 +1,7 @@
 -- Opening a datagram: a law for each way out of each function.
 -- Assumes nothing.
 use mathlib.Core.Path.{_≡_, refl, sym, ap, ap₂, _∙_, subst}
-use mathlib.Core.Bool.{Bool, true, false}
+use mathlib.Core.Bool.{Bool, true, false, cond, _&&_}
 use mathlib.Core.List.{List}
 use Prim.Native.Nat.{ℕ, _+_, _-_, _<_, _≤_}
 use native.Mathlib.Nat.{zero-add}
@@ -10,10 +10,9 @@ use lib.Dec.{eqb, leb}
 use lib.ListN.{length, getD, take, drop, replicate, length-drop}
 use lib.Seq.{length-take-le}
 use borrow.Author.Tests.{eq-eqb, ne-eqb, le-leb, lt-leb}
-use Rattle.octets.specs.Buffers.{both, put}
+use Rattle.octets.specs.Buffers.{put}
 use Rattle.octets.specs.Numbers.{be}
 use Rattle.octets.proofs.BufferLaws.{rest, put-whole, take-put}
-use Rattle.aes.specs.KeyExpansion.{if}
 use Rattle.aes.specs.Keyed.{nkOf, inPlace}
 use Rattle.aes.proofs.KeyedLaws.{in-place-lawful}
 use Rattle.aes_inverse.specs.InvCipher.{invAes}
@@ -39,7 +38,7 @@ use Rattle.datagram_parts.proofs.LengthLaws.{length-nonce}
 use Rattle.datagram_parts.proofs.SubkeyLaws.{length-session-subkey, subkey-front, header-nonce}
 use Rattle.datagram_read.specs.declared.Opened.{Opened}
 use Rattle.datagram_read.specs.declared.Opened.the-variants.{Datagram, Refused}
-use Rattle.datagram_read.specs.Opening.{separateOf, sessionOf, packetOf, bodyAuthentic, bodyText, pickOpened, timeOf, paddingOf, meant, headerWith, readAddress, readMain, lengthLawful, readBody, readAnswer, settled, bodyOut, readOut}
+use Rattle.datagram_read.specs.Opening.{separateOf, sessionOf, packetOf, bodyAuthentic, bodyText, timeOf, paddingOf, meant, headerWith, readAddress, readMain, lengthLawful, readBody, readAnswer, settled, bodyOut, readOut}
 
 -- ---- the separate header
 
@@ -64,7 +63,7 @@ module _ (key s : List ℕ) where
 -- GCM's answer and what it leaves in the buffer, by the body's tag
 pub record BodyOpened (key : List ℕ) (id packet : ℕ) (body out : List ℕ) (a : Answer) (o : List ℕ) : Type 0 where
   pub answers : answer true (bodyAuthentic key id packet body) ≡ a
-  pub leaves : if (bodyAuthentic key id packet body) (put out 0 (bodyText key id packet body)) out ≡ o
+  pub leaves : cond (bodyAuthentic key id packet body) (put out 0 (bodyText key id packet body)) out ≡ o
 
 module _ (key : List ℕ) (id packet : ℕ) (body out : List ℕ) where
   -- under the subkey and the nonce, from the buffers that hold them
@@ -87,8 +86,8 @@ module _ (key : List ℕ) (id packet : ℕ) (body out : List ℕ) where
 
   module _ (a : Answer) (o : List ℕ) (d : BodyOpened key id packet body out a o) where
     body-decided : (b : Bool) → bodyAuthentic key id packet body ≡ b
-        → (b ≡ bodyAuthentic key id packet body) × (o ≡ if b (put out 0 (bodyText key id packet body)) out)
-    body-decided b e = (sym e, sym (d .leaves) ∙ ap (λ (t : Bool). if t (put out 0 (bodyText key id packet body)) out) e)
+        → (b ≡ bodyAuthentic key id packet body) × (o ≡ cond b (put out 0 (bodyText key id packet body)) out)
+    body-decided b e = (sym e, sym (d .leaves) ∙ ap (λ (t : Bool). cond t (put out 0 (bodyText key id packet body)) out) e)
 
     pub body-text : a ≡ Text → (true ≡ bodyAuthentic key id packet body) × (o ≡ put out 0 (bodyText key id packet body))
     body-text e = body-decided true (answer-text (bodyAuthentic key id packet body) (d .answers ∙ e))
@@ -141,15 +140,15 @@ typed-law side plain f x t ef ex et h e =
 module _ (side : Side) (clock id packet : ℕ) (plain : List ℕ) where
   main-at : (a b c d : Bool) → leb (fixedLength side) (length plain) ≡ a → eqb (getD plain 0 0) (typeOf side) ≡ b
       → timeValid (timeOf plain) clock ≡ c → meant side plain ≡ d
-      → pickOpened a
-      (pickOpened b (pickOpened c (pickOpened d (readAddress side id packet plain) (Refused Binding)) (Refused WrongTime)) (Refused WrongType))
+      → cond a
+      (cond b (cond c (cond d (readAddress side id packet plain) (Refused Binding)) (Refused WrongTime)) (Refused WrongType))
       (Refused Malformed)
       ≡ readMain side clock id packet plain
   unfolding readMain
   main-at a b c d ea eb ec ed =
-      λ i. pickOpened (sym ea i)
-      (pickOpened (sym eb i)
-      (pickOpened (sym ec i) (pickOpened (sym ed i) (readAddress side id packet plain) (Refused Binding)) (Refused WrongTime)) (Refused WrongType))
+      λ i. cond (sym ea i)
+      (cond (sym eb i)
+      (cond (sym ec i) (cond (sym ed i) (readAddress side id packet plain) (Refused Binding)) (Refused WrongTime)) (Refused WrongType))
       (Refused Malformed)
 
   module _ (f : ℕ) (ef : f ≡ fixedLength side) where
@@ -181,7 +180,7 @@ pub settled-law : (answer : Opened) (r : Refusal) (due : ℕ) (out o : List ℕ)
 settled-law answer r due out o e eo = eo ∙ ap (λ (a : Opened). settled a due out) (sym e)
 
 module _ (side : Side) (clock : ℕ) (key : List ℕ) (id packet : ℕ) (body out : List ℕ) (b : Bool) (o : List ℕ)
-    (eb : b ≡ bodyAuthentic key id packet body) (eo : o ≡ if b (put out 0 (bodyText key id packet body)) out)
+    (eb : b ≡ bodyAuthentic key id packet body) (eo : o ≡ cond b (put out 0 (bodyText key id packet body)) out)
   where
     pub read-forged : b ≡ false → (Refused NotAuthentic ≡ readBody side clock key id packet body) × (o ≡ bodyOut side clock key id packet body out)
     unfolding readBody bodyOut
@@ -189,9 +188,9 @@ module _ (side : Side) (clock : ℕ) (key : List ℕ) (id packet : ℕ) (body ou
         let f = sym e ∙ eb in
         let text = bodyText key id packet body in
         let main = readMain side clock id packet text in (
-          ap (λ (t : Bool). pickOpened t main (Refused NotAuthentic)) f,
-          eo ∙ ap (λ (t : Bool). if t (put out 0 text) out) e
-              ∙ ap (λ (t : Bool). if t (settled main (length body - 16) (put out 0 text)) out) f,
+          ap (λ (t : Bool). cond t main (Refused NotAuthentic)) f,
+          eo ∙ ap (λ (t : Bool). cond t (put out 0 text) out) e
+              ∙ ap (λ (t : Bool). cond t (settled main (length body - 16) (put out 0 text)) out) f,
         )
 
     -- a plaintext fills what is due
@@ -200,7 +199,7 @@ module _ (side : Side) (clock : ℕ) (key : List ℕ) (id packet : ℕ) (body ou
     text-front room e =
         let text = bodyText key id packet body in
         let l : length text ≡ length body - 16 = length-opened (ciphOf (sessionSubkey key id)) (nonce id packet) body in
-        ap₂ take (sym (zero-add (length text) ∙ l)) (eo ∙ ap (λ (t : Bool). if t (put out 0 text) out) e) ∙ take-put out 0 text (omega arith)
+        ap₂ take (sym (zero-add (length text) ∙ l)) (eo ∙ ap (λ (t : Bool). cond t (put out 0 text) out) e) ∙ take-put out 0 text (omega arith)
 
     pub read-opened : length body - 16 ≤ length out → b ≡ true → (a : Opened) (p : List ℕ)
         → a ≡ readMain side clock id packet (take (length body - 16) o) → p ≡ settled a (length body - 16) o
@@ -211,10 +210,10 @@ module _ (side : Side) (clock : ℕ) (key : List ℕ) (id packet : ℕ) (body ou
         let text = bodyText key id packet body in
         let main = readMain side clock id packet text in
         let am : a ≡ main = ea ∙ ap (readMain side clock id packet) (text-front room e) in
-        let om : o ≡ put out 0 text = eo ∙ ap (λ (t : Bool). if t (put out 0 text) out) e in (
-          am ∙ ap (λ (t : Bool). pickOpened t main (Refused NotAuthentic)) f,
+        let om : o ≡ put out 0 text = eo ∙ ap (λ (t : Bool). cond t (put out 0 text) out) e in (
+          am ∙ ap (λ (t : Bool). cond t main (Refused NotAuthentic)) f,
           ep ∙ (λ i. settled (am i) (length body - 16) (om i))
-              ∙ ap (λ (t : Bool). if t (settled main (length body - 16) (put out 0 text)) out) f,
+              ∙ ap (λ (t : Bool). cond t (settled main (length body - 16) (put out 0 text)) out) f,
         )
 
 -- what follows the separate header
@@ -224,18 +223,18 @@ length-body s = ap length (rest s 16) ∙ length-drop 16 s
 -- by the tests of key, length and room
 module _ (method : ℕ) (key : List ℕ) (side : Side) (clock : ℕ) (s out : List ℕ) (k : Bool) (ek : k ≡ keyFits method (length key)) where
   read-at : (a l r : Bool) → k ≡ a → lengthLawful s ≡ l → leb (length s - 32) (length out) ≡ r
-      → (pickOpened a
-      (pickOpened l (pickOpened r (readBody side clock key (sessionOf key s) (packetOf key s) (drop 16 s)) (Refused Room)) (Refused Length))
+      → (cond a
+      (cond l (cond r (readBody side clock key (sessionOf key s) (packetOf key s) (drop 16 s)) (Refused Room)) (Refused Length))
       (Refused Settings)
       ≡ readAnswer method key side clock s out)
-      × (if (both a (both l r)) (bodyOut side clock key (sessionOf key s) (packetOf key s) (drop 16 s) out) out ≡ readOut method key side clock s out)
+      × (cond (a && (l && r)) (bodyOut side clock key (sessionOf key s) (packetOf key s) (drop 16 s) out) out ≡ readOut method key side clock s out)
   unfolding readAnswer readOut
   read-at a l r ea el er =
       let e = sym ea ∙ ek in (
-        λ i. pickOpened (e i)
-            (pickOpened (sym el i) (pickOpened (sym er i) (readBody side clock key (sessionOf key s) (packetOf key s) (drop 16 s)) (Refused Room))
+        λ i. cond (e i)
+            (cond (sym el i) (cond (sym er i) (readBody side clock key (sessionOf key s) (packetOf key s) (drop 16 s)) (Refused Room))
             (Refused Length)) (Refused Settings),
-        λ i. if (both (e i) (both (sym el i) (sym er i))) (bodyOut side clock key (sessionOf key s) (packetOf key s) (drop 16 s) out) out,
+        λ i. cond (e i && (sym el i && sym er i)) (bodyOut side clock key (sessionOf key s) (packetOf key s) (drop 16 s) out) out,
       )
 
   pub read-settings : k ≡ false → (Refused Settings ≡ readAnswer method key side clock s out) × (out ≡ readOut method key side clock s out)
@@ -244,18 +243,18 @@ module _ (method : ℕ) (key : List ℕ) (side : Side) (clock : ℕ) (s out : Li
   module _ (fits : k ≡ true) where
     pub read-short : length s < 32 → (Refused Length ≡ readAnswer method key side clock s out) × (out ≡ readOut method key side clock s out)
     unfolding lengthLawful
-    read-short h = read-at true false _ fits (ap (λ (b : Bool). both b (leb (length s) maxDatagram)) (lt-leb 32 (length s) h)) refl
+    read-short h = read-at true false _ fits (ap (λ (b : Bool). b && leb (length s) maxDatagram) (lt-leb 32 (length s) h)) refl
 
     module _ (least : 32 ≤ length s) where
       pub read-long : maxDatagram < length s
           → (Refused Length ≡ readAnswer method key side clock s out) × (out ≡ readOut method key side clock s out)
       unfolding lengthLawful
-      read-long h = read-at true false _ fits (ap₂ both (le-leb 32 (length s) least) (lt-leb (length s) maxDatagram h)) refl
+      read-long h = read-at true false _ fits (ap₂ _&&_ (le-leb 32 (length s) least) (lt-leb (length s) maxDatagram h)) refl
 
       module _ (most : length s ≤ maxDatagram) where
         lawful-length : lengthLawful s ≡ true
         unfolding lengthLawful
-        lawful-length = ap₂ both (le-leb 32 (length s) least) (le-leb (length s) maxDatagram most)
+        lawful-length = ap₂ _&&_ (le-leb 32 (length s) least) (le-leb (length s) maxDatagram most)
 
         pub read-room : length out < length s - 32
             → (Refused Room ≡ readAnswer method key side clock s out) × (out ≡ readOut method key side clock s out)

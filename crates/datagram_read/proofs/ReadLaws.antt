@@ -1,16 +1,15 @@
 -- What a header that was read tells, and what gives a header: each test of the order came out well. And what the buffer holds.
 -- Assumes nothing.
 use mathlib.Core.Path.{_≡_, refl, sym, ap, _∙_}
-use mathlib.Core.Bool.{Bool, true, false}
+use mathlib.Core.Bool.{Bool, true, false, cond, _&&_}
 use mathlib.Core.List.{List}
 use Prim.Native.Nat.{ℕ, _+_, _-_, _≤_}
 use native.Mathlib.Omega.{arith}
 use lib.Dec.{eqb, leb}
 use lib.ListN.{length, getD, drop, replicate, length-drop, length-replicate}
 use borrow.Author.Tests.{leb-true}
-use Rattle.octets.specs.Buffers.{both, put}
+use Rattle.octets.specs.Buffers.{put}
 use Rattle.octets.proofs.BufferLaws.{put-again}
-use Rattle.aes.specs.KeyExpansion.{if}
 use Rattle.gcm.specs.Keyed.{ciphOf}
 use Rattle.gcm.proofs.GcmLaws.{length-opened}
 use Rattle.protocol.specs.Method.{keyFits}
@@ -26,7 +25,7 @@ use Rattle.datagram_parts.specs.Headers.{nonce, typeOf, fixedLength}
 use Rattle.datagram_read.specs.declared.Header.{Header}
 use Rattle.datagram_read.specs.declared.Opened.{Opened}
 use Rattle.datagram_read.specs.declared.Opened.the-variants.{Datagram, Refused}
-use Rattle.datagram_read.specs.Opening.{sessionOf, packetOf, bodyAuthentic, bodyText, pickOpened, timeOf, paddingOf, meant, headerWith, readAddress, readMain, lengthLawful, readBody, readAnswer, settled, bodyOut, readOut}
+use Rattle.datagram_read.specs.Opening.{sessionOf, packetOf, bodyAuthentic, bodyText, timeOf, paddingOf, meant, headerWith, readAddress, readMain, lengthLawful, readBody, readAnswer, settled, bodyOut, readOut}
 
 -- ---- answers
 
@@ -38,7 +37,7 @@ isHeader (Refused r) = 0
 not-refused : (r : Refusal) (h : Header) → Refused r ≡ Datagram h → ⊥
 not-refused r h e = let z : _≡_ {A = ℕ} 0 1 = ap isHeader e in omega arith
 
-both-left : (a b : Bool) → both a b ≡ true → a ≡ true
+both-left : (a b : Bool) → (a && b) ≡ true → a ≡ true
 both-left true b e = refl
 both-left false b e = e
 
@@ -46,7 +45,7 @@ record Passed (b : Bool) (x : Opened) (h : Header) : Type 0 where
   test : b ≡ true
   then : x ≡ Datagram h
 
-passed : (b : Bool) (x : Opened) (r : Refusal) (h : Header) → pickOpened b x (Refused r) ≡ Datagram h → Passed b x h
+passed : (b : Bool) (x : Opened) (r : Refusal) (h : Header) → cond b x (Refused r) ≡ Datagram h → Passed b x h
 passed true x r h e = record { test = refl; then = e }
 passed false x r h e = absurd (not-refused r h e)
 
@@ -73,9 +72,9 @@ module _ (side : Side) (clock id packet : ℕ) (plain : List ℕ) (h : Header) w
   pub main-given : Reads side clock id packet plain h → readMain side clock id packet plain ≡ Datagram h
   unfolding readMain
   main-given d =
-      (λ i. pickOpened (d .long i)
-      (pickOpened (d .kind i)
-      (pickOpened (d .timely i) (pickOpened (d .ours i) (readAddress side id packet plain) (Refused Binding)) (Refused WrongTime))
+      (λ i. cond (d .long i)
+      (cond (d .kind i)
+      (cond (d .timely i) (cond (d .ours i) (readAddress side id packet plain) (Refused Binding)) (Refused WrongTime))
       (Refused WrongType)) (Refused Malformed))
       ∙ d .address
 
@@ -122,7 +121,7 @@ module _ (method : ℕ) (key : List ℕ) (side : Side) (clock : ℕ) (s out : Li
       omega (arith, length-opened (ciphOf (sessionSubkey key id)) (nonce id packet) (drop 16 s), length-drop 16 s)
 
   abbrev settings : Bool
-  settings = both (keyFits method (length key)) (both (lengthLawful s) (leb (length s - 32) (length out)))
+  settings = keyFits method (length key) && (lengthLawful s && leb (length s - 32) (length out))
 
   module _ (h : Header) where
     pub answer-tells : readAnswer method key side clock s out ≡ Datagram h → Opens method key side clock s out h
@@ -143,9 +142,9 @@ module _ (method : ℕ) (key : List ℕ) (side : Side) (clock : ℕ) (s out : Li
     pub answer-given : Opens method key side clock s out h → readAnswer method key side clock s out ≡ Datagram h
     unfolding readAnswer readBody
     answer-given d =
-        (λ i. pickOpened (d .fits i)
-        (pickOpened (d .size i)
-        (pickOpened (d .room i) (pickOpened (d .authentic i) (readMain side clock id packet plain) (Refused NotAuthentic)) (Refused Room))
+        (λ i. cond (d .fits i)
+        (cond (d .size i)
+        (cond (d .room i) (cond (d .authentic i) (readMain side clock id packet plain) (Refused NotAuthentic)) (Refused Room))
         (Refused Length)) (Refused Settings))
         ∙ main-given side clock id packet plain h (d .main)
 
@@ -170,25 +169,25 @@ module _ (method : ℕ) (key : List ℕ) (side : Side) (clock : ℕ) (s out : Li
       unfolding readOut bodyOut
       opened-out =
           let m = main-given side clock id packet plain h (d .main) in
-          (λ i. if (both (d .fits i) (both (d .size i) (d .room i)))
-          (if (d .authentic i) (settled (m i) (length (drop 16 s) - 16) (put out 0 plain)) out) out)
+          (λ i. cond (d .fits i && (d .size i && d .room i))
+          (cond (d .authentic i) (settled (m i) (length (drop 16 s) - 16) (put out 0 plain)) out) out)
 
   -- ---- what a refusal leaves
 
   -- with unlawful settings, length or room, or a wrong tag: the buffer as it was
   pub unlawful-out : settings ≡ false → readOut method key side clock s out ≡ out
   unfolding readOut
-  unlawful-out e = ap (λ (b : Bool). if b (bodyOut side clock key id packet (drop 16 s) out) out) e
+  unlawful-out e = ap (λ (b : Bool). cond b (bodyOut side clock key id packet (drop 16 s) out) out) e
 
   pub forged-out : bodyAuthentic key id packet (drop 16 s) ≡ false → readOut method key side clock s out ≡ out
   unfolding readOut bodyOut
   forged-out e =
       ap
-      (λ (b : Bool). if settings (if b (settled (readMain side clock id packet plain) (length (drop 16 s) - 16) (put out 0 plain)) out) out)
+      (λ (b : Bool). cond settings (cond b (settled (readMain side clock id packet plain) (length (drop 16 s) - 16) (put out 0 plain)) out) out)
       e
       ∙ same settings
     where
-      same : (b : Bool) → if b out out ≡ out
+      same : (b : Bool) → cond b out out ≡ out
       same true = refl
       same false = refl
 
@@ -204,15 +203,15 @@ module _ (method : ℕ) (key : List ℕ) (side : Side) (clock : ℕ) (s out : Li
       let fits = parts (keyFits method (length key)) (lengthLawful s) (leb (length s - 32) (length out)) e in
       let main : readMain side clock id packet plain ≡ Refused r =
       sym
-      (λ i. pickOpened (fits .0 i)
-      (pickOpened (fits .1 .0 i)
-      (pickOpened (fits .1 .1 i) (pickOpened (a i) (readMain side clock id packet plain) (Refused NotAuthentic)) (Refused Room)) (Refused Length))
+      (λ i. cond (fits .0 i)
+      (cond (fits .1 .0 i)
+      (cond (fits .1 .1 i) (cond (a i) (readMain side clock id packet plain) (Refused NotAuthentic)) (Refused Room)) (Refused Length))
       (Refused Settings))
       ∙ ea in
-      (λ i. if (e i) (if (a i) (settled (main i) (due i) (put out 0 plain)) out) out)
+      (λ i. cond (e i) (cond (a i) (settled (main i) (due i) (put out 0 plain)) out) out)
       ∙ put-again out plain (replicate (length s - 32) 0) (omega (arith, lp)) (lz ∙ sym lp)
     where
-      parts : (x y z : Bool) → both x (both y z) ≡ true → (x ≡ true) × ((y ≡ true) × (z ≡ true))
+      parts : (x y z : Bool) → (x && (y && z)) ≡ true → (x ≡ true) × ((y ≡ true) × (z ≡ true))
       parts true true true e = (refl, (refl, refl))
       parts true true false e = (refl, (refl, e))
       parts true false z e = (refl, (e, absurd (let w : _≡_ {A = ℕ} 0 1 = cc in omega arith)))

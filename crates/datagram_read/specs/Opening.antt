@@ -1,14 +1,13 @@
 -- Opening a datagram (SIP022, section 3.2) as far as its arguments decide it, before any session is looked at: what is
 -- answered and what the lent buffer holds then. A client's datagrams are opened by a server, a server's by the client whose
 -- session ID they name, so the side here is the one whose datagrams are expected.
-use mathlib.Core.Bool.{Bool, true, false}
+use mathlib.Core.Bool.{Bool, true, cond, _&&_}
 use mathlib.Core.List.{List}
 use Prim.Native.Nat.{ℕ, _+_, _-_}
 use lib.Dec.{eqb, leb}
 use lib.ListN.{length, getD, take, drop, replicate}
-use Rattle.octets.specs.Buffers.{both, put}
+use Rattle.octets.specs.Buffers.{put}
 use Rattle.octets.specs.Numbers.{be}
-use Rattle.aes.specs.KeyExpansion.{if}
 use Rattle.aes.specs.Keyed.{nkOf}
 use Rattle.aes_inverse.specs.InvCipher.{invAes}
 use Rattle.gcm.specs.Gcm as gcm
@@ -50,10 +49,6 @@ bodyText key id packet body = gcm.opened (ciphOf (sessionSubkey key id)) (nonce 
 
 -- ---- the main header, in the order 5, 6, 7, 13, 5
 
-abbrev pub pickOpened : Bool → Opened → Opened → Opened
-pickOpened true a b = a
-pickOpened false a b = b
-
 abbrev pub timeOf : List ℕ → ℕ
 timeOf plain = be 8 (drop 1 plain)
 
@@ -86,26 +81,26 @@ readAddress side id packet plain =
 
 unfoldable pub readMain : Side → ℕ → ℕ → ℕ → List ℕ → Opened
 readMain side clock id packet plain =
-    pickOpened (leb (fixedLength side) (length plain))
-    (pickOpened (eqb (getD plain 0 0) (typeOf side))
-    (pickOpened (timeValid (timeOf plain) clock)
-    (pickOpened (meant side plain) (readAddress side id packet plain) (Refused Binding)) (Refused WrongTime)) (Refused WrongType))
+    cond (leb (fixedLength side) (length plain))
+    (cond (eqb (getD plain 0 0) (typeOf side))
+    (cond (timeValid (timeOf plain) clock)
+    (cond (meant side plain) (readAddress side id packet plain) (Refused Binding)) (Refused WrongTime)) (Refused WrongType))
     (Refused Malformed)
 
 -- ---- the whole, in the order 1, 2, 3, 4 and then the main header's
 
 unfoldable pub lengthLawful : List ℕ → Bool
-lengthLawful s = both (leb 32 (length s)) (leb (length s) maxDatagram)
+lengthLawful s = leb 32 (length s) && leb (length s) maxDatagram
 
 unfoldable pub readBody : Side → ℕ → List ℕ → ℕ → ℕ → List ℕ → Opened
 readBody side clock key id packet body =
-    pickOpened (bodyAuthentic key id packet body) (readMain side clock id packet (bodyText key id packet body)) (Refused NotAuthentic)
+    cond (bodyAuthentic key id packet body) (readMain side clock id packet (bodyText key id packet body)) (Refused NotAuthentic)
 
 unfoldable pub readAnswer : ℕ → List ℕ → Side → ℕ → List ℕ → List ℕ → Opened
 readAnswer method key side clock s out =
-    pickOpened (keyFits method (length key))
-    (pickOpened (lengthLawful s)
-    (pickOpened (leb (length s - 32) (length out)) (readBody side clock key (sessionOf key s) (packetOf key s) (drop 16 s)) (Refused Room))
+    cond (keyFits method (length key))
+    (cond (lengthLawful s)
+    (cond (leb (length s - 32) (length out)) (readBody side clock key (sessionOf key s) (packetOf key s) (drop 16 s)) (Refused Room))
     (Refused Length)) (Refused Settings)
 
 -- a refusal clears what the plaintext has filled
@@ -116,10 +111,10 @@ settled (Refused r) due out = put out 0 (replicate due 0)
 -- a good tag lets the plaintext into the buffer, and then a refusal clears it
 unfoldable pub bodyOut : Side → ℕ → List ℕ → ℕ → ℕ → List ℕ → List ℕ → List ℕ
 bodyOut side clock key id packet body out =
-    if (bodyAuthentic key id packet body)
+    cond (bodyAuthentic key id packet body)
     (settled (readMain side clock id packet (bodyText key id packet body)) (length body - 16) (put out 0 (bodyText key id packet body))) out
 
 unfoldable pub readOut : ℕ → List ℕ → Side → ℕ → List ℕ → List ℕ → List ℕ
 readOut method key side clock s out =
-    if (both (keyFits method (length key)) (both (lengthLawful s) (leb (length s - 32) (length out))))
+    cond (keyFits method (length key) && (lengthLawful s && leb (length s - 32) (length out)))
     (bodyOut side clock key (sessionOf key s) (packetOf key s) (drop 16 s) out) out

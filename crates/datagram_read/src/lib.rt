@@ -11,7 +11,7 @@ ghost use mathlib.Core.Path.{_≡_};
 ghost use Prim.Native.Nat.{_-_, _<_, _≤_};
 ghost use lib.ListN.{length};
 ghost use Rattle.octets.specs.Buffers.{put};
-ghost use Rattle.aes.specs.KeyExpansion.{if};
+ghost use mathlib.Core.Bool.{cond};
 ghost use Rattle.aes_tables.specs.SBox.{sBox};
 ghost use Rattle.aes_tables.specs.Tables.{IsTable};
 ghost use Rattle.aes.specs.Keyed.{nkOf};
@@ -74,7 +74,7 @@ fn open_body(
     requires { ⌜ length (now body) - 16 ≤ length (now out) ⌝ }
     requires { ⌜ IsTable sBox (now sbox) ⌝ }
     ensures { λ r. ⌜ r ≡ bodyAuthentic (now (key .entry)) id packet (now (body .entry)) ⌝ }
-    ensures { λ r. ⌜ now (out .exit) ≡ if r (put (now (out .entry)) 0 (bodyText (now (key .entry)) id packet (now (body .entry)))) (now (out .entry)) ⌝ }
+    ensures { λ r. ⌜ now (out .exit) ≡ cond r (put (now (out .entry)) 0 (bodyText (now (key .entry)) id packet (now (body .entry)))) (now (out .entry)) ⌝ }
 {
     let header = separate_header(id, packet);
     let mut subkey = [0u8; 32];

@@ -1,7 +1,7 @@
 -- Demands 1 and 2 for opened datagrams.
 -- Assumes nothing.
 use mathlib.Core.Path.{_≡_, refl, sym, ap, ap₂, _∙_, subst}
-use mathlib.Core.Bool.{Bool, true, false}
+use mathlib.Core.Bool.{Bool, true, false, _&&_}
 use mathlib.Core.List.{List}
 use mathlib.Core.Option.{Option}
 use Prim.Native.Nat.{ℕ, _+_, _-_, _≤_}
@@ -10,7 +10,7 @@ use native.Mathlib.Omega.{arith}
 use lib.Dec.{leb}
 use lib.ListN.{length, getD, drop, replicate, length-replicate}
 use borrow.Author.Tests.{leb-true, leb-false, le-leb, lt-leb, eqb-true, eq-eqb}
-use Rattle.octets.specs.Buffers.{both, put}
+use Rattle.octets.specs.Buffers.{put}
 use Rattle.octets.proofs.BufferLaws.{length-put, drop-put}
 use Rattle.session_record.specs.declared.Peer.{Peer}
 use Rattle.session.specs.Table.{lawful}
@@ -39,16 +39,16 @@ use Rattle.demands.proofs.DatagramWays.{contrary, opened-same, not-both
 
 -- ---- the tests of the arguments
 
-both-false : (b : Bool) → both b false ≡ false
+both-false : (b : Bool) → (b && false) ≡ false
 both-false true = refl
 both-false false = refl
 
 module _ (method : ℕ) (key s t out : List ℕ) where
   abbrev settings : Bool
-  settings = both (keyFits method (length key)) (both (lengthLawful s) (leb (length s - 32) (length out)))
+  settings = keyFits method (length key) && (lengthLawful s && leb (length s - 32) (length out))
 
   abbrev sizes : Bool
-  sizes = both (leb 32 (length s)) (leb (length s) maxDatagram)
+  sizes = leb 32 (length s) && leb (length s) maxDatagram
 
   -- a reason to refuse before the tag, other than the table's, is one of two tests that fails
   data Stops : Type 0 where
@@ -58,21 +58,21 @@ module _ (method : ℕ) (key s t out : List ℕ) where
   stops : lawful t ≡ true → BeforeTag method key s t out → Stops
   unfolding lengthLawful
   stops l (unlawful-table e) = absurd (contrary (lawful t) l e)
-  stops l (other-key e) = by-settings (ap (λ (b : Bool). both b (both sizes (leb (length s - 32) (length out)))) e)
+  stops l (other-key e) = by-settings (ap (λ (b : Bool). b && (sizes && leb (length s - 32) (length out))) e)
   stops l (too-short e) =
       by-settings
-      (ap (λ (b : Bool). both (keyFits method (length key)) (both (both b (leb (length s) maxDatagram)) (leb (length s - 32) (length out))))
+      (ap (λ (b : Bool). keyFits method (length key) && ((b && leb (length s) maxDatagram) && leb (length s - 32) (length out)))
       (lt-leb 32 (length s) e)
       ∙ both-false (keyFits method (length key)))
   stops l (too-long e) =
       by-settings
-      (ap (λ (b : Bool). both (keyFits method (length key)) (both b (leb (length s - 32) (length out))))
-      (ap (both (leb 32 (length s))) (lt-leb (length s) maxDatagram e) ∙ both-false (leb 32 (length s)))
+      (ap (λ (b : Bool). keyFits method (length key) && (b && leb (length s - 32) (length out)))
+      (ap (_&&_ (leb 32 (length s))) (lt-leb (length s) maxDatagram e) ∙ both-false (leb 32 (length s)))
       ∙ both-false (keyFits method (length key)))
   stops l (no-room e) =
       by-settings
-      (ap (λ (b : Bool). both (keyFits method (length key)) (both sizes b)) (lt-leb (length s - 32) (length out) e)
-      ∙ ap (both (keyFits method (length key))) (both-false sizes) ∙ both-false (keyFits method (length key)))
+      (ap (λ (b : Bool). keyFits method (length key) && (sizes && b)) (lt-leb (length s - 32) (length out) e)
+      ∙ ap (_&&_ (keyFits method (length key))) (both-false sizes) ∙ both-false (keyFits method (length key)))
   stops l (forged e) = by-tag e
 
   lawful-settings : Lawful method key s t out → settings ≡ true
@@ -81,11 +81,11 @@ module _ (method : ℕ) (key s t out : List ℕ) where
       let e₁ = le-leb 32 (length s) (w .shortest) in
       let e₂ = le-leb (length s) maxDatagram (w .longest) in
       let e₃ = le-leb (length s - 32) (length out) (w .room) in
-      (λ i. both (w .key-fits i) (both (both (e₁ i) (e₂ i)) (e₃ i)))
+      (λ i. w .key-fits i && ((e₁ i && e₂ i) && e₃ i))
 
   lawful-size : Lawful method key s t out → lengthLawful s ≡ true
   unfolding lengthLawful
-  lawful-size w = ap₂ both (le-leb 32 (length s) (w .shortest)) (le-leb (length s) maxDatagram (w .longest))
+  lawful-size w = ap₂ _&&_ (le-leb 32 (length s) (w .shortest)) (le-leb (length s) maxDatagram (w .longest))
 
   stage : Stage method key s t out
   stage =
@@ -135,7 +135,7 @@ module _ (method : ℕ) (key : List ℕ) (client : Option ℕ) (clock : ℕ) (pe
   way = way-of method key client clock peer s t out
 
   not-stopped : (h : Header) → Opens method key side clock s out h → Stops method key s t out → ⊥
-  not-stopped h d (by-settings e) = contrary (settings method key s t out) (λ i. both (d .fits i) (both (d .size i) (d .room i))) e
+  not-stopped h d (by-settings e) = contrary (settings method key s t out) (λ i. d .fits i && (d .size i && d .room i)) e
   not-stopped h d (by-tag e) = contrary (tagGood key s) (d .authentic) e
 
   answered : Answered answer

@@ -2,7 +2,7 @@
 -- the whole. For every key length of AES.
 -- Assumes nothing.
 use mathlib.Core.Path.{_≡_, refl, sym, ap, ap₂, _∙_}
-use mathlib.Core.Bool.{Bool, true, false}
+use mathlib.Core.Bool.{Bool, true, false, cond, _&&_}
 use mathlib.Core.List.{List, [], _∷_, _++_, append-assoc}
 use Prim.Native.Nat.{ℕ, _+_, _-_, _^_, _≤_, _<_}
 use native.Mathlib.Nat.{mod-eq-of-lt}
@@ -11,12 +11,11 @@ use lib.Dec.{T, eqb, leb}
 use lib.ListN.{length, getD, drop, replicate, length-append, length-replicate}
 use lib.Seq.{take-at, drop-at, drop-drop, drop-append-seam}
 use borrow.Author.Tests.{eq-eqb, le-leb}
-use Rattle.octets.specs.Buffers.{Octets, both, put}
+use Rattle.octets.specs.Buffers.{Octets, put}
 use Rattle.octets.specs.Numbers.{be, toBe}
 use Rattle.octets.proofs.BufferLaws.{octets-append}
 use Rattle.octets.proofs.NumberLaws.{length-toBe, octets-toBe, be-toBe, be-front}
 use Rattle.aes.specs.Cipher.{IsBlock}
-use Rattle.aes.specs.KeyExpansion.{if}
 use Rattle.aes.specs.Keyed.{nkOf}
 use Rattle.aes_inverse.specs.InvCipher.{invAes}
 use Rattle.aes_inverse.proofs.Inverse.{inv-aes-undoes}
@@ -40,7 +39,7 @@ use Rattle.datagram.specs.Sealing.{sealedLength, datagram}
 use Rattle.datagram_read.specs.declared.Header.{Header}
 use Rattle.datagram_read.specs.declared.Opened.{Opened}
 use Rattle.datagram_read.specs.declared.Opened.the-variants.{Datagram, Refused}
-use Rattle.datagram_read.specs.Opening.{separateOf, sessionOf, packetOf, bodyAuthentic, bodyText, pickOpened, timeOf, paddingOf, meant, headerWith, readAddress, readMain, lengthLawful, readBody, readAnswer, settled, bodyOut, readOut}
+use Rattle.datagram_read.specs.Opening.{separateOf, sessionOf, packetOf, bodyAuthentic, bodyText, timeOf, paddingOf, meant, headerWith, readAddress, readMain, lengthLawful, readBody, readAnswer, settled, bodyOut, readOut}
 use Rattle.demands.specs.Datagrams.{clientOf, headerOf}
 use Rattle.datagram_parts.proofs.LengthLaws.{length-separateHeader, length-separateBlock, length-clientField, length-fixedPart, length-plaintext}
 use Rattle.datagram.proofs.LengthLaws.{length-datagram}
@@ -184,10 +183,10 @@ module _ (side : Side) (time padding : ℕ) (address payload : List ℕ) (a : Ad
       let pad = padding-back side time padding address payload padding-fits in
       let parsed = ap (λ (n : ℕ). parseAt plain (fixedLength side + n)) pad ∙ address-back side time padding address payload a one found in
       let valid-there = ap (λ (t : ℕ). timeValid t clock) here ∙ valid in
-      (λ i. pickOpened (long side time padding address payload i)
-      (pickOpened (type-back side time padding address payload i)
-      (pickOpened (valid-there i)
-      (pickOpened (client-back side time padding address payload client-fits i) (readAddress side id packet plain) (Refused Binding))
+      (λ i. cond (long side time padding address payload i)
+      (cond (type-back side time padding address payload i)
+      (cond (valid-there i)
+      (cond (client-back side time padding address payload client-fits i) (readAddress side id packet plain) (Refused Binding))
       (Refused WrongTime)) (Refused WrongType)) (Refused Malformed))
       ∙ (λ i. headerWith id packet (here i) (pad i) (parsed i))
 
@@ -226,7 +225,7 @@ module _ (key : List ℕ) (p : Octets key) (sender : Sender) (time : ℕ) (addre
     unfolding lengthLawful sealedLength
     length-fits =
         let n = length-datagram key sender time address padding payload in
-        ap₂ both (le-leb 32 (length sent) (omega (arith, n))) (le-leb (length sent) maxDatagram (omega (arith, n)))
+        ap₂ _&&_ (le-leb 32 (length sent) (omega (arith, n))) (le-leb (length sent) maxDatagram (omega (arith, n)))
 
     room-fits : leb (length sent - 32) (length out) ≡ true
     unfolding sealedLength
@@ -254,14 +253,14 @@ module _ (key : List ℕ) (p : Octets key) (sender : Sender) (time : ℕ) (addre
       unfolding readBody
       body-read =
           let back = body-back key (sender .id) (sender .packet) text in
-          (λ i. pickOpened (back .0 i) (readMain (sender .side) clock (sender .id) (sender .packet) (back .1 i)) (Refused NotAuthentic))
+          (λ i. cond (back .0 i) (readMain (sender .side) clock (sender .id) (sender .packet) (back .1 i)) (Refused NotAuthentic))
           ∙ main
 
       body-written : bodyOut (sender .side) clock key (sender .id) (sender .packet) body out ≡ put out 0 text
       unfolding bodyOut
       body-written =
           let back = body-back key (sender .id) (sender .packet) text in
-          (λ i. if (back .0 i)
+          (λ i. cond (back .0 i)
           (settled (readMain (sender .side) clock (sender .id) (sender .packet) (back .1 i)) (length body - 16) (put out 0 (back .1 i))) out)
           ∙ ap (λ (o : Opened). settled o (length body - 16) (put out 0 text)) main
 
@@ -269,13 +268,13 @@ module _ (key : List ℕ) (p : Octets key) (sender : Sender) (time : ℕ) (addre
           × (readOut method key (sender .side) clock sent out ≡ put out 0 text)
       unfolding readAnswer readOut
       sealed-reads = (
-        (λ i. pickOpened (fits i)
-            (pickOpened (length-fits i)
-            (pickOpened (room-fits i)
+        (λ i. cond (fits i)
+            (cond (length-fits i)
+            (cond (room-fits i)
             (readBody (sender .side) clock key (session-sent id-fits i) (packet-sent packet-fits i) (body-sent i)) (Refused Room))
             (Refused Length)) (Refused Settings))
             ∙ body-read,
-        (λ i. if (both (fits i) (both (length-fits i) (room-fits i)))
+        (λ i. cond (fits i && (length-fits i && room-fits i))
             (bodyOut (sender .side) clock key (session-sent id-fits i) (packet-sent packet-fits i) (body-sent i) out) out)
             ∙ body-written,
       )

@@ -26,7 +26,7 @@ use Rattle.datagram_parts.specs.Headers.{typeOf, fixedLength}
 use Rattle.datagram_read.specs.declared.Header.{Header}
 use Rattle.datagram_read.specs.declared.Opened.{Opened}
 use Rattle.datagram_read.specs.declared.Opened.the-variants.{Datagram, Refused}
-use Rattle.datagram_read.specs.Opening.{sessionOf, packetOf, pickOpened, timeOf, paddingOf, meant, headerWith, readAddress, readMain, lengthLawful, readBody, readAnswer, settled, readOut}
+use Rattle.datagram_read.specs.Opening.{sessionOf, packetOf, timeOf, paddingOf, meant, headerWith, readAddress, readMain, lengthLawful, readBody, readAnswer, settled, readOut}
 use Rattle.datagram_open.specs.Deciding.{expected, openerOf, plainOf, answerOf, admittedAs, entered, openAnswer, openOut, openTable}
 use Rattle.demands.specs.Datagrams.{ofOpener, tagGood, Enters, fresh, begins}
 use Rattle.datagram_read.proofs.ReadLaws.{Opens, answer-tells, opens-room, opened-out, length-plain}
@@ -71,7 +71,7 @@ abbrev pub among : Opened → Bool
 among (Datagram h) = true
 among (Refused r) = ofOpener r
 
-among-pick : (b : Bool) (x : Opened) (r : Refusal) → among x ≡ true → ofOpener r ≡ true → among (pickOpened b x (Refused r)) ≡ true
+among-pick : (b : Bool) (x : Opened) (r : Refusal) → among x ≡ true → ofOpener r ≡ true → among (cond b x (Refused r)) ≡ true
 among-pick true x r e f = e
 among-pick false x r e f = f
 

@@ -1,7 +1,7 @@
 -- When exactly a head is accepted, and what each way out of its call leaves.
 -- Assumes nothing.
 use mathlib.Core.Path.{_≡_, refl, sym, ap, _∙_, subst}
-use mathlib.Core.Bool.{Bool, true, false, not}
+use mathlib.Core.Bool.{Bool, true, false, cond, not, _&&_}
 use mathlib.Core.List.{List}
 use Prim.Native.Nat.{ℕ, _+_, _≤_}
 use native.Mathlib.Omega.{arith}
@@ -9,10 +9,9 @@ use lib.Dec.{T, eqb, leb, ltb}
 use lib.ListN.{length, getD, take, drop, replicate, length-drop, length-replicate}
 use lib.Seq.{length-take-le}
 use borrow.Author.Tests.{eq-eqb, le-leb, lt-ltb, leb-true, ltb-true, eqb-true}
-use Rattle.octets.specs.Buffers.{both, put, same}
+use Rattle.octets.specs.Buffers.{put, same}
 use Rattle.octets.specs.Numbers.{be}
 use Rattle.octets.proofs.BufferLaws.{put-again, same-refl, same-eq}
-use Rattle.aes.specs.KeyExpansion.{if}
 use Rattle.protocol.specs.declared.Refusal.{Refusal}
 use Rattle.protocol.specs.declared.Refusal.the-variants.{Settings, Room, NotAuthentic, Malformed, WrongType, WrongTime, Replay, Full, More}
 use Rattle.protocol.specs.Refusal.{refusalNumber}
@@ -42,8 +41,8 @@ use Rattle.request_open.specs.declared.RequestOpened.the-variants.{Accepted, Re
 use Rattle.response_open.specs.declared.Response.{Response}
 use Rattle.response_open.specs.declared.ResponseOpened.{ResponseOpened}
 use Rattle.response_open.specs.declared.ResponseOpened.the-variants.{Accepted as Answered, Refused as Unanswered}
-use Rattle.response_open.specs.Heads.{frontLength, fixedOf, receiver, pickFixed, fieldsOf, readFixed, openFixed, pickResponse, bindingOf, boundAs, boundOf, responseAt, openedResponse}
-use Rattle.request_open.specs.Requests.{pickRead, paddingAt, paddingFits, headerWith, readVariable, headLength, variableOf, openVariable, settled, variableOut, openedAs, fixedAs, readHead, fixedOut, headOut, storedIn, headPool, pickRequest, settings, openedRequest, requestOut, requestPool}
+use Rattle.response_open.specs.Heads.{frontLength, fixedOf, receiver, fieldsOf, readFixed, openFixed, bindingOf, boundAs, boundOf, responseAt, openedResponse}
+use Rattle.request_open.specs.Requests.{paddingAt, paddingFits, headerWith, readVariable, headLength, variableOf, openVariable, settled, variableOut, openedAs, fixedAs, readHead, fixedOut, headOut, storedIn, headPool, settings, openedRequest, requestOut, requestPool}
 use Rattle.demands.specs.StreamsKeep.{saltOf, ofRequest, ofFront, ofResponse, dueOf, ResponseAnswered, accepted-response, refused-response}
 use Rattle.demands.specs.StreamsOpen.{FixedOpens, ValidVariable, variableAt, HeadOpens, RequestOpens, RequestExactlyWhen, ResponseOpens, ResponseExactlyWhen}
 use Rattle.stream.proofs.LengthLaws.{length-openAt}
@@ -66,7 +65,7 @@ record FixedPassed (b : Bool) (x : FixedRead) (f : Fixed) : Type 0 where
   test : b ≡ true
   then : x ≡ Read f
 
-fixed-passed : (b : Bool) (x : FixedRead) (r : Refusal) (f : Fixed) → pickFixed b x (Unread r) ≡ Read f → FixedPassed b x f
+fixed-passed : (b : Bool) (x : FixedRead) (r : Refusal) (f : Fixed) → cond b x (Unread r) ≡ Read f → FixedPassed b x f
 fixed-passed true x r f e = record { test = refl; then = e }
 fixed-passed false x r f e = absurd (not-read r f e)
 
@@ -77,9 +76,9 @@ spares r = not (eqb (refusalNumber r) 5)
 -- 4, 6 and 7
 abbrev pub ofFixed : FixedRead → Bool
 ofFixed (Read f) = true
-ofFixed (Unread r) = both (ofFront r) (both (ofRequest r) (both (ofResponse r) (spares r)))
+ofFixed (Unread r) = ofFront r && (ofRequest r && (ofResponse r && spares r))
 
-fixed-among : (b : Bool) (x : FixedRead) (r : Refusal) → ofFixed x ≡ true → ofFixed (Unread r) ≡ true → ofFixed (pickFixed b x (Unread r)) ≡ true
+fixed-among : (b : Bool) (x : FixedRead) (r : Refusal) → ofFixed x ≡ true → ofFixed (Unread r) ≡ true → ofFixed (cond b x (Unread r)) ≡ true
 fixed-among true x r e g = e
 fixed-among false x r e g = g
 
@@ -106,9 +105,9 @@ module _ (key : List ℕ) (kind clock : ℕ) (s : List ℕ) where
   unfolding openFixed readFixed
   fixed-given time size d =
       let valid = ap (λ (t : ℕ). timeValid t clock) (sym (d .says-time)) ∙ d .time-valid in
-      (λ i. pickFixed (d .authentic i)
-      (pickFixed (eq-eqb (getD fixed-plain 0 0) kind (d .right-type) i)
-      (pickFixed (valid i) (Read (fieldsOf fixed-plain)) (Unread WrongTime)) (Unread WrongType)) (Unread NotAuthentic))
+      (λ i. cond (d .authentic i)
+      (cond (eq-eqb (getD fixed-plain 0 0) kind (d .right-type) i)
+      (cond (valid i) (Read (fieldsOf fixed-plain)) (Unread WrongTime)) (Unread WrongType)) (Unread NotAuthentic))
       ∙ (λ i. Read (record { time = sym (d .says-time) i; length = sym (d .says-length) i }))
 
   pub fixed-refusals : ofFixed (openFixed key kind clock s) ≡ true
@@ -139,7 +138,7 @@ record ReadPassed (b : Bool) (x : RequestRead) (h : Request) : Type 0 where
   test : b ≡ true
   then : x ≡ Header h
 
-read-passed : (b : Bool) (x : RequestRead) (r : Refusal) (h : Request) → pickRead b x (Unheaded r) ≡ Header h → ReadPassed b x h
+read-passed : (b : Bool) (x : RequestRead) (r : Refusal) (h : Request) → cond b x (Unheaded r) ≡ Header h → ReadPassed b x h
 read-passed true x r h e = record { test = refl; then = e }
 read-passed false x r h e = absurd (not-header r h e)
 
@@ -161,9 +160,7 @@ module _ (f : Fixed) (used : ℕ) (plain : List ℕ) where
   with-tells (Found a) h found e =
       let e₁ =
       read-passed
-      (both (leb (a .end + 2) (length plain))
-      (both (leb (paddingAt (a .end) plain) maxPadding)
-      (both (leb (a .end + 2 + paddingAt (a .end) plain) (length plain)) (ltb (a .end + 2) (length plain))))) _ _ h e in
+      (leb (a .end + 2) (length plain) && (leb (paddingAt (a .end) plain) maxPadding && (leb (a .end + 2 + paddingAt (a .end) plain) (length plain) && ltb (a .end + 2) (length plain)))) _ _ h e in
       let b₁ = both-right (leb (a .end + 2) (length plain)) _ (e₁ .test) in
       let b₂ = both-right (leb (paddingAt (a .end) plain) maxPadding) _ b₁ in
       record {
@@ -192,13 +189,13 @@ module _ (f : Fixed) (used : ℕ) (plain : List ℕ) where
       let e₃ = le-leb (a .end + 2 + paddingAt (a .end) plain) (length plain) (d .padding-there) in
       let e₄ = lt-ltb (a .end + 2) (length plain) (d .not-bare) in
       ap (headerWith f used plain) (d .address-found)
-      ∙ (λ i. pickRead (both (e₁ i) (both (e₂ i) (both (e₃ i) (e₄ i)))) (Header (said a)) (Unheaded Malformed))
+      ∙ (λ i. cond (e₁ i && (e₂ i && (e₃ i && e₄ i))) (Header (said a)) (Unheaded Malformed))
       ∙ ap Header (sym (d .says))
 
   with-malformed : (p : Parsed) (r : Refusal) → headerWith f used plain p ≡ Unheaded r → r ≡ Malformed
   with-malformed (Found a) r e = go (paddingFits (a .end) plain) e
     where
-      go : (b : Bool) → pickRead b (Header (said a)) (Unheaded Malformed) ≡ Unheaded r → r ≡ Malformed
+      go : (b : Bool) → cond b (Header (said a)) (Unheaded Malformed) ≡ Unheaded r → r ≡ Malformed
       go true g = absurd (not-header r (said a) (sym g))
       go false g = sym (ap (λ (x : RequestRead). refusalIn x r) g)
   with-malformed NoAddress r e = sym (ap (λ (x : RequestRead). refusalIn x r) e)
@@ -242,20 +239,20 @@ module _ (k : List ℕ) (clock n : ℕ) (s pool out : List ℕ) where
   module _ (f : Fixed) (a b c : Bool) (ea : leb (headLength n f) (length s) ≡ a) (eb : leb (f .length) (length out) ≡ b)
       (ec : authenticAt k 1 (variableOf n f s) ≡ c) where
     variable-by : openVariable k n f s (length out)
-        ≡ pickRead a
-        (pickRead b (pickRead c (readVariable f (headLength n f) (plain f)) (Unheaded NotAuthentic)) (Unheaded Room))
+        ≡ cond a
+        (cond b (cond c (readVariable f (headLength n f) (plain f)) (Unheaded NotAuthentic)) (Unheaded Room))
         (Unheaded (More (headLength n f)))
     unfolding openVariable
     variable-by =
-        (λ i. pickRead (ea i)
-        (pickRead (eb i) (pickRead (ec i) (readVariable f (headLength n f) (plain f)) (Unheaded NotAuthentic)) (Unheaded Room))
+        (λ i. cond (ea i)
+        (cond (eb i) (cond (ec i) (readVariable f (headLength n f) (plain f)) (Unheaded NotAuthentic)) (Unheaded Room))
         (Unheaded (More (headLength n f))))
 
     written-by : variableOut k n f s out
-        ≡ if (both a (both b c)) (settled (readVariable f (headLength n f) (plain f)) (f .length) (put out 0 (plain f))) out
+        ≡ cond (a && (b && c)) (settled (readVariable f (headLength n f) (plain f)) (f .length) (put out 0 (plain f))) out
     unfolding variableOut
     written-by =
-        (λ i. if (both (ea i) (both (eb i) (ec i))) (settled (readVariable f (headLength n f) (plain f)) (f .length) (put out 0 (plain f))) out)
+        (λ i. cond (ea i && (eb i && ec i)) (settled (readVariable f (headLength n f) (plain f)) (f .length) (put out 0 (plain f))) out)
 
   -- as long as is due
   pub length-plain : (f : Fixed) → headLength n f ≤ length s → length (plain f) ≡ f .length
@@ -395,19 +392,19 @@ module _ (method : ℕ) (key : List ℕ) (clock : ℕ) (s pool out : List ℕ) w
   -- by the tests for the settings and the front
   module _ (a b : Bool) (ea : settings method (length key) pool ≡ a) (eb : leb (frontLength n 0) (length s) ≡ b) where
     pub answer-by : openedRequest method key clock s pool out
-        ≡ pickRequest a (pickRequest b (openedAs method w (readHead k clock n s pool (length out))) (Refused (More (frontLength n 0)))) (Refused Settings)
+        ≡ cond a (cond b (openedAs method w (readHead k clock n s pool (length out))) (Refused (More (frontLength n 0)))) (Refused Settings)
     unfolding openedRequest
     answer-by =
-        λ i. pickRequest (ea i)
-        (pickRequest (eb i) (openedAs method w (readHead k clock n s pool (length out))) (Refused (More (frontLength n 0)))) (Refused Settings)
+        λ i. cond (ea i)
+        (cond (eb i) (openedAs method w (readHead k clock n s pool (length out))) (Refused (More (frontLength n 0)))) (Refused Settings)
 
-    pub request-out-by : requestOut method key clock s pool out ≡ if (both a b) (headOut k clock n s pool out) out
+    pub request-out-by : requestOut method key clock s pool out ≡ cond (a && b) (headOut k clock n s pool out) out
     unfolding requestOut
-    request-out-by = λ i. if (both (ea i) (eb i)) (headOut k clock n s pool out) out
+    request-out-by = λ i. cond (ea i && eb i) (headOut k clock n s pool out) out
 
-    pub request-pool-by : requestPool method key clock s pool out ≡ if (both a b) (headPool k clock n s pool (length out)) pool
+    pub request-pool-by : requestPool method key clock s pool out ≡ cond (a && b) (headPool k clock n s pool (length out)) pool
     unfolding requestPool
-    request-pool-by = λ i. if (both (ea i) (eb i)) (headPool k clock n s pool (length out)) pool
+    request-pool-by = λ i. cond (ea i && eb i) (headPool k clock n s pool (length out)) pool
 
   pub record RequestGiven (h : Request) (st : Receiver) (d : RequestOpens method key clock s pool (length out) h st) : Type 0 where
     pub accepts : openedRequest method key clock s pool out ≡ Accepted h st
@@ -499,7 +496,7 @@ record ResponsePassed (b : Bool) (x : ResponseOpened) (h : Response) (st : Recei
   test : b ≡ true
   then : x ≡ Answered h st
 
-response-passed : (b : Bool) (x : ResponseOpened) (r : Refusal) (h : Response) (st : Receiver) → pickResponse b x (Unanswered r) ≡ Answered h st
+response-passed : (b : Bool) (x : ResponseOpened) (r : Refusal) (h : Response) (st : Receiver) → cond b x (Unanswered r) ≡ Answered h st
     → ResponsePassed b x h st
 response-passed true x r h st e = record { test = refl; then = e }
 response-passed false x r h st e = absurd (not-answered r h st e)
@@ -513,7 +510,7 @@ amongResponses (Answered h st) = true
 amongResponses (Unanswered r) = ofResponse r
 
 response-among : (b : Bool) (x : ResponseOpened) (r : Refusal) → amongResponses x ≡ true → ofResponse r ≡ true
-    → amongResponses (pickResponse b x (Unanswered r)) ≡ true
+    → amongResponses (cond b x (Unanswered r)) ≡ true
 response-among true x r e g = e
 response-among false x r e g = g
 
@@ -549,7 +546,7 @@ module _ (method : ℕ) (key : List ℕ) (clock : ℕ) (requestSalt s : List ℕ
       → ResponseOpens method key clock requestSalt s h st
   unfolding openedResponse responseAt boundOf
   response-tells h st e =
-      let e₁ = response-passed (both (keyFits method (length key)) (eqb (length requestSalt) salts)) _ _ h st e in
+      let e₁ = response-passed (keyFits method (length key) && eqb (length requestSalt) salts) _ _ h st e in
       let e₂ = response-passed (leb (frontLength salts salts) (length s)) _ _ h st (e₁ .then) in
       bound-tells h st response-front refl (leb-true (frontLength salts salts) (length s) (e₂ .test)) (e₂ .then)
 
@@ -561,8 +558,8 @@ module _ (method : ℕ) (key : List ℕ) (clock : ℕ) (requestSalt s : List ℕ
       let ew = le-leb (frontLength salts salts) (length s) (d .front-whole) in
       let ef = fixed-given response-key 1 clock (fixedOf salts salts s) (d .time) (d .size) (d .fixed-opens) in
       let eo = ap (λ (x : List ℕ). same x requestSalt) (d .for-us) ∙ test-true (same requestSalt requestSalt) (same-refl requestSalt) in
-      (λ i. pickResponse (both (fits i) (es i))
-      (pickResponse (ew i) (boundAs method (subkeyWords response-key) (frontLength salts salts) (eo i) (ef i))
+      (λ i. cond (fits i && es i)
+      (cond (ew i) (boundAs method (subkeyWords response-key) (frontLength salts salts) (eo i) (ef i))
       (Unanswered (More (frontLength salts salts)))) (Unanswered Settings))
       ∙ (λ i. Answered (sym (d .says) i) (sym (d .stream) i))
 
@@ -575,7 +572,7 @@ module _ (method : ℕ) (key : List ℕ) (clock : ℕ) (requestSalt s : List ℕ
   among-response : amongResponses (openedResponse method key clock requestSalt s) ≡ true
   unfolding openedResponse responseAt boundOf
   among-response =
-      response-among (both (keyFits method (length key)) (eqb (length requestSalt) salts)) _ Settings
+      response-among (keyFits method (length key) && eqb (length requestSalt) salts) _ Settings
       (response-among (leb (frontLength salts salts) (length s)) _ (More (frontLength salts salts))
       (bound-among ours response-front (fixed-refusals response-key 1 clock (fixedOf salts salts s))) refl) refl
 

@@ -1,7 +1,7 @@
 -- What the head of a request was sealed from is read back from it: each field, the payload, and the stream's state.
 -- Assumes nothing.
 use mathlib.Core.Path.{_≡_, refl, sym, ap, ap₂, _∙_}
-use mathlib.Core.Bool.{true}
+use mathlib.Core.Bool.{true, cond, _&&_}
 use mathlib.Core.List.{List, [], _++_, append-assoc}
 use Prim.Native.Nat.{ℕ, _+_, _^_, _≤_, _<_}
 use native.Mathlib.Nat.{zero-add}
@@ -10,14 +10,13 @@ use lib.Dec.{eqb, leb, ltb}
 use lib.ListN.{length, take, drop, replicate, length-append, length-replicate}
 use lib.Seq.{take-at, drop-at, drop-drop, drop-append-seam}
 use borrow.Author.Tests.{le-leb, lt-ltb, leb-true, ltb-true, eqb-true}
-use Rattle.octets.specs.Buffers.{both, put}
+use Rattle.octets.specs.Buffers.{put}
 use Rattle.octets.specs.Numbers.{be, toBe}
 use Rattle.octets.proofs.NumberLaws.{length-toBe, be-front}
 use Rattle.protocol.specs.Method.{keyFits, saltLength}
 use Rattle.protocol.specs.Subkey.{subkey}
 use Rattle.protocol.specs.Time.{timeValid}
 use Rattle.protocol.specs.declared.Refusal.the-variants.{Settings, Room, NotAuthentic, More, Malformed}
-use Rattle.aes.specs.KeyExpansion.{if}
 use Rattle.socks5.specs.declared.Address.{Address}
 use Rattle.socks5.specs.declared.Target.{Target}
 use Rattle.socks5.specs.declared.Target.the-variants.{V4, V6, Name}
@@ -39,7 +38,7 @@ use Rattle.request_open.specs.declared.RequestRead.{RequestRead}
 use Rattle.request_open.specs.declared.RequestRead.the-variants.{Header, Refused as Unheaded}
 use Rattle.request_open.specs.declared.RequestOpened.the-variants.{Accepted, Refused as NoRequest}
 use Rattle.response_open.specs.Heads.{frontLength, fixedOf, receiver, openFixed}
-use Rattle.request_open.specs.Requests.{pickRead, paddingAt, paddingFits, headerWith, readVariable, headLength, variableOf, openVariable, settled, variableOut, openedAs, fixedAs, readHead, fixedOut, headOut, storedIn, headPool, pickRequest, settings, openedRequest, requestOut, requestPool}
+use Rattle.request_open.specs.Requests.{paddingAt, paddingFits, headerWith, readVariable, headLength, variableOf, openVariable, settled, variableOut, openedAs, fixedAs, readHead, fixedOut, headOut, storedIn, headPool, settings, openedRequest, requestOut, requestPool}
 use Rattle.demands.specs.StreamsBack.{partner, requestHeader, RequestBack, RequestsGivenBack}
 use Rattle.stream.proofs.LengthLaws.{length-sealAt}
 use Rattle.head_seal.proofs.HeadLengthLaws.{length-front, length-variablePart, length-requestAt}
@@ -93,7 +92,7 @@ module _ (address : List ℕ) (padding : ℕ) (payload : List ℕ) (padding-shor
         ap (λ (k : ℕ). leb (length address + 2 + k) (length variable)) padding-back
         ∙ le-leb (length address + 2 + padding) (length variable) (omega (arith, l)) in
         let e₄ = lt-ltb (length address + 2) (length variable) (omega (arith, l)) in
-        λ i. both (e₁ i) (both (e₂ i) (both (e₃ i) (e₄ i)))
+        λ i. e₁ i && (e₂ i && (e₃ i && e₄ i))
 
     variable-reads : (time used : ℕ) → readVariable (record { time = time; length = length variable }) used variable
         ≡ Header (requestHeader time (length address) a padding (length payload) used)
@@ -101,7 +100,7 @@ module _ (address : List ℕ) (padding : ℕ) (payload : List ℕ) (padding-shor
     variable-reads time used =
         let f : Fixed = record { time = time; length = length variable } in
         ap (headerWith f used variable) address-back
-        ∙ (λ i. pickRead (fits-back i)
+        ∙ (λ i. cond (fits-back i)
         (Header
         (record {
           target = a .target;
@@ -128,8 +127,8 @@ pub requests : (method : ℕ) (key salt address : List ℕ) (padding payload roo
     → requestAnswer method key salt address padding payload room ≡ Bytes n next → Requests method key salt address padding payload room n next
 unfolding requestAnswer sizesFit paddingLawful
 requests method key salt address padding payload room n next e =
-    let e₁ = answers (both (keyFits method (length key)) (eqb (length salt) (saltLength method))) _ _ n next e in
-    let e₂ = answers (both (isAddress address) (both (leb padding maxPadding) (ltb 0 (padding + payload)))) _ _ n next (e₁ .then) in
+    let e₁ = answers (keyFits method (length key) && eqb (length salt) (saltLength method)) _ _ n next e in
+    let e₂ = answers (isAddress address && (leb padding maxPadding && ltb 0 (padding + payload))) _ _ n next (e₁ .then) in
     let pads = both-right (isAddress address) _ (e₂ .test) in
     record {
       fits = both-left (keyFits method (length key)) _ (e₁ .test);
@@ -231,16 +230,16 @@ module _ (method : ℕ) (key salt : List ℕ) (time : ℕ) (address : List ℕ) 
       variable-opened : (room : ℕ) → length text ≤ room → openVariable request-key salts fields all room ≡ Header header
       unfolding openVariable
       variable-opened room h =
-          (λ i. pickRead (long-here i)
-          (pickRead (le-leb (length text) room h i)
-          (pickRead (authentic-here i) (readVariable fields (headLength salts fields) (opens-here i)) (Unheaded NotAuthentic)) (Unheaded Room))
+          (λ i. cond (long-here i)
+          (cond (le-leb (length text) room h i)
+          (cond (authentic-here i) (readVariable fields (headLength salts fields) (opens-here i)) (Unheaded NotAuthentic)) (Unheaded Room))
           (Unheaded (More (headLength salts fields))))
           ∙ reads-here
 
       variable-written : (out : List ℕ) → length text ≤ length out → variableOut request-key salts fields all out ≡ put out 0 text
       unfolding variableOut
       variable-written out h =
-          (λ i. if (both (long-here i) (both (le-leb (length text) (length out) h i) (authentic-here i)))
+          (λ i. cond (long-here i && (le-leb (length text) (length out) h i && authentic-here i))
           (settled (readVariable fields (headLength salts fields) (opens-here i)) (length text) (put out 0 (opens-here i))) out)
           ∙ ap (λ (x : RequestRead). settled x (length text) (put out 0 text)) reads-here
 
@@ -250,7 +249,7 @@ module _ (method : ℕ) (key salt : List ℕ) (time : ℕ) (address : List ℕ) 
           (free : meet pool later salt ≡ Free place) (room : length text ≤ length out) where
         lawful-settings : settings method (length key) pool ≡ true
         unfolding settings
-        lawful-settings = λ i. both (request-facts .fits i) (made i)
+        lawful-settings = λ i. request-facts .fits i && made i
 
         met-here : meet pool later (take salts all) ≡ Free place
         met-here = ap (meet pool later) salt-here ∙ free
@@ -271,8 +270,8 @@ module _ (method : ℕ) (key salt : List ℕ) (time : ℕ) (address : List ℕ) 
         all-accepted : openedRequest method key later all pool out ≡ Accepted header (receiver method Length 2 (subkeyWords request-key))
         unfolding openedRequest
         all-accepted =
-            (λ i. pickRequest (lawful-settings i)
-            (pickRequest (whole-here i)
+            (λ i. cond (lawful-settings i)
+            (cond (whole-here i)
             (openedAs method (subkeyWords (subkey key (salt-here i))) (readHead (subkey key (salt-here i)) later salts all pool (length out)))
             (NoRequest (More (frontLength salts 0)))) (NoRequest Settings))
             ∙ ap (openedAs method (subkeyWords request-key)) head-read
@@ -280,12 +279,12 @@ module _ (method : ℕ) (key salt : List ℕ) (time : ℕ) (address : List ℕ) 
         all-written : requestOut method key later all pool out ≡ put out 0 text
         unfolding requestOut
         all-written =
-            (λ i. if (both (lawful-settings i) (whole-here i)) (headOut (subkey key (salt-here i)) later salts all pool out) out) ∙ head-written
+            (λ i. cond (lawful-settings i && whole-here i) (headOut (subkey key (salt-here i)) later salts all pool out) out) ∙ head-written
 
         all-stored : requestPool method key later all pool out ≡ store pool place later salt
         unfolding requestPool
         all-stored =
-            (λ i. if (both (lawful-settings i) (whole-here i)) (headPool (subkey key (salt-here i)) later salts all pool (length out)) pool)
+            (λ i. cond (lawful-settings i && whole-here i) (headPool (subkey key (salt-here i)) later salts all pool (length out)) pool)
             ∙ head-stored
 
         request-given : RequestBack method key salt time address padding payload n next later rest pool place out

@@ -1,7 +1,7 @@
 -- What the head of a response was sealed from is read back from it, and its first payload by the next step.
 -- Assumes nothing.
 use mathlib.Core.Path.{_≡_, refl, sym, ap, ap₂, _∙_}
-use mathlib.Core.Bool.{true, false}
+use mathlib.Core.Bool.{true, false, cond, _&&_}
 use mathlib.Core.List.{List, _++_, append-assoc}
 use mathlib.Core.Logic.{⊎-elim}
 use Prim.Native.Nat.{ℕ, _+_, _^_, _≤_, _<_}
@@ -9,7 +9,7 @@ use native.Mathlib.Omega.{arith}
 use lib.Dec.{eqb, leb}
 use lib.ListN.{length, take, drop}
 use borrow.Author.Tests.{eq-eqb, ne-eqb, eqb-true}
-use Rattle.octets.specs.Buffers.{both, same}
+use Rattle.octets.specs.Buffers.{same}
 use Rattle.octets.proofs.BufferLaws.{same-refl}
 use Rattle.protocol.specs.Method.{keyFits, keyLength, saltLength}
 use Rattle.protocol.specs.Subkey.{subkey}
@@ -25,7 +25,7 @@ use Rattle.stream_open.specs.declared.Turn.the-variants.{Length, Payload}
 use Rattle.stream_open.specs.declared.Receiver.{Receiver}
 use Rattle.response_open.specs.declared.FixedRead.the-variants.{Read}
 use Rattle.response_open.specs.declared.ResponseOpened.the-variants.{Accepted as Answered, Refused as NoResponse}
-use Rattle.response_open.specs.Heads.{frontLength, fixedOf, receiver, openFixed, pickResponse, bindingOf, boundAs, boundOf, responseAt, openedResponse}
+use Rattle.response_open.specs.Heads.{frontLength, fixedOf, receiver, openFixed, bindingOf, boundAs, boundOf, responseAt, openedResponse}
 use Rattle.stream_open.specs.Chunks.{stepAnswer, stepOut}
 use Rattle.demands.specs.StreamsBack.{ResponseBack, ResponsesGivenBack}
 use Rattle.head_seal.proofs.HeadLengthLaws.{length-responseOf}
@@ -43,12 +43,12 @@ pub responds : (method : ℕ) (key salt binding : List ℕ) (payload room n : �
     → responseAnswer method key salt binding payload room ≡ Bytes n next → Responds method key salt binding payload room n next
 unfolding responseAnswer sizesFit
 responds method key salt binding payload room n next e =
-    let e₁ = answers (both (both (keyFits method (length key)) (eqb (length salt) (saltLength method))) (eqb (length binding) (length salt))) _ _ n next e in
-    let sizes-fit = both-left (both (keyFits method (length key)) (eqb (length salt) (saltLength method))) _ (e₁ .test) in
+    let e₁ = answers ((keyFits method (length key) && eqb (length salt) (saltLength method)) && eqb (length binding) (length salt)) _ _ n next e in
+    let sizes-fit = both-left (keyFits method (length key) && eqb (length salt) (saltLength method)) _ (e₁ .test) in
     record {
       fits = both-left (keyFits method (length key)) _ sizes-fit;
       salt-fits = eqb-true (length salt) (saltLength method) (both-right (keyFits method (length key)) _ sizes-fit);
-      binding-fits = eqb-true (length binding) (length salt) (both-right (both (keyFits method (length key)) (eqb (length salt) (saltLength method))) _ (e₁ .test));
+      binding-fits = eqb-true (length binding) (length salt) (both-right (keyFits method (length key) && eqb (length salt) (saltLength method)) _ (e₁ .test));
       sizes = sized payload (length salt + 27 + length binding) room (begun method key salt) n next (e₁ .then);
     }
 
@@ -132,8 +132,8 @@ module _ (method : ℕ) (key salt binding : List ℕ) (time : ℕ) (payload : Li
           (receiver method (Payload (length payload)) 1 (subkeyWords response-key))
       unfolding openedResponse
       response-accepted later valid =
-          (λ i. pickResponse (both (response-facts .fits i) (eq-eqb (length binding) salts binding-long i))
-          (pickResponse (whole-here i)
+          (λ i. cond (response-facts .fits i && eq-eqb (length binding) salts binding-long i)
+          (cond (whole-here i)
           (responseAt method (subkeyWords (subkey key (salt-here i))) (subkey key (salt-here i)) later salts binding all)
           (NoResponse (More (frontLength salts salts)))) (NoResponse Settings))
           ∙ head-accepted later valid

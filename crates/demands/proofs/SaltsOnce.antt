@@ -1,13 +1,12 @@
 -- A salt that was accepted is not accepted again while it is kept.
 -- Assumes nothing.
 use mathlib.Core.Path.{_≡_, refl, sym, ap, ap₂, _∙_}
-use mathlib.Core.Bool.{Bool, true, false}
+use mathlib.Core.Bool.{Bool, true, false, _&&_}
 use mathlib.Core.List.{List, [], _∷_, _++_}
 use Prim.Native.Nat.{ℕ}
 use lib.Dec.{eqb, leb}
 use lib.ListN.{length}
 use borrow.Author.Tests.{leb-false, eqb-true}
-use Rattle.octets.specs.Buffers.{both}
 use Rattle.protocol.specs.declared.Refusal.{Refusal}
 use Rattle.protocol.specs.declared.Refusal.the-variants.{Settings, Malformed, Replay}
 use Rattle.protocol.specs.Method.{keyFits, saltLength}
@@ -183,7 +182,7 @@ no-salt-twice method key pool before between x y h st e f same-salt soon =
     ap (λ (t : List ℕ). meet t (y .clock) (saltOf method (y .bytes)))
     (sym (run-is method key pool (before ++ x ∷ between)) ∙ ap (run pool) (items-append method key pool before (x ∷ between)))
     ∙ met in
-    let lawful-there : both (keyFits method (length key)) (lawful p method) ≡ true =
-    ap₂ both (both-left (keyFits method (length key)) _ fits) (lawful-after method key pool (before ++ x ∷ between) ∙ made) in
+    let lawful-there : (keyFits method (length key) && lawful p method) ≡ true =
+    ap₂ _&&_ (both-left (keyFits method (length key)) _ fits) (lawful-after method key pool (before ++ x ∷ between) ∙ made) in
     let answer = kept-refused method key p y lawful-there kept in
     record { not-accepted = never-accepted method key p y answer; answer = answer }

@@ -1,7 +1,7 @@
 -- Demands 1 and 2 for streams. Demand 1: each call answers or refuses, and what a refusal leaves.
 -- Assumes nothing.
 use mathlib.Core.Path.{_≡_, refl, sym, ap, _∙_, subst}
-use mathlib.Core.Bool.{Bool, true, false}
+use mathlib.Core.Bool.{Bool, true, false, cond, _&&_}
 use mathlib.Core.List.{List}
 use Prim.Native.Nat.{ℕ, _+_, _-_, _≤_}
 use native.Mathlib.Nat.{zero-add}
@@ -10,7 +10,7 @@ use lib.Dec.{eqb, leb, ltb}
 use lib.ListN.{length, take, drop, replicate, length-replicate}
 use lib.Seq.{length-take-le}
 use borrow.Author.Tests.{ne-eqb, eqb-false, not-true}
-use Rattle.octets.specs.Buffers.{both, put}
+use Rattle.octets.specs.Buffers.{put}
 use Rattle.octets.proofs.BufferLaws.{length-put, drop-put}
 use Rattle.protocol.specs.declared.Refusal.{Refusal}
 use Rattle.protocol.specs.declared.Refusal.the-variants.{Settings, Length as TooLong, Room, NotAuthentic, Malformed, More, Counter, Argument}
@@ -22,7 +22,7 @@ use Rattle.stream.specs.declared.Sender.{Sender}
 use Rattle.stream.specs.declared.Sealed.{Sealed}
 use Rattle.stream.specs.declared.Sealed.the-variants.{Bytes, Refused as Unsealed}
 use Rattle.stream.specs.Pieces.{authenticAt, openAt}
-use Rattle.stream.specs.Sealing.{maxChunk, lastCounter, chunk, moved, senderKey, pickSealed, sizeAnswer, chunkAnswer, sealOut}
+use Rattle.stream.specs.Sealing.{maxChunk, lastCounter, chunk, moved, senderKey, sizeAnswer, chunkAnswer, sealOut}
 use Rattle.head_seal.specs.HeadSealing.{variableLength, request, response, begun, sizesFit, paddingLawful, requestAnswer, responseAnswer}
 use Rattle.stream_open.specs.declared.Turn.{Turn}
 use Rattle.stream_open.specs.declared.Turn.the-variants.{Length, Payload, Ended}
@@ -34,7 +34,7 @@ use Rattle.stream_open.specs.declared.Stepped.the-variants.{Opened, Refused as 
 use Rattle.request_open.specs.declared.RequestOpened.{RequestOpened}
 use Rattle.request_open.specs.declared.RequestOpened.the-variants.{Accepted, Refused}
 use Rattle.request_open.specs.Requests.{variableOf, openedRequest, requestOut, requestPool}
-use Rattle.stream_open.specs.Chunks.{pickStepped, streamKey, pieceAnswer, lengthRead, turnAnswer, writtenBy, payloadPiece, stepAnswer, stepOut, ended, pickReceiver, stepNext}
+use Rattle.stream_open.specs.Chunks.{streamKey, pieceAnswer, lengthRead, turnAnswer, writtenBy, payloadPiece, stepAnswer, stepOut, ended, stepNext}
 use Rattle.demands.specs.StreamsKeep.{saltOf, ofStep, ofSealer, dueOf, RequestAnswered, accepted-request, refused-request, RequestKeeps, StepAnswered, opened-step, refused-step, dueAt, StepKeeps, SealAnswered, sealed-text, refused-text, SealKeeps, SealersKeep, StreamsDemand1}
 use Rattle.demands.specs.StreamsOpen.{TurnOpens, turnText}
 use Rattle.demands.specs.StreamsBack.{StreamsDemand2}
@@ -160,11 +160,11 @@ abbrev amongSteps : Stepped → Bool
 amongSteps (Opened c) = true
 amongSteps (Unopened r) = ofStep r
 
-step-among : (b : Bool) (x : Stepped) (r : Refusal) → amongSteps x ≡ true → ofStep r ≡ true → amongSteps (pickStepped b x (Unopened r)) ≡ true
+step-among : (b : Bool) (x : Stepped) (r : Refusal) → amongSteps x ≡ true → ofStep r ≡ true → amongSteps (cond b x (Unopened r)) ≡ true
 step-among true x r e g = e
 step-among false x r e g = g
 
-step-denied : (b : Bool) (x : Stepped) (r : Refusal) → amongSteps x ≡ true → ofStep r ≡ true → amongSteps (pickStepped b (Unopened r) x) ≡ true
+step-denied : (b : Bool) (x : Stepped) (r : Refusal) → amongSteps x ≡ true → ofStep r ≡ true → amongSteps (cond b (Unopened r) x) ≡ true
 step-denied true x r e g = g
 step-denied false x r e g = e
 
@@ -212,7 +212,7 @@ module _ (st : Receiver) (s out : List ℕ) where
 
   refused-keeps-state : (r : Refusal) → step ≡ Unopened r → (refusalNumber r ≡ 4 → ⊥) → stepNext st step ≡ st
   refused-keeps-state r e other =
-      ap (stepNext st) e ∙ ap (λ (b : Bool). pickReceiver b (ended st) st) (ne-eqb (refusalNumber r) 4 other)
+      ap (stepNext st) e ∙ ap (λ (b : Bool). cond b (ended st) st) (ne-eqb (refusalNumber r) 4 other)
 
   forged-ends : step ≡ Unopened NotAuthentic → stepNext st step ≡ ended st
   forged-ends e = ap (stepNext st) e
@@ -220,7 +220,7 @@ module _ (st : Receiver) (s out : List ℕ) where
   ended-refuses : (keyLength (st .method) ≡ 0 → ⊥) → (bytes : List ℕ) (room : ℕ) → stepAnswer (ended st) bytes room ≡ Unopened NotAuthentic
   unfolding stepAnswer
   ended-refuses known bytes room =
-      ap (λ (b : Bool). pickStepped b (Unopened Settings) (Unopened NotAuthentic)) (ne-eqb (keyLength (st .method)) 0 known)
+      ap (λ (b : Bool). cond b (Unopened Settings) (Unopened NotAuthentic)) (ne-eqb (keyLength (st .method)) 0 known)
 
   step-front : Front (dueAt (st .turn)) (stepOut st s out) out
   step-front = go step-answered
@@ -249,11 +249,11 @@ abbrev amongSealed : Sealed → Bool
 amongSealed (Bytes n s) = true
 amongSealed (Unsealed r) = ofSealer r
 
-sealed-among : (b : Bool) (x : Sealed) (r : Refusal) → amongSealed x ≡ true → ofSealer r ≡ true → amongSealed (pickSealed b x (Unsealed r)) ≡ true
+sealed-among : (b : Bool) (x : Sealed) (r : Refusal) → amongSealed x ≡ true → ofSealer r ≡ true → amongSealed (cond b x (Unsealed r)) ≡ true
 sealed-among true x r e g = e
 sealed-among false x r e g = g
 
-sealed-denied : (b : Bool) (x : Sealed) (r : Refusal) → amongSealed x ≡ true → ofSealer r ≡ true → amongSealed (pickSealed b (Unsealed r) x) ≡ true
+sealed-denied : (b : Bool) (x : Sealed) (r : Refusal) → amongSealed x ≡ true → ofSealer r ≡ true → amongSealed (cond b (Unsealed r) x) ≡ true
 sealed-denied true x r e g = g
 sealed-denied false x r e g = e
 
@@ -267,13 +267,13 @@ among-request : (method : ℕ) (key salt address : List ℕ) (padding payload ro
 unfolding requestAnswer
 among-request method key salt address padding payload room =
     sealed-among (sizesFit method (length key) (length salt)) _ Settings
-    (sealed-among (both (isAddress address) (paddingLawful padding payload)) _ Argument
+    (sealed-among (isAddress address && paddingLawful padding payload) _ Argument
     (among-sizes (variableLength (length address) padding payload) (length salt + 27) room (begun method key salt)) refl) refl
 
 among-response : (method : ℕ) (key salt binding : List ℕ) (payload room : ℕ) → amongSealed (responseAnswer method key salt binding payload room) ≡ true
 unfolding responseAnswer
 among-response method key salt binding payload room =
-    sealed-among (both (sizesFit method (length key) (length salt)) (eqb (length binding) (length salt))) _ Settings
+    sealed-among (sizesFit method (length key) (length salt) && eqb (length binding) (length salt)) _ Settings
     (among-sizes payload (length salt + 27 + length binding) room (begun method key salt)) refl
 
 among-chunk : (s : Sender) (payload room : ℕ) → amongSealed (chunkAnswer s payload room) ≡ true

@@ -2,7 +2,7 @@
 -- length of AES.
 -- Assumes nothing.
 use mathlib.Core.Path.{_≡_, refl, sym, ap, ap₂, _∙_}
-use mathlib.Core.Bool.{Bool, true, false}
+use mathlib.Core.Bool.{Bool, true, false, cond, _&&_}
 use mathlib.Core.List.{List, _++_, append-assoc}
 use mathlib.Core.Logic.{inl, inr, ⊎-elim}
 use Prim.Native.Nat.{ℕ, _+_, _-_, _^_, _≤_, _<_}
@@ -12,7 +12,7 @@ use lib.Dec.{T, eqb, leb, ltb}
 use lib.ListN.{length, take, drop, length-append}
 use lib.Seq.{take-at, drop-at, drop-drop, drop-append-seam}
 use borrow.Author.Tests.{eq-eqb, ne-eqb, le-leb, leb-true, ltb-true}
-use Rattle.octets.specs.Buffers.{both, put}
+use Rattle.octets.specs.Buffers.{put}
 use Rattle.octets.specs.Numbers.{be, toBe}
 use Rattle.octets.proofs.NumberLaws.{length-toBe, be-toBe, be-front}
 use Rattle.gcm.specs.Gcm.{seal}
@@ -29,7 +29,7 @@ use Rattle.stream.specs.declared.Sender.{Sender}
 use Rattle.stream.specs.declared.Sealed.{Sealed}
 use Rattle.stream.specs.declared.Sealed.the-variants.{Bytes, Refused as Unsealed}
 use Rattle.stream.specs.Pieces.{nonce, sealAt, authenticAt, openAt, subkeyWords, keyOf}
-use Rattle.stream.specs.Sealing.{maxChunk, lastCounter, chunk, senderKey, moved, pickSealed, sizeAnswer, chunkAnswer}
+use Rattle.stream.specs.Sealing.{maxChunk, lastCounter, chunk, senderKey, moved, sizeAnswer, chunkAnswer}
 use Rattle.head_seal.specs.HeadSealing.{fixedPart, front}
 use Rattle.stream_open.specs.declared.Turn.{Turn}
 use Rattle.stream_open.specs.declared.Turn.the-variants.{Length, Payload}
@@ -37,8 +37,8 @@ use Rattle.stream_open.specs.declared.Receiver.{Receiver}
 use Rattle.stream_open.specs.declared.Stepped.{Stepped}
 use Rattle.stream_open.specs.declared.Stepped.the-variants.{Opened, Refused}
 use Rattle.response_open.specs.declared.FixedRead.the-variants.{Read, Refused as Unread}
-use Rattle.response_open.specs.Heads.{frontLength, fixedOf, receiver, pickFixed, fieldsOf, readFixed, openFixed, bindingOf}
-use Rattle.stream_open.specs.Chunks.{pickStepped, pieceAnswer, lengthRead, turnAnswer, writtenBy, stepAnswer, stepOut}
+use Rattle.response_open.specs.Heads.{frontLength, fixedOf, receiver, fieldsOf, readFixed, openFixed, bindingOf}
+use Rattle.stream_open.specs.Chunks.{pieceAnswer, lengthRead, turnAnswer, writtenBy, stepAnswer, stepOut}
 use Rattle.demands.specs.StreamsBack.{partner, midway, ChunkBack, ChunksGivenBack}
 use Rattle.stream.proofs.LengthLaws.{length-sealAt, length-chunk}
 use Rattle.head_seal.proofs.HeadLengthLaws.{length-fixedPart, length-front}
@@ -62,11 +62,11 @@ piece-back key counter text =
 
 -- ---- what an answered length says
 
-pub both-left : (a b : Bool) → both a b ≡ true → a ≡ true
+pub both-left : (a b : Bool) → (a && b) ≡ true → a ≡ true
 both-left true b e = refl
 both-left false b e = e
 
-pub both-right : (a b : Bool) → both a b ≡ true → b ≡ true
+pub both-right : (a b : Bool) → (a && b) ≡ true → b ≡ true
 both-right true b e = e
 both-right false b e = absurd (let z : _≡_ {A = ℕ} 0 1 = cc in omega arith)
 
@@ -89,7 +89,7 @@ pub record Answers (b : Bool) (x : Sealed) (n : ℕ) (s : Sender) : Type 0 where
   pub test : b ≡ true
   pub then : x ≡ Bytes n s
 
-pub answers : (b : Bool) (x : Sealed) (r : Refusal) (n : ℕ) (s : Sender) → pickSealed b x (Unsealed r) ≡ Bytes n s → Answers b x n s
+pub answers : (b : Bool) (x : Sealed) (r : Refusal) (n : ℕ) (s : Sender) → cond b x (Unsealed r) ≡ Bytes n s → Answers b x n s
 answers true x r n s e = record { test = refl; then = e }
 answers false x r n s e = absurd (not-bytes r n s e)
 
@@ -98,7 +98,7 @@ record Denied (b : Bool) (x : Sealed) (n : ℕ) (s : Sender) : Type 0 where
   test : b ≡ false
   then : x ≡ Bytes n s
 
-denied : (b : Bool) (x : Sealed) (r : Refusal) (n : ℕ) (s : Sender) → pickSealed b (Unsealed r) x ≡ Bytes n s → Denied b x n s
+denied : (b : Bool) (x : Sealed) (r : Refusal) (n : ℕ) (s : Sender) → cond b (Unsealed r) x ≡ Bytes n s → Denied b x n s
 denied false x r n s e = record { test = refl; then = e }
 denied true x r n s e = absurd (not-bytes r n s e)
 
@@ -179,9 +179,9 @@ module _ (method counter : ℕ) (w : Subkey) (known : eqb (keyLength method) 0 �
         → pieceAnswer (at turn) n sent asked room good ≡ good
     unfolding pieceAnswer
     piece-given turn n asked room e h good =
-        (λ i. pickStepped (ne-eqb counter lastCounter usable i) (Refused Counter)
-        (pickStepped (sent-long n e i)
-        (pickStepped (le-leb asked room h i) (pickStepped (sent-authentic n e i) good (Refused NotAuthentic)) (Refused Room))
+        (λ i. cond (ne-eqb counter lastCounter usable i) (Refused Counter)
+        (cond (sent-long n e i)
+        (cond (le-leb asked room h i) (cond (sent-authentic n e i) good (Refused NotAuthentic)) (Refused Room))
         (Refused (More (n + 16)))))
 
   length-step : (n : ℕ) → n ≤ maxChunk → (rest : List ℕ) (room : ℕ)
@@ -191,7 +191,7 @@ module _ (method counter : ℕ) (w : Subkey) (known : eqb (keyLength method) 0 �
       let text = toBe 2 n in
       let here : be 2 (openAt key counter (take 18 (sent text rest))) ≡ n =
       ap (be 2) (sent-opened text rest 2 (length-toBe 2 n)) ∙ be-toBe 2 n ∙ mod-eq-of-lt (omega arith) in
-      (λ i. pickStepped (known i) (Refused Settings) (turnAnswer Length (at Length) (sent text rest) room))
+      (λ i. cond (known i) (Refused Settings) (turnAnswer Length (at Length) (sent text rest) room))
       ∙ piece-given text rest Length 2 0 room (length-toBe 2 n) (omega arith) (Opened (record { used = 18; length = lengthRead (at Length) (sent text rest) }))
       ∙ ap (λ (k : ℕ). Opened (record { used = 18; length = k })) here
 
@@ -204,7 +204,7 @@ module _ (method counter : ℕ) (w : Subkey) (known : eqb (keyLength method) 0 �
       ≡ Opened (record { used = length text + 16; length = length text })
   unfolding stepAnswer
   payload-step text rest room h =
-      (λ i. pickStepped (known i) (Refused Settings) (turnAnswer (Payload (length text)) (at (Payload (length text))) (sent text rest) room))
+      (λ i. cond (known i) (Refused Settings) (turnAnswer (Payload (length text)) (at (Payload (length text))) (sent text rest) room))
       ∙ piece-given text rest (Payload (length text)) (length text) (length text) room refl h _
 
   pub payload-out : (text rest out : List ℕ) → length text ≤ length out
@@ -335,15 +335,15 @@ module _ (k salt : List ℕ) (kind time : ℕ) (binding : List ℕ) (size : ℕ)
     unfolding readFixed fixedPart
     fixed-reads clock valid =
         let valid-there = ap (λ (t : ℕ). timeValid t clock) time-back ∙ valid in
-        (λ i. pickFixed (eq-eqb kind kind refl i) (pickFixed (valid-there i) (Read (fieldsOf fixed)) (Unread WrongTime)) (Unread WrongType))
+        (λ i. cond (eq-eqb kind kind refl i) (cond (valid-there i) (Read (fieldsOf fixed)) (Unread WrongTime)) (Unread WrongType))
         ∙ ap Read fields-back
 
     pub fixed-back : (clock : ℕ) → timeValid time clock ≡ true
         → openFixed k kind clock (fixedOf n b head) ≡ Read (record { time = time; length = size })
     unfolding openFixed
     fixed-back clock valid =
-        (λ i. pickFixed (authenticAt k 0 (sealed-back i)) (readFixed kind clock (openAt k 0 (sealed-back i))) (Unread NotAuthentic))
-        ∙ (λ i. pickFixed (piece-back k 0 fixed .0 i) (readFixed kind clock (piece-back k 0 fixed .1 i)) (Unread NotAuthentic))
+        (λ i. cond (authenticAt k 0 (sealed-back i)) (readFixed kind clock (openAt k 0 (sealed-back i))) (Unread NotAuthentic))
+        ∙ (λ i. cond (piece-back k 0 fixed .0 i) (readFixed kind clock (piece-back k 0 fixed .1 i)) (Unread NotAuthentic))
         ∙ fixed-reads clock valid
 
 -- ---- the key of a stream, from the words that its state has

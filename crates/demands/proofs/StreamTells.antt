@@ -1,7 +1,7 @@
 -- When exactly a step opens a piece, and with which nonce.
 -- Assumes nothing.
 use mathlib.Core.Path.{_≡_, refl, sym, ap, ap₂, _∙_, subst}
-use mathlib.Core.Bool.{Bool, true, false}
+use mathlib.Core.Bool.{Bool, true, false, cond}
 use mathlib.Core.List.{List, [], _∷_}
 use Prim.Native.Nat.{ℕ, zero, suc, _+_, _^_, _<_}
 use native.Mathlib.Nat.{add-zero, mod-eq-of-lt}
@@ -22,7 +22,7 @@ use Rattle.stream_open.specs.declared.Receiver.{Receiver}
 use Rattle.stream_open.specs.declared.Chunk.{Chunk}
 use Rattle.stream_open.specs.declared.Stepped.{Stepped}
 use Rattle.stream_open.specs.declared.Stepped.the-variants.{Opened, Refused}
-use Rattle.stream_open.specs.Chunks.{pickStepped, streamKey, pieceAnswer, lengthRead, turnAnswer, writtenBy, payloadPiece, stepAnswer, stepOut, stepNext}
+use Rattle.stream_open.specs.Chunks.{streamKey, pieceAnswer, lengthRead, turnAnswer, writtenBy, payloadPiece, stepAnswer, stepOut, stepNext}
 use Rattle.demands.specs.StreamsOpen.{PieceOpens, TurnOpens, turnText, StepOpens, StepExactlyWhen}
 use Rattle.demands.specs.StreamsBack.{Flow, answerTo, writtenIn, stepped, after, AllOpened, OwnNonces, NoncesDiffer}
 
@@ -43,7 +43,7 @@ record Passed (b : Bool) (x : Stepped) (c : Chunk) : Type 0 where
   test : b ≡ true
   then : x ≡ Opened c
 
-passed : (b : Bool) (x : Stepped) (r : Refusal) (c : Chunk) → pickStepped b x (Refused r) ≡ Opened c → Passed b x c
+passed : (b : Bool) (x : Stepped) (r : Refusal) (c : Chunk) → cond b x (Refused r) ≡ Opened c → Passed b x c
 passed true x r c e = record { test = refl; then = e }
 passed false x r c e = absurd (not-opened r c e)
 
@@ -51,7 +51,7 @@ record Denied (b : Bool) (x : Stepped) (c : Chunk) : Type 0 where
   test : b ≡ false
   then : x ≡ Opened c
 
-denied : (b : Bool) (x : Stepped) (r : Refusal) (c : Chunk) → pickStepped b (Refused r) x ≡ Opened c → Denied b x c
+denied : (b : Bool) (x : Stepped) (r : Refusal) (c : Chunk) → cond b (Refused r) x ≡ Opened c → Denied b x c
 denied false x r c e = record { test = refl; then = e }
 denied true x r c e = absurd (not-opened r c e)
 
@@ -78,9 +78,9 @@ module _ (st : Receiver) (n : ℕ) (s : List ℕ) (asked room : ℕ) (good c : C
   piece-given : PieceOpens (streamKey st) (st .counter) n s asked room → c ≡ good → pieceAnswer st n s asked room (Opened good) ≡ Opened c
   unfolding pieceAnswer
   piece-given p e =
-      (λ i. pickStepped (ne-eqb (st .counter) lastCounter (p .usable) i) (Refused Counter)
-      (pickStepped (le-leb (n + 16) (length s) (p .whole) i)
-      (pickStepped (le-leb asked room (p .has-room) i) (pickStepped (p .authentic i) (Opened good) (Refused NotAuthentic)) (Refused Room))
+      (λ i. cond (ne-eqb (st .counter) lastCounter (p .usable) i) (Refused Counter)
+      (cond (le-leb (n + 16) (length s) (p .whole) i)
+      (cond (le-leb asked room (p .has-room) i) (cond (p .authentic i) (Opened good) (Refused NotAuthentic)) (Refused Room))
       (Refused (More (n + 16)))))
       ∙ ap Opened (sym e)
 
@@ -116,7 +116,7 @@ module _ (st : Receiver) (s : List ℕ) (room : ℕ) (c : Chunk) where
   pub step-given : StepOpens st s room c → stepAnswer st s room ≡ Opened c
   unfolding stepAnswer
   step-given p =
-      (λ i. pickStepped (ne-eqb (keyLength (st .method)) 0 (p .known) i) (Refused Settings) (turnAnswer (st .turn) st s room))
+      (λ i. cond (ne-eqb (keyLength (st .method)) 0 (p .known) i) (Refused Settings) (turnAnswer (st .turn) st s room))
       ∙ turn-given (st .turn) st s room c (p .opens)
 
 pub step-text : (st : Receiver) (s out : List ℕ) (c : Chunk) → stepAnswer st s (length out) ≡ Opened c

@@ -1,16 +1,16 @@
 -- What is lawful, as tests and as facts; sealing and opening under a key.
 -- Assumes nothing.
 use mathlib.Core.Path.{_≡_, refl, sym, ap, ap₂, _∙_, subst}
-use mathlib.Core.Bool.{Bool, true, false}
+use mathlib.Core.Bool.{Bool, true, false, cond, _&&_}
 use mathlib.Core.List.{List, map}
 use Prim.Native.Nat.{ℕ, zero, suc, _+_, _-_, _*_, _≤_, _<_}
 use native.Mathlib.Omega.{arith}
 use lib.Dec.{T, eqb, leb, ltb, eqb→eq, leb→le, ltb→lt}
 use lib.ListN.{length, take}
 use borrow.Author.Tests.{eq-eqb, ne-eqb, le-leb, lt-leb, lt-ltb}
-use Rattle.octets.specs.Buffers.{both, put}
-use Rattle.aes.specs.KeyExpansion.{if, keyExpansion}
-use Rattle.aes.specs.Keyed.{pick, nkOf}
+use Rattle.octets.specs.Buffers.{put}
+use Rattle.aes.specs.KeyExpansion.{keyExpansion}
+use Rattle.aes.specs.Keyed.{nkOf}
 use Rattle.aes.specs.Words.{bytes}
 use Rattle.aes.proofs.KeyedLaws.{KeyLength, key-length}
 use Rattle.ctr.specs.Gctr.{ciphAt, aesBlock}
@@ -19,7 +19,7 @@ use Rattle.gcm.specs.Gcm.{seal, textOf, opened}
 use Rattle.gcm.specs.declared.Opened.the-variants.{Text, Forged, Unlawful}
 use Rattle.gcm.specs.Keyed.{maxText, ciphOf, fits, words, sealLawful, sealed, openLawful, inPlaceLawful, sealedInPlace, authentic, answer, openAnswer, openOut}
 
-both-false : (b : Bool) → both b false ≡ false
+both-false : (b : Bool) → (b && false) ≡ false
 both-false true = refl
 both-false false = refl
 
@@ -29,24 +29,24 @@ module _ (k n len due room : ℕ) where
   no-nonce : (n ≡ 12 → ⊥) → fits k n len due room ≡ false
   unfolding fits
   no-nonce h =
-      ap (λ (b : Bool). both (ltb 0 (nkOf k)) (both b (both (leb len maxText) (leb due room)))) (ne-eqb n 12 h) ∙ both-false (ltb 0 (nkOf k))
+      ap (λ (b : Bool). ltb 0 (nkOf k) && (b && (leb len maxText && leb due room))) (ne-eqb n 12 h) ∙ both-false (ltb 0 (nkOf k))
 
   too-long : maxText < len → fits k n len due room ≡ false
   unfolding fits
   too-long h =
-      ap (λ (b : Bool). both (ltb 0 (nkOf k)) (both (eqb n 12) (both b (leb due room)))) (lt-leb len maxText h)
-      ∙ ap (both (ltb 0 (nkOf k))) (both-false (eqb n 12)) ∙ both-false (ltb 0 (nkOf k))
+      ap (λ (b : Bool). ltb 0 (nkOf k) && (eqb n 12 && (b && leb due room))) (lt-leb len maxText h)
+      ∙ ap (_&&_ (ltb 0 (nkOf k))) (both-false (eqb n 12)) ∙ both-false (ltb 0 (nkOf k))
 
   no-room : room < due → fits k n len due room ≡ false
   unfolding fits
   no-room h =
-      ap (λ (b : Bool). both (ltb 0 (nkOf k)) (both (eqb n 12) (both (leb len maxText) b))) (lt-leb due room h)
-      ∙ ap (λ (b : Bool). both (ltb 0 (nkOf k)) (both (eqb n 12) b)) (both-false (leb len maxText))
-      ∙ ap (both (ltb 0 (nkOf k))) (both-false (eqb n 12)) ∙ both-false (ltb 0 (nkOf k))
+      ap (λ (b : Bool). ltb 0 (nkOf k) && (eqb n 12 && (leb len maxText && b))) (lt-leb due room h)
+      ∙ ap (λ (b : Bool). ltb 0 (nkOf k) && (eqb n 12 && b)) (both-false (leb len maxText))
+      ∙ ap (_&&_ (ltb 0 (nkOf k))) (both-false (eqb n 12)) ∙ both-false (ltb 0 (nkOf k))
 
   none : fits k n len due room ≡ false → 0 ≡ words k n len due room
   unfolding words
-  none e = sym (ap (λ (b : Bool). pick b (nkOf k) 0) e)
+  none e = sym (ap (λ (b : Bool). cond b (nkOf k) 0) e)
 
   pub words-nonce : (n ≡ 12 → ⊥) → 0 ≡ words k n len due room
   words-nonce h = none (no-nonce h)
@@ -61,13 +61,13 @@ module _ (k n len due room : ℕ) where
   unfolding words fits
   words-key en el er =
       sym
-      (ap (λ (b : Bool). pick (both (ltb 0 (nkOf k)) b) (nkOf k) 0)
-      (λ i. both (eq-eqb n 12 en i) (both (le-leb len maxText el i) (le-leb due room er i)))
+      (ap (λ (b : Bool). cond (ltb 0 (nkOf k) && b) (nkOf k) 0)
+      (λ i. eq-eqb n 12 en i && (le-leb len maxText el i && le-leb due room er i))
       ∙ itself (nkOf k))
     where
-      itself : (w : ℕ) → pick (both (ltb 0 w) true) w 0 ≡ w
+      itself : (w : ℕ) → cond (ltb 0 w && true) w 0 ≡ w
       itself zero = refl
-      itself (suc w) = let h : 0 < suc w = omega arith in ap (λ (b : Bool). pick (both b true) (suc w) 0) (lt-ltb 0 (suc w) h)
+      itself (suc w) = let h : 0 < suc w = omega arith in ap (λ (b : Bool). cond (b && true) (suc w) 0) (lt-ltb 0 (suc w) h)
 
 -- ---- and as facts
 
@@ -84,7 +84,7 @@ module _ (k n len due room nk : ℕ) (e : nk ≡ words k n len due room) where
   unfolding words fits
   fits-not z = go (ltb 0 (nkOf k)) (eqb n 12) (leb len maxText) (leb due room) (ltb→lt 0 (nkOf k)) (sym e ∙ z)
     where
-      go : (a b c d : Bool) → (T a → 0 < nkOf k) → pick (both a (both b (both c d))) (nkOf k) 0 ≡ 0 → both a (both b (both c d)) ≡ false
+      go : (a b c d : Bool) → (T a → 0 < nkOf k) → cond (a && (b && (c && d))) (nkOf k) 0 ≡ 0 → (a && (b && (c && d))) ≡ false
       go false b c d p q = refl
       go true false c d p q = refl
       go true true false d p q = refl
@@ -97,7 +97,7 @@ module _ (k n len due room nk : ℕ) (e : nk ≡ words k n len due room) where
       go (ltb 0 (nkOf k)) (eqb n 12) (leb len maxText) (leb due room) (eqb→eq n 12) (leb→le len maxText) (leb→le due room) refl e
     where
       go : (a b c d : Bool) → (T b → n ≡ 12) → (T c → len ≤ maxText) → (T d → due ≤ room)
-          → fits k n len due room ≡ both a (both b (both c d)) → nk ≡ pick (both a (both b (both c d))) (nkOf k) 0 → Fits k n len due room nk
+          → fits k n len due room ≡ (a && (b && (c && d))) → nk ≡ cond (a && (b && (c && d))) (nkOf k) 0 → Fits k n len due room nk
       go false b c d p q r f w = absurd (h w)
       go true false c d p q r f w = absurd (h w)
       go true true false d p q r f w = absurd (h w)
@@ -122,7 +122,7 @@ module _ (key nonce text out : List ℕ) where
   pub seal-refused : fits (length key) (length nonce) (length text) (length text + 16) (length out) ≡ false
       → (false ≡ sealLawful key nonce text out) × (out ≡ sealed key nonce text out)
   unfolding sealed sealLawful
-  seal-refused e = (sym e, sym (ap (λ (b : Bool). if b (put out 0 (seal (ciphOf key) nonce text)) out) e))
+  seal-refused e = (sym e, sym (ap (λ (b : Bool). cond b (put out 0 (seal (ciphOf key) nonce text)) out) e))
 
   pub seal-done : (nk : ℕ) (w m o : List ℕ) → fits (length key) (length nonce) (length text) (length text + 16) (length out) ≡ true
       → nk ≡ nkOf (length key) → map bytes (take (4 * nk + 28) w) ≡ keyExpansion nk key → m ≡ nonce
@@ -131,21 +131,21 @@ module _ (key nonce text out : List ℕ) where
   seal-done nk w m o e en ew em eo = (
     sym e,
     eo ∙ (λ i. put out 0 (seal (ciph-key nk key w en ew i) (em i) text))
-        ∙ sym (ap (λ (b : Bool). if b (put out 0 (seal (ciphOf key) nonce text)) out) e),
+        ∙ sym (ap (λ (b : Bool). cond b (put out 0 (seal (ciphOf key) nonce text)) out) e),
   )
 
 short-unlawful : (key nonce s out : List ℕ) → length s < 16 → openLawful key nonce s out ≡ false
 unfolding openLawful
 short-unlawful key nonce s out h =
-    ap (λ (b : Bool). both b (fits (length key) (length nonce) (length s - 16) (length s - 16) (length out))) (lt-leb 16 (length s) h)
+    ap (λ (b : Bool). b && fits (length key) (length nonce) (length s - 16) (length s - 16) (length out)) (lt-leb 16 (length s) h)
 
 -- ---- sealing in place
 
 module _ (key nonce s : List ℕ) where
   in-place-decided : (b : Bool) → openLawful key nonce s s ≡ b
-      → (b ≡ inPlaceLawful key nonce s) × (if b (seal (ciphOf key) nonce (textOf s)) s ≡ sealedInPlace key nonce s)
+      → (b ≡ inPlaceLawful key nonce s) × (cond b (seal (ciphOf key) nonce (textOf s)) s ≡ sealedInPlace key nonce s)
   unfolding inPlaceLawful sealedInPlace
-  in-place-decided b e = (sym e, ap (λ (l : Bool). if l (seal (ciphOf key) nonce (textOf s)) s) (sym e))
+  in-place-decided b e = (sym e, ap (λ (l : Bool). cond l (seal (ciphOf key) nonce (textOf s)) s) (sym e))
 
   pub in-place-short : length s < 16 → (false ≡ inPlaceLawful key nonce s) × (s ≡ sealedInPlace key nonce s)
   in-place-short h = in-place-decided false (short-unlawful key nonce s s h)
@@ -153,7 +153,7 @@ module _ (key nonce s : List ℕ) where
   pub in-place-refused : 16 ≤ length s → fits (length key) (length nonce) (length s - 16) (length s - 16) (length s) ≡ false
       → (false ≡ inPlaceLawful key nonce s) × (s ≡ sealedInPlace key nonce s)
   unfolding openLawful
-  in-place-refused h e = in-place-decided false (ap₂ both (le-leb 16 (length s) h) e)
+  in-place-refused h e = in-place-decided false (ap₂ _&&_ (le-leb 16 (length s) h) e)
 
   pub in-place-done : (nk : ℕ) (w m o : List ℕ) → 16 ≤ length s
       → fits (length key) (length nonce) (length s - 16) (length s - 16) (length s) ≡ true
@@ -161,7 +161,7 @@ module _ (key nonce s : List ℕ) where
       → o ≡ seal (ciphAt (nk + 6) w) m (textOf s) → (true ≡ inPlaceLawful key nonce s) × (o ≡ sealedInPlace key nonce s)
   unfolding openLawful
   in-place-done nk w m o h e en ew em eo =
-      let d = in-place-decided true (ap₂ both (le-leb 16 (length s) h) e) in
+      let d = in-place-decided true (ap₂ _&&_ (le-leb 16 (length s) h) e) in
       (d .0, eo ∙ (λ i. seal (ciph-key nk key w en ew i) (em i) (textOf s)) ∙ d .1)
 
 -- ---- opening
@@ -169,10 +169,10 @@ module _ (key nonce s : List ℕ) where
 module _ (key nonce s out : List ℕ) where
   -- the answer and the buffer, where the tests have come out so
   decided : (l a : Bool) → openLawful key nonce s out ≡ l → authentic (ciphOf key) nonce s ≡ a
-      → (answer l a ≡ openAnswer key nonce s out) × (if (both l a) (put out 0 (opened (ciphOf key) nonce s)) out ≡ openOut key nonce s out)
+      → (answer l a ≡ openAnswer key nonce s out) × (cond (l && a) (put out 0 (opened (ciphOf key) nonce s)) out ≡ openOut key nonce s out)
   unfolding openAnswer openOut
   decided l a el ea =
-      (λ i. answer (sym el i) (sym ea i), λ i. if (both (sym el i) (sym ea i)) (put out 0 (opened (ciphOf key) nonce s)) out)
+      (λ i. answer (sym el i) (sym ea i), λ i. cond (sym el i && sym ea i) (put out 0 (opened (ciphOf key) nonce s)) out)
 
   open-unlawful : openLawful key nonce s out ≡ false → (Unlawful ≡ openAnswer key nonce s out) × (out ≡ openOut key nonce s out)
   open-unlawful e = decided false (authentic (ciphOf key) nonce s) e refl
@@ -183,30 +183,28 @@ module _ (key nonce s out : List ℕ) where
   pub open-refused : 16 ≤ length s → fits (length key) (length nonce) (length s - 16) (length s - 16) (length out) ≡ false
       → (Unlawful ≡ openAnswer key nonce s out) × (out ≡ openOut key nonce s out)
   unfolding openLawful
-  open-refused h e = open-unlawful (ap₂ both (le-leb 16 (length s) h) e)
+  open-refused h e = open-unlawful (ap₂ _&&_ (le-leb 16 (length s) h) e)
 
   pub open-done : (nk : ℕ) (w m o : List ℕ) (b : Bool) → 16 ≤ length s
       → fits (length key) (length nonce) (length s - 16) (length s - 16) (length out) ≡ true
       → nk ≡ nkOf (length key) → map bytes (take (4 * nk + 28) w) ≡ keyExpansion nk key → m ≡ nonce
-      → b ≡ authentic (ciphAt (nk + 6) w) m s → o ≡ if b (put out 0 (opened (ciphAt (nk + 6) w) m s)) out
+      → b ≡ authentic (ciphAt (nk + 6) w) m s → o ≡ cond b (put out 0 (opened (ciphAt (nk + 6) w) m s)) out
       → (answer true b ≡ openAnswer key nonce s out) × (o ≡ openOut key nonce s out)
   unfolding openLawful
   open-done nk w m o b h e en ew em eb eo =
       let p = ciph-key nk key w en ew in
-      let d = decided true b (ap₂ both (le-leb 16 (length s) h) e) (sym (eb ∙ (λ i. authentic (p i) (em i) s))) in
-      (d .0, eo ∙ (λ i. if b (put out 0 (opened (p i) (em i) s)) out) ∙ d .1)
+      let d = decided true b (ap₂ _&&_ (le-leb 16 (length s) h) e) (sym (eb ∙ (λ i. authentic (p i) (em i) s))) in
+      (d .0, eo ∙ (λ i. cond b (put out 0 (opened (p i) (em i) s)) out) ∙ d .1)
 
   -- where every length is lawful, the tag decides
   pub open-lawful : 0 < nkOf (length key) → length nonce ≡ 12 → 16 ≤ length s → length s - 16 ≤ maxText → length s - 16 ≤ length out
       → openLawful key nonce s out ≡ true
   unfolding openLawful fits
   open-lawful k n t m r =
-      λ i. both (le-leb 16 (length s) t i)
-      (both (lt-ltb 0 (nkOf (length key)) k i)
-      (both (eq-eqb (length nonce) 12 n i) (both (le-leb (length s - 16) maxText m i) (le-leb (length s - 16) (length out) r i))))
+      λ i. le-leb 16 (length s) t i && (lt-ltb 0 (nkOf (length key)) k i && (eq-eqb (length nonce) 12 n i && (le-leb (length s - 16) maxText m i && le-leb (length s - 16) (length out) r i)))
 
   pub open-decided : openLawful key nonce s out ≡ true → let b = authentic (ciphOf key) nonce s in
-      (answer true b ≡ openAnswer key nonce s out) × (if b (put out 0 (opened (ciphOf key) nonce s)) out ≡ openOut key nonce s out)
+      (answer true b ≡ openAnswer key nonce s out) × (cond b (put out 0 (opened (ciphOf key) nonce s)) out ≡ openOut key nonce s out)
   open-decided l = decided true (authentic (ciphOf key) nonce s) l refl
 
 -- the same of sealing in place
@@ -214,7 +212,7 @@ pub in-place-seals : (key nonce s : List ℕ) → 0 < nkOf (length key) → leng
     → sealedInPlace key nonce s ≡ seal (ciphOf key) nonce (textOf s)
 unfolding inPlaceLawful sealedInPlace
 in-place-seals key nonce s k n t m =
-    ap (λ (b : Bool). if b (seal (ciphOf key) nonce (textOf s)) s) (open-lawful key nonce s s k n t m (omega arith))
+    ap (λ (b : Bool). cond b (seal (ciphOf key) nonce (textOf s)) s) (open-lawful key nonce s s k n t m (omega arith))
 
 -- what an answer says of the tag
 pub answer-text : (b : Bool) → answer true b ≡ Text → b ≡ true

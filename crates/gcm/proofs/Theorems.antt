@@ -2,13 +2,12 @@
 -- same text. For every key length of AES.
 -- Assumes nothing.
 use mathlib.Core.Path.{_≡_, refl, sym, ap, ap₂, _∙_, subst}
-use mathlib.Core.Bool.{Bool, true, false}
+use mathlib.Core.Bool.{Bool, true, false, cond, _&&_}
 use mathlib.Core.List.{List}
 use Prim.Native.Nat.{ℕ}
 use native.Mathlib.Omega.{arith}
 use lib.Dec.{T}
-use Rattle.octets.specs.Buffers.{both, put}
-use Rattle.aes.specs.KeyExpansion.{if}
+use Rattle.octets.specs.Buffers.{put}
 use Rattle.gcm.specs.declared.Opened.{Opened}
 use Rattle.gcm.specs.declared.Opened.the-variants.{Text, Forged, Unlawful}
 use Rattle.gcm.specs.Gcm.{seal, Authentic, opened}
@@ -38,7 +37,7 @@ module _ (key nonce s out : List ℕ) (lawful : openLawful key nonce s out ≡ t
   pub opens-to : Authentic (ciphOf key) nonce s → openOut key nonce s out ≡ put out 0 (opened (ciphOf key) nonce s)
   unfolding openOut
   opens-to a =
-      ap₂ (λ (l b : Bool). if (both l b) (put out 0 (opened (ciphOf key) nonce s)) out) lawful
+      ap₂ (λ (l b : Bool). cond (l && b) (put out 0 (opened (ciphOf key) nonce s)) out) lawful
       (test-true (authentic (ciphOf key) nonce s) (authentic-exactly (ciphOf key) nonce s .1 a))
 
 pub sealed-opens : (key nonce text out : List ℕ) → let s = seal (ciphOf key) nonce text in

@@ -1,12 +1,11 @@
 -- AES-GCM under a key of bytes, on lent buffers: what is lawful, what is answered and what is written.
-use mathlib.Core.Bool.{Bool, true, false}
+use mathlib.Core.Bool.{Bool, true, false, cond, _&&_}
 use mathlib.Core.List.{List}
 use Prim.Native.Nat.{ℕ, _+_, _-_}
 use lib.Dec.{eqb, leb, ltb}
 use lib.ListN.{length}
-use Rattle.octets.specs.Buffers.{both, put, same}
-use Rattle.aes.specs.KeyExpansion.{if}
-use Rattle.aes.specs.Keyed.{pick, nkOf}
+use Rattle.octets.specs.Buffers.{put, same}
+use Rattle.aes.specs.Keyed.{nkOf}
 use Rattle.ctr.specs.Gctr.{aesBlock}
 use Rattle.gcm.specs.Gcm.{tag, seal, textOf, tagOf, opened}
 use Rattle.gcm.specs.declared.Opened.{Opened}
@@ -22,29 +21,29 @@ ciphOf key = aesBlock (nkOf (length key)) key
 
 -- a key of k bytes and a nonce of n, a text of len bytes that is not too long, and room for what is due
 unfoldable pub fits : ℕ → ℕ → ℕ → ℕ → ℕ → Bool
-fits k n len due room = both (ltb 0 (nkOf k)) (both (eqb n 12) (both (leb len maxText) (leb due room)))
+fits k n len due room = ltb 0 (nkOf k) && (eqb n 12 && (leb len maxText && leb due room))
 
 -- Nk where all that fits, and 0
 unfoldable pub words : ℕ → ℕ → ℕ → ℕ → ℕ → ℕ
-words k n len due room = pick (fits k n len due room) (nkOf k) 0
+words k n len due room = cond (fits k n len due room) (nkOf k) 0
 
 -- sealing asks for room for the text and its tag, and fills that
 unfoldable pub sealLawful : List ℕ → List ℕ → List ℕ → List ℕ → Bool
 sealLawful key nonce text out = fits (length key) (length nonce) (length text) (length text + 16) (length out)
 
 unfoldable pub sealed : List ℕ → List ℕ → List ℕ → List ℕ → List ℕ
-sealed key nonce text out = if (sealLawful key nonce text out) (put out 0 (seal (ciphOf key) nonce text)) out
+sealed key nonce text out = cond (sealLawful key nonce text out) (put out 0 (seal (ciphOf key) nonce text)) out
 
 -- opening asks for a tag at least, and for room for the text
 unfoldable pub openLawful : List ℕ → List ℕ → List ℕ → List ℕ → Bool
-openLawful key nonce s out = both (leb 16 (length s)) (fits (length key) (length nonce) (length s - 16) (length s - 16) (length out))
+openLawful key nonce s out = leb 16 (length s) && fits (length key) (length nonce) (length s - 16) (length s - 16) (length out)
 
 -- sealing in place asks for room for a tag behind the text
 unfoldable pub inPlaceLawful : List ℕ → List ℕ → List ℕ → Bool
 inPlaceLawful key nonce s = openLawful key nonce s s
 
 unfoldable pub sealedInPlace : List ℕ → List ℕ → List ℕ → List ℕ
-sealedInPlace key nonce s = if (inPlaceLawful key nonce s) (seal (ciphOf key) nonce (textOf s)) s
+sealedInPlace key nonce s = cond (inPlaceLawful key nonce s) (seal (ciphOf key) nonce (textOf s)) s
 
 -- whether the tag is that of the text
 unfoldable pub authentic : (ℕ → List ℕ) → List ℕ → List ℕ → Bool
@@ -60,4 +59,4 @@ openAnswer key nonce s out = answer (openLawful key nonce s out) (authentic (cip
 
 unfoldable pub openOut : List ℕ → List ℕ → List ℕ → List ℕ → List ℕ
 openOut key nonce s out =
-    if (both (openLawful key nonce s out) (authentic (ciphOf key) nonce s)) (put out 0 (opened (ciphOf key) nonce s)) out
+    cond (openLawful key nonce s out && authentic (ciphOf key) nonce s) (put out 0 (opened (ciphOf key) nonce s)) out

@@ -8,7 +8,7 @@ ghost use Rattle.octets.specs.Buffers.{put};
 ghost use Rattle.octets.specs.Numbers.{toBe};
 ghost use Rattle.aes_tables.specs.SBox.{sBox};
 ghost use Rattle.aes_tables.specs.Tables.{IsTable, mixEntry};
-ghost use Rattle.aes.specs.KeyExpansion.{if};
+ghost use mathlib.Core.Bool.{cond};
 ghost use Rattle.ghash.specs.Words.{blockOf};
 ghost use Rattle.ctr.specs.Gctr.{ciphAt};
 ghost use Rattle.ctr.specs.Words.{nonceBytes};
@@ -192,7 +192,7 @@ pub fn open_at(
     requires { ⌜ length (now s) - 16 ≤ maxText ⌝ }
     requires { ⌜ length (now s) - 16 ≤ length (now out) ⌝ }
     ensures { λ r. ⌜ r ≡ authentic (ciphAt rounds (now (w .entry))) (nonceBytes n) (now (s .entry)) ⌝ }
-    ensures { λ r. ⌜ now (out .exit) ≡ if r (put (now (out .entry)) 0 (spec.opened (ciphAt rounds (now (w .entry))) (nonceBytes n) (now (s .entry)))) (now (out .entry)) ⌝ }
+    ensures { λ r. ⌜ now (out .exit) ≡ cond r (put (now (out .entry)) 0 (spec.opened (ciphAt rounds (now (w .entry))) (nonceBytes n) (now (s .entry)))) (now (out .entry)) ⌝ }
 {
     let len = s.len() - 16;
     let tag = tag_of(t, sbox, w, rounds, n, &s[..len]);

@@ -1,7 +1,7 @@
 -- What sealing a head answers: one law for each way out, and what an answered length tells.
 -- Assumes nothing.
 use mathlib.Core.Path.{_≡_, refl, sym, ap, ap₂, _∙_, subst}
-use mathlib.Core.Bool.{Bool, true, false}
+use mathlib.Core.Bool.{Bool, true, false, cond, _&&_}
 use mathlib.Core.List.{List}
 use mathlib.Core.Logic.{_⊎_}
 use Prim.Native.Nat.{ℕ, _+_, _≤_, _<_, min}
@@ -10,7 +10,6 @@ use native.Mathlib.Omega.{arith}
 use lib.Dec.{eqb, leb, ltb}
 use lib.ListN.{length}
 use borrow.Author.Tests.{ne-eqb, eq-eqb, le-leb, lt-leb, lt-ltb, eqb-true}
-use Rattle.octets.specs.Buffers.{both}
 use Rattle.aes.specs.Keyed.{nkOf}
 use Rattle.aes.proofs.KeyedLaws.{key-most}
 use Rattle.protocol.specs.declared.Refusal.the-variants.{Settings, Argument}
@@ -23,12 +22,12 @@ use Rattle.stream.specs.declared.Sender.{Sender}
 use Rattle.stream.specs.declared.Sealed.{Sealed}
 use Rattle.stream.specs.declared.Sealed.the-variants.{Bytes, Refused}
 use Rattle.stream.specs.Pieces.{subkeyWords, keyOf}
-use Rattle.stream.specs.Sealing.{maxChunk, pickSealed, sizeAnswer}
+use Rattle.stream.specs.Sealing.{maxChunk, sizeAnswer}
 use Rattle.stream.proofs.KeyLaws.{key-of-method, length-subkey, octets-subkey, subkey-back}
 use Rattle.stream.proofs.SealAnswerLaws.{too-long, passed, sized}
 use Rattle.head_seal.specs.HeadSealing.{maxPadding, variableLength, begun, sizesFit, paddingLawful, requestAnswer, responseAnswer}
 
-both-true : (a b : Bool) → both a b ≡ true → (a ≡ true) × (b ≡ true)
+both-true : (a b : Bool) → (a && b) ≡ true → (a ≡ true) × (b ≡ true)
 both-true true b e = (refl, e)
 both-true false b e = absurd (let z : _≡_ {A = ℕ} 0 1 = cc in omega arith)
 
@@ -45,11 +44,11 @@ pub record Suited (method key salt : ℕ) : Type 0 where
 module _ (method key salt : ℕ) where
   pub key-unfit : keyFits method key ≡ false → false ≡ sizesFit method key salt
   unfolding sizesFit
-  key-unfit e = sym (ap (λ (b : Bool). both b (eqb salt (saltLength method))) e)
+  key-unfit e = sym (ap (λ (b : Bool). b && eqb salt (saltLength method)) e)
 
   pub salt-decides : keyFits method key ≡ true → (n : ℕ) → n ≡ saltLength method → eqb salt n ≡ sizesFit method key salt
   unfolding sizesFit
-  salt-decides e n en = ap (eqb salt) en ∙ sym (ap (λ (b : Bool). both b (eqb salt (saltLength method))) e)
+  salt-decides e n en = ap (eqb salt) en ∙ sym (ap (λ (b : Bool). b && eqb salt (saltLength method)) e)
 
   pub suited : sizesFit method key salt ≡ true → Suited method key salt
   unfolding sizesFit
@@ -63,9 +62,9 @@ module _ (method key salt : ℕ) where
 -- ---- padding
 
 module _ (padding payload : ℕ) where
-  padding-decided : (a b : Bool) → leb padding maxPadding ≡ a → ltb 0 (padding + payload) ≡ b → both a b ≡ paddingLawful padding payload
+  padding-decided : (a b : Bool) → leb padding maxPadding ≡ a → ltb 0 (padding + payload) ≡ b → (a && b) ≡ paddingLawful padding payload
   unfolding paddingLawful
-  padding-decided a b ea eb = sym (ap₂ both ea eb)
+  padding-decided a b ea eb = sym (ap₂ _&&_ ea eb)
 
   pub padding-over : maxPadding < padding → false ≡ paddingLawful padding payload
   padding-over h = padding-decided false (ltb 0 (padding + payload)) (lt-leb padding maxPadding h) refl
@@ -111,22 +110,22 @@ module _ (method : ℕ) (key salt address : List ℕ) (padding payload room : �
   abbrev requestSizes : Sealed
   requestSizes = sizeAnswer (variableLength (length address) padding payload) (length salt + 27) room (begun method key salt)
 
-  request-decided : (a b : Bool) → sizesFit method (length key) (length salt) ≡ a → both (isAddress address) (paddingLawful padding payload) ≡ b
-      → pickSealed a (pickSealed b requestSizes (Refused Argument)) (Refused Settings) ≡ requestAnswer method key salt address padding payload room
+  request-decided : (a b : Bool) → sizesFit method (length key) (length salt) ≡ a → (isAddress address && paddingLawful padding payload) ≡ b
+      → cond a (cond b requestSizes (Refused Argument)) (Refused Settings) ≡ requestAnswer method key salt address padding payload room
   unfolding requestAnswer
-  request-decided a b ea eb = λ i. pickSealed (sym ea i) (pickSealed (sym eb i) requestSizes (Refused Argument)) (Refused Settings)
+  request-decided a b ea eb = λ i. cond (sym ea i) (cond (sym eb i) requestSizes (Refused Argument)) (Refused Settings)
 
   pub request-unfit : sizesFit method (length key) (length salt) ≡ false
       → Refused Settings ≡ requestAnswer method key salt address padding payload room
-  request-unfit e = request-decided false (both (isAddress address) (paddingLawful padding payload)) e refl
+  request-unfit e = request-decided false (isAddress address && paddingLawful padding payload) e refl
 
   pub request-no-address : sizesFit method (length key) (length salt) ≡ true → isAddress address ≡ false
       → Refused Argument ≡ requestAnswer method key salt address padding payload room
-  request-no-address e f = request-decided true false e (ap (λ (b : Bool). both b (paddingLawful padding payload)) f)
+  request-no-address e f = request-decided true false e (ap (λ (b : Bool). b && paddingLawful padding payload) f)
 
   pub request-unlawful : sizesFit method (length key) (length salt) ≡ true → isAddress address ≡ true → paddingLawful padding payload ≡ false
       → Refused Argument ≡ requestAnswer method key salt address padding payload room
-  request-unlawful e f g = request-decided true false e (ap₂ both f g)
+  request-unlawful e f g = request-decided true false e (ap₂ _&&_ f g)
 
   pub request-sized : sizesFit method (length key) (length salt) ≡ true → isAddress address ≡ true → paddingLawful padding payload ≡ true
       → (n : ℕ) → n ≡ min (variableLength (length address) padding payload) (maxChunk + 1) → (s : Sender) → s ≡ begun method key salt
@@ -134,7 +133,7 @@ module _ (method : ℕ) (key salt address : List ℕ) (padding payload room : �
   request-sized e f g n en s es r er =
       er ∙ (λ i. sizeAnswer (en i) (length salt + 27) room (es i))
       ∙ capped-same (variableLength (length address) padding payload) (length salt + 27) room (begun method key salt)
-      ∙ request-decided true true e (ap₂ both f g)
+      ∙ request-decided true true e (ap₂ _&&_ f g)
 
 -- ---- the answer to a response
 
@@ -143,9 +142,9 @@ module _ (method : ℕ) (key salt binding : List ℕ) (payload room : ℕ) where
   responseSizes = sizeAnswer payload (length salt + 27 + length binding) room (begun method key salt)
 
   response-decided : (a b : Bool) → sizesFit method (length key) (length salt) ≡ a → eqb (length binding) (length salt) ≡ b
-      → pickSealed (both a b) responseSizes (Refused Settings) ≡ responseAnswer method key salt binding payload room
+      → cond (a && b) responseSizes (Refused Settings) ≡ responseAnswer method key salt binding payload room
   unfolding responseAnswer
-  response-decided a b ea eb = λ i. pickSealed (both (sym ea i) (sym eb i)) responseSizes (Refused Settings)
+  response-decided a b ea eb = λ i. cond (sym ea i && sym eb i) responseSizes (Refused Settings)
 
   pub response-unfit : sizesFit method (length key) (length salt) ≡ false → Refused Settings ≡ responseAnswer method key salt binding payload room
   response-unfit e = response-decided false (eqb (length binding) (length salt)) e refl
@@ -190,7 +189,7 @@ pub request-sealable : (method : ℕ) (key salt address : List ℕ) (padding pay
 unfolding requestAnswer
 request-sealable method key salt address padding payload room n s e =
     let e₁ = passed (sizesFit method (length key) (length salt)) _ _ n s e in
-    let e₂ = passed (both (isAddress address) (paddingLawful padding payload)) _ _ n s (e₁ .1) in
+    let e₂ = passed (isAddress address && paddingLawful padding payload) _ _ n s (e₁ .1) in
     let fit = suited method (length key) (length salt) (e₁ .0) in
     let z = sized (variableLength (length address) padding payload) (length salt + 27) room (begun method key salt) n s (e₂ .1) in
     record {
@@ -213,7 +212,7 @@ pub response-sealable : (method : ℕ) (key salt binding : List ℕ) (payload ro
     → responseAnswer method key salt binding payload room ≡ Bytes n s → SealableResponse key salt binding payload room n s
 unfolding responseAnswer
 response-sealable method key salt binding payload room n s e =
-    let e₁ = passed (both (sizesFit method (length key) (length salt)) (eqb (length binding) (length salt))) _ _ n s e in
+    let e₁ = passed (sizesFit method (length key) (length salt) && eqb (length binding) (length salt)) _ _ n s e in
     let p = both-true (sizesFit method (length key) (length salt)) (eqb (length binding) (length salt)) (e₁ .0) in
     let fit = suited method (length key) (length salt) (p .0) in
     let z = sized payload (length salt + 27 + length binding) room (begun method key salt) n s (e₁ .1) in

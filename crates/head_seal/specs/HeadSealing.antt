@@ -1,10 +1,9 @@
 -- Sealing the head of a stream (SIP022, section 3.1): what is answered and what is written.
-use mathlib.Core.Bool.{Bool}
+use mathlib.Core.Bool.{Bool, cond, _&&_}
 use mathlib.Core.List.{List, [], _∷_, _++_}
 use Prim.Native.Nat.{ℕ, _+_}
 use lib.Dec.{eqb, leb, ltb}
 use lib.ListN.{length, replicate}
-use Rattle.octets.specs.Buffers.{both}
 use Rattle.octets.specs.Numbers.{toBe}
 use Rattle.protocol.specs.declared.Refusal.the-variants.{Settings, Argument}
 use Rattle.protocol.specs.Method.{keyFits, saltLength}
@@ -14,7 +13,7 @@ use Rattle.stream.specs.declared.Sender.{Sender}
 use Rattle.stream.specs.declared.Sealed.{Sealed}
 use Rattle.stream.specs.declared.Sealed.the-variants.{Refused}
 use Rattle.stream.specs.Pieces.{sealAt, subkeyWords}
-use Rattle.stream.specs.Sealing.{pickSealed, sizeAnswer}
+use Rattle.stream.specs.Sealing.{sizeAnswer}
 
 abbrev pub maxPadding : ℕ
 maxPadding = 900
@@ -58,22 +57,22 @@ begun method key salt = record { method = method; counter = 2; subkey = subkeyWo
 
 -- a key and a salt of these lengths
 unfoldable pub sizesFit : ℕ → ℕ → ℕ → Bool
-sizesFit method key salt = both (keyFits method key) (eqb salt (saltLength method))
+sizesFit method key salt = keyFits method key && eqb salt (saltLength method)
 
 -- padding of at most 900, and none only where there is a payload
 unfoldable pub paddingLawful : ℕ → ℕ → Bool
-paddingLawful padding payload = both (leb padding maxPadding) (ltb 0 (padding + payload))
+paddingLawful padding payload = leb padding maxPadding && ltb 0 (padding + payload)
 
 -- 1, 12, 2, 3
 unfoldable pub requestAnswer : ℕ → List ℕ → List ℕ → List ℕ → ℕ → ℕ → ℕ → Sealed
 requestAnswer method key salt address padding payload room =
-    pickSealed (sizesFit method (length key) (length salt))
-    (pickSealed (both (isAddress address) (paddingLawful padding payload))
+    cond (sizesFit method (length key) (length salt))
+    (cond (isAddress address && paddingLawful padding payload)
     (sizeAnswer (variableLength (length address) padding payload) (length salt + 27) room (begun method key salt)) (Refused Argument))
     (Refused Settings)
 
 -- 1, 2, 3; the request's salt is as long as the response's
 unfoldable pub responseAnswer : ℕ → List ℕ → List ℕ → List ℕ → ℕ → ℕ → Sealed
 responseAnswer method key salt binding payload room =
-    pickSealed (both (sizesFit method (length key) (length salt)) (eqb (length binding) (length salt)))
+    cond (sizesFit method (length key) (length salt) && eqb (length binding) (length salt))
     (sizeAnswer payload (length salt + 27 + length binding) room (begun method key salt)) (Refused Settings)

@@ -1,7 +1,7 @@
 -- What the method of a number asks for.
 -- Assumes nothing.
 use mathlib.Core.Path.{_≡_, refl, sym, ap, _∙_}
-use mathlib.Core.Bool.{Bool, true, false}
+use mathlib.Core.Bool.{Bool, true, false, cond}
 use mathlib.Core.Logic.{_⊎_, inl, inr}
 use Prim.Native.Nat.{ℕ}
 use native.Mathlib.Omega.{arith}
@@ -9,7 +9,7 @@ use lib.Dec.{eqb}
 use borrow.Author.Tests.{eqb-true}
 use Rattle.protocol.specs.declared.Numbered.{Numbered}
 use Rattle.protocol.specs.declared.Numbered.the-variants.{Known, Unknown}
-use Rattle.protocol.specs.Method.{aes128, aes256, pickNumbered, methodOf, asks, keyFits, keyIn, keyLength, saltIn, saltLength}
+use Rattle.protocol.specs.Method.{aes128, aes256, methodOf, asks, keyFits, keyIn, keyLength, saltIn, saltLength}
 
 -- the method that was found, and what it is
 module _ (method : ℕ) (p q : Numbered) (e : p ≡ methodOf method) (f : p ≡ q) where
@@ -27,7 +27,7 @@ module _ (method : ℕ) (p q : Numbered) (e : p ≡ methodOf method) (f : p ≡ 
 
 -- by the tests for the two numbers
 abbrev chosen : Bool → Bool → Numbered
-chosen a b = pickNumbered a (Known aes128) (pickNumbered b (Known aes256) Unknown)
+chosen a b = cond a (Known aes128) (cond b (Known aes256) Unknown)
 
 -- a key and a salt of one length, 16 or 32
 pub record Sizes (key salt k : ℕ) : Type 0 where

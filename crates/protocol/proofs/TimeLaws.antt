@@ -1,13 +1,12 @@
 -- The time rule: a difference that does not wrap.
 -- Assumes nothing.
 use mathlib.Core.Path.{_≡_, refl, sym, ap, ap₂, _∙_}
-use mathlib.Core.Bool.{Bool, true, false}
+use mathlib.Core.Bool.{Bool, true, false, _&&_}
 use Prim.Native.Nat.{ℕ, _+_, _-_, _≤_, _<_}
 use native.Mathlib.Decide.{decLe}
 use native.Mathlib.Omega.{arith}
 use lib.Dec.{leb}
 use borrow.Author.Tests.{le-leb, lt-leb}
-use Rattle.octets.specs.Buffers.{both}
 use Rattle.protocol.specs.Time.{tolerance, timeValid}
 
 -- a ≤ b: their difference is at most k exactly where b is at most a + k
@@ -21,7 +20,7 @@ difference a b k h = pick (decLe (b - a) k)
         let m : a + k < b = omega arith in
         lt-leb (b - a) k l ∙ sym (lt-leb b (a + k) m)
 
-both-true : (b : Bool) → both b true ≡ b
+both-true : (b : Bool) → (b && true) ≡ b
 both-true true = refl
 both-true false = refl
 
@@ -30,7 +29,7 @@ module _ (time clock : ℕ) where
   unfolding timeValid
   time-before h =
       let l : time ≤ clock + 30 = omega arith in
-      difference time clock 30 h ∙ sym (ap (λ (b : Bool). both b (leb clock (time + 30))) (le-leb time (clock + 30) l))
+      difference time clock 30 h ∙ sym (ap (λ (b : Bool). b && leb clock (time + 30)) (le-leb time (clock + 30) l))
 
   pub time-behind : clock < time → leb (time - clock) 30 ≡ timeValid time clock
   unfolding timeValid
@@ -38,4 +37,4 @@ module _ (time clock : ℕ) where
       let l : clock ≤ time + 30 = omega arith in
       let m : clock ≤ time = omega arith in
       difference clock time 30 m
-      ∙ sym (ap (both (leb time (clock + 30))) (le-leb clock (time + 30) l) ∙ both-true (leb time (clock + 30)))
+      ∙ sym (ap (_&&_ (leb time (clock + 30))) (le-leb clock (time + 30) l) ∙ both-true (leb time (clock + 30)))

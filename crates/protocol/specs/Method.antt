@@ -1,6 +1,6 @@
 -- SIP022, section 2: the two required methods, by the numbers that the host gives them. Key length, salt length and rounds
 -- are written here once.
-use mathlib.Core.Bool.{Bool, true, false}
+use mathlib.Core.Bool.{Bool, false, cond}
 use Prim.Native.Nat.{ℕ}
 use lib.Dec.{eqb}
 use Rattle.protocol.specs.declared.Method.{Method}
@@ -15,13 +15,9 @@ aes128 = record { number = 1; key = 16; salt = 16; rounds = 10 }
 abbrev pub aes256 : Method
 aes256 = record { number = 2; key = 32; salt = 32; rounds = 14 }
 
-abbrev pub pickNumbered : Bool → Numbered → Numbered → Numbered
-pickNumbered true a b = a
-pickNumbered false a b = b
-
 -- the method of a number, compared as the whole number
 unfoldable pub methodOf : ℕ → Numbered
-methodOf n = pickNumbered (eqb n 1) (Known aes128) (pickNumbered (eqb n 2) (Known aes256) Unknown)
+methodOf n = cond (eqb n 1) (Known aes128) (cond (eqb n 2) (Known aes256) Unknown)
 
 -- ---- what the method of a number asks for
 

@@ -21,11 +21,11 @@ use Rattle.datagram.specs.declared.Sealed.{Sealed}
 use Rattle.datagram.specs.declared.Sealed.the-variants.{Datagram, Refused}
 use Rattle.datagram_read.specs.declared.Opened.{Opened}
 use Rattle.datagram_read.specs.declared.Opened.the-variants.{Datagram as OpenedDatagram, Refused as NotOpened}
-use Rattle.datagram.specs.Sealing.{pickBegun, pickSealed, sealAnswer, packetsOf, sealOut}
+use Rattle.datagram.specs.Sealing.{sealAnswer, packetsOf, sealOut}
 use Rattle.datagram_open.specs.Deciding.{answerOf, openAnswer, openOut, openTable}
 use Rattle.words.specs.Answers.{answerWords, headerWords}
 use Rattle.words.specs.States.{sessionSize, sessionLawful, sessionIn, sessionWords}
-use Rattle.relay.specs.Datagrams.{begunIn, begunNumber, begunSession, sealedAnswer, sealedNumber, sealedWords, sealedSession, pickAnswer, openedNumber, openedWords, relayedAnswer, relayedOut, relayedTable}
+use Rattle.relay.specs.Datagrams.{begunIn, begunNumber, begunSession, sealedAnswer, sealedNumber, sealedWords, sealedSession, openedNumber, openedWords, relayedAnswer, relayedOut, relayedTable}
 use Rattle.words.proofs.LentLaws.{filled}
 
 -- ---- beginning a session in lent words
@@ -39,11 +39,11 @@ module _ (x : Begun) (w : List ℕ) where
   begins y e = (sym (ap begunNumber e), sym (ap (λ (z : Begun). begunSession z w) e))
 
   pub not-lent : (length w ≡ sessionSize → ⊥) → Begins 1 w
-  not-lent n = begins (NotBegun Settings) (ap (λ (b : Bool). pickBegun b x (NotBegun Settings)) (ne-eqb (length w) sessionSize n))
+  not-lent n = begins (NotBegun Settings) (ap (λ (b : Bool). cond b x (NotBegun Settings)) (ne-eqb (length w) sessionSize n))
 
   module _ (e : length w ≡ sessionSize) where
     lent : begunIn (length w) x ≡ x
-    lent = ap (λ (b : Bool). pickBegun b x (NotBegun Settings)) (eq-eqb (length w) sessionSize e)
+    lent = ap (λ (b : Bool). cond b x (NotBegun Settings)) (eq-eqb (length w) sessionSize e)
 
     pub ready : (s : Sender) (vs left : List ℕ) → x ≡ Ready s → vs ≡ sessionWords s → left ≡ sets w 0 vs → Begins 0 left
     ready s vs left f g h =
@@ -78,10 +78,10 @@ module _ (method k : ℕ) (session address : List ℕ) (padding payload : ℕ) (
   )
 
   tested : (b : Bool) → eqb (length answer) answerWords && sessionLawful session ≡ b
-      → A ≡ pickSealed b (sealAnswer method k (sessionIn session) address padding payload (length out)) (Refused Settings)
+      → A ≡ cond b (sealAnswer method k (sessionIn session) address padding payload (length out)) (Refused Settings)
   unfolding sealedAnswer
   tested b e =
-      ap (λ (z : Bool). pickSealed z (sealAnswer method k (sessionIn session) address padding payload (length out)) (Refused Settings)) e
+      ap (λ (z : Bool). cond z (sealAnswer method k (sessionIn session) address padding payload (length out)) (Refused Settings)) e
 
   pub no-answer : (length answer ≡ answerWords → ⊥) → Seals 1 session out answer
   no-answer n = seals (Refused Settings) (tested false (ap (λ (b : Bool). b && sessionLawful session) (ne-eqb (length answer) answerWords n)))
@@ -156,12 +156,12 @@ module _ (method : ℕ) (key : List ℕ) (client : Option ℕ) (clock : ℕ) (pe
   unfolding relayedAnswer relayedOut relayedTable
   untold n =
       let e : eqb (length answer) answerWords ≡ false = ne-eqb (length answer) answerWords n in (
-        sym (ap (λ (b : Bool). openedNumber (pickAnswer b (openAnswer method key client clock peer s table out) (refused 1))) e),
+        sym (ap (λ (b : Bool). openedNumber (cond b (openAnswer method key client clock peer s table out) (refused 1))) e),
         (
           sym (ap (λ (b : Bool). cond b (openTable method key client clock peer s table out) table) e),
           (
             sym (ap (λ (b : Bool). cond b (openOut method key client clock peer s table out) out) e),
-            sym (ap (λ (b : Bool). openedWords (pickAnswer b (openAnswer method key client clock peer s table out) (refused 1)) answer) e),
+            sym (ap (λ (b : Bool). openedWords (cond b (openAnswer method key client clock peer s table out) (refused 1)) answer) e),
           ),
         ),
       )
@@ -174,7 +174,7 @@ module _ (method : ℕ) (key : List ℕ) (client : Option ℕ) (clock : ℕ) (pe
   unfolding relayedAnswer relayedOut relayedTable
   relays l =
       let e : eqb (length answer) answerWords ≡ true = eq-eqb (length answer) answerWords l in (
-        ap (λ (b : Bool). pickAnswer b (openAnswer method key client clock peer s table out) (refused 1)) e,
+        ap (λ (b : Bool). cond b (openAnswer method key client clock peer s table out) (refused 1)) e,
         (
           ap (λ (b : Bool). cond b (openTable method key client clock peer s table out) table) e,
           ap (λ (b : Bool). cond b (openOut method key client clock peer s table out) out) e,

@@ -20,13 +20,12 @@ use Rattle.response_open.specs.declared.ResponseOpened.{ResponseOpened}
 use Rattle.response_open.specs.declared.ResponseOpened.the-variants.{Refused as ResponseRefused}
 use Rattle.stream_open.specs.declared.Stepped.{Stepped}
 use Rattle.stream_open.specs.declared.Stepped.the-variants.{Refused as StepRefused}
-use Rattle.stream.specs.Sealing.{pickSealed, chunkAnswer, chunk, sealOut}
-use Rattle.response_open.specs.Heads.{pickResponse}
-use Rattle.request_open.specs.Requests.{pickRequest, openedRequest, requestOut, requestPool}
-use Rattle.stream_open.specs.Chunks.{pickStepped, stepAnswer, stepOut, stepNext}
+use Rattle.stream.specs.Sealing.{chunkAnswer, chunk, sealOut}
+use Rattle.request_open.specs.Requests.{openedRequest, requestOut, requestPool}
+use Rattle.stream_open.specs.Chunks.{stepAnswer, stepOut, stepNext}
 use Rattle.words.specs.Answers.{answerWords, refusedAnswer}
 use Rattle.words.specs.States.{streamSize, turnOf, senderIn, receiverLawful, receiverIn}
-use Rattle.relay.specs.Streams.{fits, sealedIn, pickRefusal, notSealing, chunkSealed, sealedNumber, sealedWords, sealedStream, requestIn, requestNumber, requestAnswer, requestStream, relayedOut, relayedPool, responseIn, responseNumber, responseAnswer, responseStream, opens, stepped, steppedOut, steppedNumber, steppedAnswer, stepStream, steppedStream}
+use Rattle.relay.specs.Streams.{fits, sealedIn, notSealing, chunkSealed, sealedNumber, sealedWords, sealedStream, requestIn, requestNumber, requestAnswer, requestStream, relayedOut, relayedPool, responseIn, responseNumber, responseAnswer, responseStream, opens, stepped, steppedOut, steppedNumber, steppedAnswer, stepStream, steppedStream}
 
 -- ---- a stream and an answer of these lengths
 
@@ -61,11 +60,11 @@ module _ (x : Sealed) (text out w answer : List ℕ) where
 
   module _ (b : Bool) (e : b ≡ fits (length w) (length answer)) where
     pub unfit : b ≡ false → Seals 1 out w answer
-    unfit f = seals (Refused Settings) (ap (λ (z : Bool). pickSealed z x (Refused Settings)) (sym f ∙ e))
+    unfit f = seals (Refused Settings) (ap (λ (z : Bool). cond z x (Refused Settings)) (sym f ∙ e))
 
     module _ (f : b ≡ true) where
       fit : x ≡ A
-      fit = ap (λ (z : Bool). pickSealed z x (Refused Settings)) (sym f ∙ e)
+      fit = ap (λ (z : Bool). cond z x (Refused Settings)) (sym f ∙ e)
 
       pub sealed-fit : (y : Sealed) (n : ℕ) (o s a : List ℕ) → y ≡ x → o ≡ sealOut y text out → n ≡ sealedNumber y → s ≡ sealedStream y w
           → a ≡ sealedWords y answer → Seals n o s a
@@ -101,35 +100,35 @@ module _ (w : List ℕ) (payload room : ℕ) where
   unfolding chunkSealed
   at-sealing e =
       sym (ap
-      (λ (b : Bool). pickSealed b (chunkAnswer (senderIn w) payload room) (Refused (notSealing (turnOf w) (senderIn w .method))))
+      (λ (b : Bool). cond b (chunkAnswer (senderIn w) payload room) (Refused (notSealing (turnOf w) (senderIn w .method))))
       (eq-eqb (turnOf w) 3 e))
 
   pub not-at-sealing : (turnOf w ≡ 3 → ⊥) → chunkSealed w payload room ≡ Refused (notSealing (turnOf w) (senderIn w .method))
   unfolding chunkSealed
   not-at-sealing e =
       ap
-      (λ (b : Bool). pickSealed b (chunkAnswer (senderIn w) payload room) (Refused (notSealing (turnOf w) (senderIn w .method))))
+      (λ (b : Bool). cond b (chunkAnswer (senderIn w) payload room) (Refused (notSealing (turnOf w) (senderIn w .method))))
       (ne-eqb (turnOf w) 3 e)
 
 module _ (turn method : ℕ) where
   pub another-turn : (turn ≡ 0 → ⊥) → Settings ≡ notSealing turn method
   unfolding notSealing
   another-turn e =
-      sym (ap (λ (b : Bool). pickRefusal b (pickRefusal (eqb (keyLength method) 0) Settings NotAuthentic) Settings) (ne-eqb turn 0 e))
+      sym (ap (λ (b : Bool). cond b (cond (eqb (keyLength method) 0) Settings NotAuthentic) Settings) (ne-eqb turn 0 e))
 
   module _ (k : ℕ) (e : turn ≡ 0) (f : k ≡ keyLength method) where
-    ended : pickRefusal (eqb (keyLength method) 0) Settings NotAuthentic ≡ notSealing turn method
+    ended : cond (eqb (keyLength method) 0) Settings NotAuthentic ≡ notSealing turn method
     unfolding notSealing
     ended =
-        sym (ap (λ (b : Bool). pickRefusal b (pickRefusal (eqb (keyLength method) 0) Settings NotAuthentic) Settings) (eq-eqb turn 0 e))
+        sym (ap (λ (b : Bool). cond b (cond (eqb (keyLength method) 0) Settings NotAuthentic) Settings) (eq-eqb turn 0 e))
 
     pub no-method : k ≡ 0 → Settings ≡ notSealing turn method
     no-method g =
-        sym (ap (λ (b : Bool). pickRefusal b Settings NotAuthentic) (eq-eqb (keyLength method) 0 (sym f ∙ g))) ∙ ended
+        sym (ap (λ (b : Bool). cond b Settings NotAuthentic) (eq-eqb (keyLength method) 0 (sym f ∙ g))) ∙ ended
 
     pub has-ended : (k ≡ 0 → ⊥) → NotAuthentic ≡ notSealing turn method
     has-ended g =
-        sym (ap (λ (b : Bool). pickRefusal b Settings NotAuthentic) (ne-eqb (keyLength method) 0 (λ x. g (f ∙ x)))) ∙ ended
+        sym (ap (λ (b : Bool). cond b Settings NotAuthentic) (ne-eqb (keyLength method) 0 (λ x. g (f ∙ x)))) ∙ ended
 
 -- ---- the head of a request
 
@@ -149,7 +148,7 @@ module _ (method : ℕ) (key : List ℕ) (clock : ℕ) (s pool out w answer : Li
     pub request-unfit : b ≡ false → OpensRequest 1 pool out w answer
     unfolding relayedOut relayedPool refusedAnswer
     request-unfit f =
-        let g : RequestRefused Settings ≡ R = ap (λ (z : Bool). pickRequest z (openedRequest method key clock s pool out) (RequestRefused Settings)) (sym f ∙ e) in (
+        let g : RequestRefused Settings ≡ R = ap (λ (z : Bool). cond z (openedRequest method key clock s pool out) (RequestRefused Settings)) (sym f ∙ e) in (
           ap requestNumber g,
           (
             ap (λ (z : Bool). cond z (requestPool method key clock s pool out) pool) (sym f ∙ e),
@@ -168,7 +167,7 @@ module _ (method : ℕ) (key : List ℕ) (clock : ℕ) (s pool out w answer : Li
         → n ≡ requestNumber x → st ≡ requestStream x w → a ≡ requestAnswer x answer → OpensRequest n p o st a
     unfolding relayedOut relayedPool
     request-fit f x n p o st a g h i j l m =
-        let q : x ≡ R = g ∙ ap (λ (z : Bool). pickRequest z (openedRequest method key clock s pool out) (RequestRefused Settings)) (sym f ∙ e) in (
+        let q : x ≡ R = g ∙ ap (λ (z : Bool). cond z (openedRequest method key clock s pool out) (RequestRefused Settings)) (sym f ∙ e) in (
           j ∙ ap requestNumber q,
           (
             i ∙ ap (λ (z : Bool). cond z (requestPool method key clock s pool out) pool) (sym f ∙ e),
@@ -195,7 +194,7 @@ module _ (x : ResponseOpened) (w answer : List ℕ) (b : Bool) (e : b ≡ fits (
   pub response-unfit : b ≡ false → OpensResponse 1 w answer
   unfolding refusedAnswer
   response-unfit f =
-      let g : ResponseRefused Settings ≡ P = ap (λ (z : Bool). pickResponse z x (ResponseRefused Settings)) (sym f ∙ e) in (
+      let g : ResponseRefused Settings ≡ P = ap (λ (z : Bool). cond z x (ResponseRefused Settings)) (sym f ∙ e) in (
         ap responseNumber g,
         (
           ap (λ (z : ResponseOpened). responseStream z w) g,
@@ -206,7 +205,7 @@ module _ (x : ResponseOpened) (w answer : List ℕ) (b : Bool) (e : b ≡ fits (
   pub response-fit : b ≡ true → (y : ResponseOpened) (n : ℕ) (st a : List ℕ) → y ≡ x → n ≡ responseNumber y → st ≡ responseStream y w
       → a ≡ responseAnswer y answer → OpensResponse n st a
   response-fit f y n st a g h i j =
-      let q : y ≡ P = g ∙ ap (λ (z : Bool). pickResponse z x (ResponseRefused Settings)) (sym f ∙ e) in (
+      let q : y ≡ P = g ∙ ap (λ (z : Bool). cond z x (ResponseRefused Settings)) (sym f ∙ e) in (
         h ∙ ap responseNumber q,
         (
           i ∙ ap (λ (z : ResponseOpened). responseStream z w) q,
@@ -228,7 +227,7 @@ module _ (w s out answer : List ℕ) where
   steps-refused : opens w (length answer) ≡ false → Steps 1 out w answer
   unfolding stepped steppedOut refusedAnswer
   steps-refused e =
-      let g : StepRefused Settings ≡ T = sym (ap (λ (b : Bool). pickStepped b (stepAnswer (receiverIn w) s (length out)) (StepRefused Settings)) e) in (
+      let g : StepRefused Settings ≡ T = sym (ap (λ (b : Bool). cond b (stepAnswer (receiverIn w) s (length out)) (StepRefused Settings)) e) in (
         ap steppedNumber g,
         (
           sym (ap (λ (b : Bool). cond b (stepOut (receiverIn w) s out) out) e),
@@ -254,7 +253,7 @@ module _ (w s out answer : List ℕ) where
       unfolding stepped
       answered =
           ap (λ (z : Receiver). stepAnswer z s (length out)) g
-          ∙ sym (ap (λ (z : Bool). pickStepped z (stepAnswer (receiverIn w) s (length out)) (StepRefused Settings)) (by-stream ∙ f))
+          ∙ sym (ap (λ (z : Bool). cond z (stepAnswer (receiverIn w) s (length out)) (StepRefused Settings)) (by-stream ∙ f))
 
       pub step-told : (x : Stepped) (next : Receiver) (n : ℕ) (o left a : List ℕ) → x ≡ stepAnswer st s (length out) → next ≡ stepNext st x
           → o ≡ stepOut st s out → n ≡ steppedNumber x → left ≡ stepStream x next w → a ≡ steppedAnswer x answer → Steps n o left a

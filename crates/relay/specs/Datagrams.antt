@@ -1,6 +1,6 @@
 -- What the functions about tables, sending sessions and datagrams answer and write. A lent session or answer of the wrong
 -- length, and a session of another side than 0 and 1, are refusal 1.
-use mathlib.Core.Bool.{Bool, true, false, cond, _&&_}
+use mathlib.Core.Bool.{Bool, cond, _&&_}
 use mathlib.Core.List.{List}
 use mathlib.Core.Option.{Option}
 use Prim.Native.Nat.{ℕ, _+_}
@@ -15,7 +15,7 @@ use Rattle.datagram.specs.declared.Begun.{Begun}
 use Rattle.datagram.specs.declared.Begun.the-variants.{Ready, Refused as NotBegun}
 use Rattle.datagram.specs.declared.Sealed.{Sealed}
 use Rattle.datagram.specs.declared.Sealed.the-variants.{Datagram, Refused}
-use Rattle.datagram.specs.Sealing.{pickBegun, pickSealed, sealAnswer}
+use Rattle.datagram.specs.Sealing.{sealAnswer}
 use Rattle.datagram_open.specs.Deciding.{openAnswer, openOut, openTable}
 use Rattle.words.specs.Answers.{answerWords, headerWords}
 use Rattle.words.specs.States.{sessionSize, sessionLawful, sessionIn, sessionWords}
@@ -27,7 +27,7 @@ settingsNumber lawful = cond lawful 0 1
 -- ---- beginning a sending session, in k lent words
 
 abbrev pub begunIn : ℕ → Begun → Begun
-begunIn k x = pickBegun (eqb k sessionSize) x (NotBegun Settings)
+begunIn k x = cond (eqb k sessionSize) x (NotBegun Settings)
 
 abbrev pub begunNumber : Begun → ℕ
 begunNumber (Ready s) = 0
@@ -42,7 +42,7 @@ begunSession (NotBegun r) w = w
 -- with a key of k bytes, a payload and an answer of these lengths, and the room
 unfoldable pub sealedAnswer : (method k : ℕ) → List ℕ → List ℕ → (padding payload room answer : ℕ) → Sealed
 sealedAnswer method k session address padding payload room answer =
-    pickSealed (eqb answer answerWords && sessionLawful session)
+    cond (eqb answer answerWords && sessionLawful session)
     (sealAnswer method k (sessionIn session) address padding payload room) (Refused Settings)
 
 abbrev pub sealedNumber : Sealed → ℕ
@@ -61,10 +61,6 @@ sealedSession (Refused r) w = w
 
 -- ---- opening
 
-abbrev pub pickAnswer : Bool → Answer Header → Answer Header → Answer Header
-pickAnswer true a b = a
-pickAnswer false a b = b
-
 abbrev pub openedNumber : Answer Header → ℕ
 openedNumber (opened h) = 0
 openedNumber (refused n) = n
@@ -82,7 +78,7 @@ module _ (method : ℕ) (key : List ℕ) (client : Option ℕ) (clock : ℕ) (pe
   told = eqb (length answer) answerWords
 
   unfoldable pub relayedAnswer : Answer Header
-  relayedAnswer = pickAnswer told (openAnswer method key client clock peer s table out) (refused 1)
+  relayedAnswer = cond told (openAnswer method key client clock peer s table out) (refused 1)
 
   unfoldable pub relayedOut : List ℕ
   relayedOut = cond told (openOut method key client clock peer s table out) out

@@ -1,7 +1,7 @@
 -- Opening the head of a request: a law for each way out of each function.
 -- Assumes nothing.
 use mathlib.Core.Path.{_≡_, refl, sym, ap, ap₂, _∙_, subst}
-use mathlib.Core.Bool.{Bool, true, false, _&&_}
+use mathlib.Core.Bool.{Bool, true, false, cond, _&&_}
 use mathlib.Core.List.{List}
 use mathlib.Core.Logic.{_⊎_, inl, inr}
 use Prim.Native.Nat.{ℕ, _+_, _-_, _<_, _≤_}
@@ -11,9 +11,8 @@ use lib.Dec.{eqb, leb, ltb}
 use lib.ListN.{length, getD, take, drop, length-drop}
 use lib.Seq.{length-take-le}
 use borrow.Author.Tests.{le-leb, lt-leb, leb-true, leb-false, lt-ltb, le-ltb, eqb-true}
-use Rattle.octets.specs.Buffers.{both, put}
+use Rattle.octets.specs.Buffers.{put}
 use Rattle.octets.proofs.BufferLaws.{take-put}
-use Rattle.aes.specs.KeyExpansion.{if}
 use Rattle.aes.specs.Keyed.{nkOf}
 use Rattle.protocol.specs.declared.Refusal.{Refusal}
 use Rattle.protocol.specs.declared.Refusal.the-variants.{Settings, Room, NotAuthentic, Malformed, Replay, Full, More}
@@ -41,17 +40,17 @@ use Rattle.request_open.specs.declared.RequestRead.the-variants.{Header,
 use Rattle.request_open.specs.declared.RequestOpened.{RequestOpened}
 use Rattle.request_open.specs.declared.RequestOpened.the-variants.{Refused}
 use Rattle.response_open.specs.Heads.{frontLength, fixedOf, openFixed}
-use Rattle.request_open.specs.Requests.{pickRead, paddingAt, paddingFits, headerWith, readVariable, headLength, variableOf, openVariable, settled, variableOut, openedAs, metAs, fixedAs, readHead, metOut, fixedOut, headOut, storedIn, headPool, pickRequest, settings, openedRequest, requestOut, requestPool}
+use Rattle.request_open.specs.Requests.{paddingAt, paddingFits, headerWith, readVariable, headLength, variableOf, openVariable, settled, variableOut, openedAs, metAs, fixedAs, readHead, metOut, fixedOut, headOut, storedIn, headPool, settings, openedRequest, requestOut, requestPool}
 
 -- ---- the padding behind an address that ends at the place e
 
-last-false : (a b c : Bool) → both a (both b (both c false)) ≡ false
+last-false : (a b c : Bool) → (a && (b && (c && false))) ≡ false
 last-false true true true = refl
 last-false true true false = refl
 last-false true false c = refl
 last-false false b c = refl
 
-second-false : (a c : Bool) → both a (both false c) ≡ false
+second-false : (a c : Bool) → (a && (false && c)) ≡ false
 second-false true c = refl
 second-false false c = refl
 
@@ -64,7 +63,7 @@ module _ (e : ℕ) (plain : List ℕ) where
       let a = leb (e + 2) (length plain) in
       let b = leb (paddingAt e plain) maxPadding in
       let c = leb (e + 2 + paddingAt e plain) (length plain) in
-      sym (ap (λ (d : Bool). both a (both b (both c d))) t ∙ last-false a b c)
+      sym (ap (λ (d : Bool). a && (b && (c && d))) t ∙ last-false a b c)
 
   pub padding-none : length plain ≤ e → false ≡ paddingFits e plain
   padding-none h = let l : length plain - e ≤ 2 = omega arith in padding-short l
@@ -75,8 +74,8 @@ module _ (e : ℕ) (plain : List ℕ) where
     padding-over h =
         let t : leb (paddingAt e plain) maxPadding ≡ false = ap (λ (x : ℕ). leb x maxPadding) (sym ep) ∙ lt-leb p maxPadding h in
         let a = leb (e + 2) (length plain) in
-        let c = both (leb (e + 2 + paddingAt e plain) (length plain)) (ltb (e + 2) (length plain)) in
-        sym (ap (λ (b : Bool). both a (both b c)) t ∙ second-false a c)
+        let c = (leb (e + 2 + paddingAt e plain) (length plain) && ltb (e + 2) (length plain)) in
+        sym (ap (λ (b : Bool). a && (b && c)) t ∙ second-false a c)
 
     pub padding-law : 2 < length plain - e → p ≤ maxPadding → leb p (length plain - e - 2) ≡ paddingFits e plain
     unfolding paddingFits
@@ -85,15 +84,15 @@ module _ (e : ℕ) (plain : List ℕ) where
         let b : leb (paddingAt e plain) maxPadding ≡ true = ap (λ (x : ℕ). leb x maxPadding) (sym ep) ∙ le-leb p maxPadding h in
         let d : ltb (e + 2) (length plain) ≡ true = lt-ltb (e + 2) (length plain) (omega arith) in
         go (leb p (length plain - e - 2)) refl
-        ∙ sym (λ i. both (a i) (both (b i) (both (leb (e + 2 + sym ep i) (length plain)) (d i))))
+        ∙ sym (λ i. a i && (b i && (leb (e + 2 + sym ep i) (length plain) && d i)))
       where
-        go : (x : Bool) → leb p (length plain - e - 2) ≡ x → leb p (length plain - e - 2) ≡ both (leb (e + 2 + p) (length plain)) true
+        go : (x : Bool) → leb p (length plain - e - 2) ≡ x → leb p (length plain - e - 2) ≡ (leb (e + 2 + p) (length plain) && true)
         go true t =
             let m : p ≤ length plain - e - 2 = leb-true p (length plain - e - 2) t in
-            t ∙ sym (ap (λ (x : Bool). both x true) (le-leb (e + 2 + p) (length plain) (omega arith)))
+            t ∙ sym (ap (λ (x : Bool). x && true) (le-leb (e + 2 + p) (length plain) (omega arith)))
         go false t =
             let m : length plain - e - 2 < p = leb-false p (length plain - e - 2) t in
-            t ∙ sym (ap (λ (x : Bool). both x true) (lt-leb (e + 2 + p) (length plain) (omega arith)))
+            t ∙ sym (ap (λ (x : Bool). x && true) (lt-leb (e + 2 + p) (length plain) (omega arith)))
 
   -- padding that fits ends where the string does at the latest
   pub padding-within : paddingFits e plain ≡ true → e + 2 + paddingAt e plain ≤ length plain
@@ -103,7 +102,7 @@ module _ (e : ℕ) (plain : List ℕ) where
       (third (leb (e + 2) (length plain)) (leb (paddingAt e plain) maxPadding) (leb (e + 2 + paddingAt e plain) (length plain))
       (ltb (e + 2) (length plain)) h)
     where
-      third : (a b c d : Bool) → both a (both b (both c d)) ≡ true → c ≡ true
+      third : (a b c d : Bool) → (a && (b && (c && d))) ≡ true → c ≡ true
       third true true true d t = refl
       third true true false d t = t
       third true false c d t = absurd (let z : _≡_ {A = ℕ} 0 1 = cc in omega arith)
@@ -132,8 +131,8 @@ module _ (f : Fixed) (used : ℕ) (plain : List ℕ) (r : Parsed) (er : r ≡ pa
           used = used;
         }
 
-    by-test : (x : Bool) → b ≡ x → pickRead x (Header header) (Unheaded Malformed) ≡ readVariable f used plain
-    by-test x ex = ap (λ (t : Bool). pickRead t (Header header) (Unheaded Malformed)) (sym ex ∙ eb) ∙ variable-law (Found a) ea
+    by-test : (x : Bool) → b ≡ x → cond x (Header header) (Unheaded Malformed) ≡ readVariable f used plain
+    by-test x ex = ap (λ (t : Bool). cond t (Header header) (Unheaded Malformed)) (sym ex ∙ eb) ∙ variable-law (Found a) ea
 
     pub variable-bad : b ≡ false → Unheaded Malformed ≡ readVariable f used plain
     variable-bad e = by-test false e
@@ -186,13 +185,13 @@ module _ (key : List ℕ) (n : ℕ) (f : Fixed) (s out : List ℕ) where
 
   variable-at : (a r t : Bool) → leb (headLength n f) (length s) ≡ a → leb (f .length) (length out) ≡ r
       → authenticAt key 1 (variableOf n f s) ≡ t
-      → (pickRead a (pickRead r (pickRead t read (Unheaded NotAuthentic)) (Unheaded Room)) (Unheaded (More (headLength n f)))
+      → (cond a (cond r (cond t read (Unheaded NotAuthentic)) (Unheaded Room)) (Unheaded (More (headLength n f)))
       ≡ openVariable key n f s (length out))
-      × (if (both a (both r t)) (settled read (f .length) (put out 0 text)) out ≡ variableOut key n f s out)
+      × (cond (a && (r && t)) (settled read (f .length) (put out 0 text)) out ≡ variableOut key n f s out)
   unfolding openVariable variableOut
   variable-at a r t ea er et = (
-    λ i. pickRead (sym ea i) (pickRead (sym er i) (pickRead (sym et i) read (Unheaded NotAuthentic)) (Unheaded Room)) (Unheaded (More (headLength n f))),
-    λ i. if (both (sym ea i) (both (sym er i) (sym et i))) (settled read (f .length) (put out 0 text)) out,
+    λ i. cond (sym ea i) (cond (sym er i) (cond (sym et i) read (Unheaded NotAuthentic)) (Unheaded Room)) (Unheaded (More (headLength n f))),
+    λ i. cond (sym ea i && (sym er i && sym et i)) (settled read (f .length) (put out 0 text)) out,
   )
 
   -- as the code adds up
@@ -214,11 +213,11 @@ module _ (key : List ℕ) (n : ℕ) (f : Fixed) (s out : List ℕ) where
       variable-room h = variable-at true false _ there-leb (lt-leb (f .length) (length out) h) refl
 
       module _ (room : f .length ≤ length out) (part : List ℕ) (ep : part ≡ variableOf n f s) (b : Bool) (o : List ℕ)
-          (eb : b ≡ authenticAt key 1 part) (eo : o ≡ if b (put out 0 (openAt key 1 part)) out)
+          (eb : b ≡ authenticAt key 1 part) (eo : o ≡ cond b (put out 0 (openAt key 1 part)) out)
         where
           done : (t : Bool) → b ≡ t
-              → (pickRead t read (Unheaded NotAuthentic) ≡ openVariable key n f s (length out))
-              × (if t (settled read (f .length) (put out 0 text)) out ≡ variableOut key n f s out)
+              → (cond t read (Unheaded NotAuthentic) ≡ openVariable key n f s (length out))
+              × (cond t (settled read (f .length) (put out 0 text)) out ≡ variableOut key n f s out)
           done t et =
               variable-at true true t there-leb (le-leb (f .length) (length out) room)
               (ap (authenticAt key 1) (sym ep) ∙ sym eb ∙ et)
@@ -227,10 +226,10 @@ module _ (key : List ℕ) (n : ℕ) (f : Fixed) (s out : List ℕ) where
               → (Unheaded NotAuthentic ≡ openVariable key n f s (length out)) × (o ≡ variableOut key n f s out)
           variable-forged e =
               let d = done false e in
-              (d .0, eo ∙ ap (λ (t : Bool). if t (put out 0 (openAt key 1 part)) out) e ∙ d .1)
+              (d .0, eo ∙ ap (λ (t : Bool). cond t (put out 0 (openAt key 1 part)) out) e ∙ d .1)
 
           filled : b ≡ true → o ≡ put out 0 text
-          filled e = eo ∙ (λ i. if (e i) (put out 0 (openAt key 1 (ep i))) out)
+          filled e = eo ∙ (λ i. cond (e i) (put out 0 (openAt key 1 (ep i))) out)
 
           length-text : length text ≡ f .length
           length-text =
@@ -336,9 +335,9 @@ module _ (key : List ℕ) (clock n : ℕ) (s pool out part : List ℕ) (ep : par
 -- ---- the whole
 
 pub settings-law : (method k : ℕ) (pool : List ℕ) (b c x : Bool) → b ≡ keyFits method k → b ≡ x → c ≡ lawful pool method
-    → both x c ≡ settings method k pool
+    → (x && c) ≡ settings method k pool
 unfolding settings
-settings-law method k pool b c x eb e ec = λ i. both ((sym e ∙ eb) i) (ec i)
+settings-law method k pool b c x eb e ec = λ i. (sym e ∙ eb) i && ec i
 
 -- what lawful settings say
 pub record Lawful (method k : ℕ) (pool : List ℕ) (n : ℕ) : Type 0 where
@@ -352,7 +351,7 @@ pub lawful-settings : (method k : ℕ) (pool : List ℕ) (b : Bool) (n : ℕ) �
     → Lawful method k pool n
 unfolding settings
 lawful-settings method k pool b n eb e en =
-    let h : both (keyFits method k) (lawful pool method) ≡ true = sym eb ∙ e in
+    let h : (keyFits method k && lawful pool method) ≡ true = sym eb ∙ e in
     let fits : keyFits method k ≡ true = left (keyFits method k) (lawful pool method) h in
     let z = fits-sizes method k fits in
     let same : n ≡ k = en ∙ z .salt-is in
@@ -364,11 +363,11 @@ lawful-settings method k pool b n eb e en =
       words = eqb-true (length pool) poolWords (first (eqb (length pool) poolWords) (eqb (getD pool 0 0) method) (right (keyFits method k) (lawful pool method) h));
     }
   where
-    left : (x y : Bool) → both x y ≡ true → x ≡ true
+    left : (x y : Bool) → (x && y) ≡ true → x ≡ true
     left true y t = refl
     left false y t = t
 
-    right : (x y : Bool) → both x y ≡ true → y ≡ true
+    right : (x y : Bool) → (x && y) ≡ true → y ≡ true
     right true y t = t
     right false y t = absurd (let z : _≡_ {A = ℕ} 0 1 = cc in omega arith)
 
@@ -389,20 +388,20 @@ module _ (method : ℕ) (key : List ℕ) (clock : ℕ) (s pool out : List ℕ) w
 
   -- by the tests of the settings and of the front
   request-at : (a l : Bool) → settings method (length key) pool ≡ a → leb (frontLength saltBytes 0) (length s) ≡ l
-      → (pickRequest a
-      (pickRequest l (openedAs method (subkeyWords k) (readHead k clock saltBytes s pool (length out))) (Refused (More (frontLength saltBytes 0))))
+      → (cond a
+      (cond l (openedAs method (subkeyWords k) (readHead k clock saltBytes s pool (length out))) (Refused (More (frontLength saltBytes 0))))
       (Refused Settings)
       ≡ openedRequest method key clock s pool out)
-      × ((if (both a l) (headOut k clock saltBytes s pool out) out ≡ requestOut method key clock s pool out)
-      × (if (both a l) (headPool k clock saltBytes s pool (length out)) pool ≡ requestPool method key clock s pool out))
+      × ((cond (a && l) (headOut k clock saltBytes s pool out) out ≡ requestOut method key clock s pool out)
+      × (cond (a && l) (headPool k clock saltBytes s pool (length out)) pool ≡ requestPool method key clock s pool out))
   unfolding openedRequest requestOut requestPool
   request-at a l ea el = (
-    λ i. pickRequest (sym ea i)
-        (pickRequest (sym el i) (openedAs method (subkeyWords k) (readHead k clock saltBytes s pool (length out))) (Refused (More (frontLength saltBytes 0))))
+    λ i. cond (sym ea i)
+        (cond (sym el i) (openedAs method (subkeyWords k) (readHead k clock saltBytes s pool (length out))) (Refused (More (frontLength saltBytes 0))))
         (Refused Settings),
     (
-      λ i. if (both (sym ea i) (sym el i)) (headOut k clock saltBytes s pool out) out,
-      λ i. if (both (sym ea i) (sym el i)) (headPool k clock saltBytes s pool (length out)) pool,
+      λ i. cond (sym ea i && sym el i) (headOut k clock saltBytes s pool out) out,
+      λ i. cond (sym ea i && sym el i) (headPool k clock saltBytes s pool (length out)) pool,
     ),
   )
 

@@ -1,13 +1,12 @@
 -- Opening the head of a request (SIP022, section 3.1) on a salt pool: what is answered, what the lent buffer holds then, and
 -- what becomes of the pool.
-use mathlib.Core.Bool.{Bool, true, false}
+use mathlib.Core.Bool.{Bool, cond, _&&_}
 use mathlib.Core.List.{List}
 use Prim.Native.Nat.{ℕ, _+_}
 use lib.Dec.{leb, ltb}
 use lib.ListN.{length, take, drop, replicate}
-use Rattle.octets.specs.Buffers.{both, put}
+use Rattle.octets.specs.Buffers.{put}
 use Rattle.octets.specs.Numbers.{be}
-use Rattle.aes.specs.KeyExpansion.{if}
 use Rattle.protocol.specs.declared.Refusal.the-variants.{Settings, Room, NotAuthentic, Malformed, Replay, Full, More}
 use Rattle.protocol.specs.Method.{keyFits, saltLength}
 use Rattle.protocol.specs.Subkey.{subkey}
@@ -30,10 +29,6 @@ use Rattle.request_open.specs.declared.RequestOpened.{RequestOpened}
 use Rattle.request_open.specs.declared.RequestOpened.the-variants.{Accepted, Refused}
 use Rattle.response_open.specs.Heads.{frontLength, fixedOf, receiver, openFixed}
 
-abbrev pub pickRead : Bool → RequestRead → RequestRead → RequestRead
-pickRead true a b = a
-pickRead false a b = b
-
 -- ---- the variable header: an address, a padding length of at most 900, the padding, and the first payload, which only a
 -- padded request may lack
 
@@ -43,13 +38,11 @@ paddingAt e plain = be 2 (drop e plain)
 
 unfoldable pub paddingFits : ℕ → List ℕ → Bool
 paddingFits e plain =
-    both (leb (e + 2) (length plain))
-    (both (leb (paddingAt e plain) maxPadding)
-    (both (leb (e + 2 + paddingAt e plain) (length plain)) (ltb (e + 2) (length plain))))
+    leb (e + 2) (length plain) && (leb (paddingAt e plain) maxPadding && (leb (e + 2 + paddingAt e plain) (length plain) && ltb (e + 2) (length plain)))
 
 abbrev pub headerWith : Fixed → ℕ → List ℕ → Parsed → RequestRead
 headerWith f used plain (Found a) =
-    pickRead (paddingFits (a .end) plain)
+    cond (paddingFits (a .end) plain)
     (Header
     (record {
       target = a .target;
@@ -76,9 +69,9 @@ variableOf n f s = take (f .length + 16) (drop (frontLength n 0) s)
 
 unfoldable pub openVariable : List ℕ → ℕ → Fixed → List ℕ → (room : ℕ) → RequestRead
 openVariable key n f s room =
-    pickRead (leb (headLength n f) (length s))
-    (pickRead (leb (f .length) room)
-    (pickRead (authenticAt key 1 (variableOf n f s)) (readVariable f (headLength n f) (openAt key 1 (variableOf n f s))) (Unheaded NotAuthentic))
+    cond (leb (headLength n f) (length s))
+    (cond (leb (f .length) room)
+    (cond (authenticAt key 1 (variableOf n f s)) (readVariable f (headLength n f) (openAt key 1 (variableOf n f s))) (Unheaded NotAuthentic))
     (Unheaded Room)) (Unheaded (More (headLength n f)))
 
 -- a refusal clears what the plaintext has filled
@@ -89,8 +82,8 @@ settled (Unheaded r) due out = put out 0 (replicate due 0)
 -- a good tag lets the plaintext into the buffer, and then a refusal clears it
 unfoldable pub variableOut : List ℕ → ℕ → Fixed → List ℕ → List ℕ → List ℕ
 variableOut key n f s out =
-    if
-    (both (leb (headLength n f) (length s)) (both (leb (f .length) (length out)) (authenticAt key 1 (variableOf n f s))))
+    cond
+    (leb (headLength n f) (length s) && (leb (f .length) (length out) && authenticAt key 1 (variableOf n f s)))
     (settled (readVariable f (headLength n f) (openAt key 1 (variableOf n f s))) (f .length) (put out 0 (openAt key 1 (variableOf n f s)))) out
 
 -- ---- the whole: 1, 10, 4, 6, 7, 8, 9, and the variable header's
@@ -138,13 +131,9 @@ unfoldable pub headPool : List ℕ → (clock n : ℕ) → List ℕ → List ℕ
 headPool key clock n s pool room =
     storedIn (meet pool clock (take n s)) (readHead key clock n s pool room) clock (take n s) pool
 
-abbrev pub pickRequest : Bool → RequestOpened → RequestOpened → RequestOpened
-pickRequest true a b = a
-pickRequest false a b = b
-
 -- a key of k bytes, and the pool
 unfoldable pub settings : ℕ → ℕ → List ℕ → Bool
-settings method k pool = both (keyFits method k) (lawful pool method)
+settings method k pool = keyFits method k && lawful pool method
 
 module _ (method : ℕ) (key : List ℕ) (clock : ℕ) (s pool out : List ℕ) where
   abbrev n : ℕ
@@ -158,12 +147,12 @@ module _ (method : ℕ) (key : List ℕ) (clock : ℕ) (s pool out : List ℕ) w
 
   unfoldable pub openedRequest : RequestOpened
   openedRequest =
-      pickRequest (settings method (length key) pool)
-      (pickRequest whole (openedAs method (subkeyWords k) (readHead k clock n s pool (length out))) (Refused (More (frontLength n 0))))
+      cond (settings method (length key) pool)
+      (cond whole (openedAs method (subkeyWords k) (readHead k clock n s pool (length out))) (Refused (More (frontLength n 0))))
       (Refused Settings)
 
   unfoldable pub requestOut : List ℕ
-  requestOut = if (both (settings method (length key) pool) whole) (headOut k clock n s pool out) out
+  requestOut = cond (settings method (length key) pool && whole) (headOut k clock n s pool out) out
 
   unfoldable pub requestPool : List ℕ
-  requestPool = if (both (settings method (length key) pool) whole) (headPool k clock n s pool (length out)) pool
+  requestPool = cond (settings method (length key) pool && whole) (headPool k clock n s pool (length out)) pool

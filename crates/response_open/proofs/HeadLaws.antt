@@ -1,7 +1,7 @@
 -- Opening the fixed header of a head, and the head of a response: a law for each way out of each function.
 -- Assumes nothing.
 use mathlib.Core.Path.{_≡_, refl, sym, ap, ap₂, _∙_, subst}
-use mathlib.Core.Bool.{Bool, true, false}
+use mathlib.Core.Bool.{Bool, true, false, cond, _&&_}
 use mathlib.Core.List.{List}
 use mathlib.Core.Logic.{⊎-elim, inl, inr}
 use Prim.Native.Nat.{ℕ, _+_, _-_, _<_, _≤_}
@@ -10,10 +10,9 @@ use lib.Dec.{eqb, leb}
 use lib.ListN.{length, getD, take, drop, length-drop}
 use lib.Seq.{length-take-le}
 use borrow.Author.Tests.{eq-eqb, ne-eqb, le-leb, lt-leb}
-use Rattle.octets.specs.Buffers.{both, put, same}
+use Rattle.octets.specs.Buffers.{put, same}
 use Rattle.octets.specs.Numbers.{be}
 use Rattle.octets.proofs.BufferLaws.{put-whole}
-use Rattle.aes.specs.KeyExpansion.{if}
 use Rattle.aes.specs.Keyed.{nkOf}
 use Rattle.aes.proofs.KeyedLaws.{key-most}
 use Rattle.protocol.specs.declared.Refusal.{Refusal}
@@ -32,22 +31,22 @@ use Rattle.response_open.specs.declared.FixedRead.{FixedRead}
 use Rattle.response_open.specs.declared.FixedRead.the-variants.{Read, Refused as Unread}
 use Rattle.response_open.specs.declared.ResponseOpened.{ResponseOpened}
 use Rattle.response_open.specs.declared.ResponseOpened.the-variants.{Accepted, Refused}
-use Rattle.response_open.specs.Heads.{frontLength, receiver, pickFixed, fieldsOf, readFixed, openFixed, pickResponse, bindingOf, boundAs, boundOf, responseAt, openedResponse}
+use Rattle.response_open.specs.Heads.{frontLength, receiver, fieldsOf, readFixed, openFixed, bindingOf, boundAs, boundOf, responseAt, openedResponse}
 
 -- ---- what the fixed header says
 
 module _ (kind clock : ℕ) (plain : List ℕ) where
   fixed-at : (a b : Bool) → eqb (getD plain 0 0) kind ≡ a → timeValid (be 8 (drop 1 plain)) clock ≡ b
-      → pickFixed a (pickFixed b (Read (fieldsOf plain)) (Unread WrongTime)) (Unread WrongType) ≡ readFixed kind clock plain
+      → cond a (cond b (Read (fieldsOf plain)) (Unread WrongTime)) (Unread WrongType) ≡ readFixed kind clock plain
   unfolding readFixed
-  fixed-at a b ea eb = λ i. pickFixed (sym ea i) (pickFixed (sym eb i) (Read (fieldsOf plain)) (Unread WrongTime)) (Unread WrongType)
+  fixed-at a b ea eb = λ i. cond (sym ea i) (cond (sym eb i) (Read (fieldsOf plain)) (Unread WrongTime)) (Unread WrongType)
 
   module _ (x : ℕ) (ex : x ≡ getD plain 0 0) where
     pub fixed-type : (x ≡ kind → ⊥) → Unread WrongType ≡ readFixed kind clock plain
     fixed-type h = fixed-at false _ (ne-eqb _ _ (λ e. h (ex ∙ e))) refl
 
     module _ (right : x ≡ kind) (t : ℕ) (v : Bool) (et : t ≡ be 8 (drop 1 plain)) (ev : v ≡ timeValid t clock) where
-      fixed-timed : (b : Bool) → v ≡ b → pickFixed b (Read (fieldsOf plain)) (Unread WrongTime) ≡ readFixed kind clock plain
+      fixed-timed : (b : Bool) → v ≡ b → cond b (Read (fieldsOf plain)) (Unread WrongTime) ≡ readFixed kind clock plain
       fixed-timed b e = fixed-at true b (eq-eqb _ _ (sym ex ∙ right)) (ap (λ (y : ℕ). timeValid y clock) (sym et) ∙ sym ev ∙ e)
 
       pub fixed-time : v ≡ false → Unread WrongTime ≡ readFixed kind clock plain
@@ -60,32 +59,32 @@ module _ (kind clock : ℕ) (plain : List ℕ) where
 -- ---- opened, into a buffer that its plaintext fills
 
 module _ (key : List ℕ) (kind clock : ℕ) (s plain : List ℕ) (b : Bool) (o : List ℕ) (eb : b ≡ authenticAt key 0 s)
-    (eo : o ≡ if b (put plain 0 (openAt key 0 s)) plain) (size : length s ≡ length plain + 16)
+    (eo : o ≡ cond b (put plain 0 (openAt key 0 s)) plain) (size : length s ≡ length plain + 16)
   where
-    fixed-filled : (d : Bool) → b ≡ d → o ≡ if d (openAt key 0 s) plain
+    fixed-filled : (d : Bool) → b ≡ d → o ≡ cond d (openAt key 0 s) plain
     fixed-filled d e =
         let l : length plain ≤ length (openAt key 0 s) = omega (arith, size, length-openAt key 0 s) in
-        eo ∙ (λ i. if (e i) (put-whole plain (openAt key 0 s) l i) plain)
+        eo ∙ (λ i. cond (e i) (put-whole plain (openAt key 0 s) l i) plain)
 
-    fixed-left : o ≡ if (authenticAt key 0 s) (openAt key 0 s) plain
-    fixed-left = fixed-filled b refl ∙ ap (λ (d : Bool). if d (openAt key 0 s) plain) eb
+    fixed-left : o ≡ cond (authenticAt key 0 s) (openAt key 0 s) plain
+    fixed-left = fixed-filled b refl ∙ ap (λ (d : Bool). cond d (openAt key 0 s) plain) eb
 
-    fixed-decided : (d : Bool) → b ≡ d → pickFixed d (readFixed kind clock (openAt key 0 s)) (Unread NotAuthentic) ≡ openFixed key kind clock s
+    fixed-decided : (d : Bool) → b ≡ d → cond d (readFixed kind clock (openAt key 0 s)) (Unread NotAuthentic) ≡ openFixed key kind clock s
     unfolding openFixed
-    fixed-decided d e = ap (λ (t : Bool). pickFixed t (readFixed kind clock (openAt key 0 s)) (Unread NotAuthentic)) (sym e ∙ eb)
+    fixed-decided d e = ap (λ (t : Bool). cond t (readFixed kind clock (openAt key 0 s)) (Unread NotAuthentic)) (sym e ∙ eb)
 
     pub fixed-opened : b ≡ true → (r : FixedRead) → r ≡ readFixed kind clock o
-        → (r ≡ openFixed key kind clock s) × (o ≡ if (authenticAt key 0 s) (openAt key 0 s) plain)
+        → (r ≡ openFixed key kind clock s) × (o ≡ cond (authenticAt key 0 s) (openAt key 0 s) plain)
     fixed-opened e r er = (er ∙ ap (readFixed kind clock) (fixed-filled true e) ∙ fixed-decided true e, fixed-left)
 
     pub fixed-forged : b ≡ false
-        → (Unread NotAuthentic ≡ openFixed key kind clock s) × (o ≡ if (authenticAt key 0 s) (openAt key 0 s) plain)
+        → (Unread NotAuthentic ≡ openFixed key kind clock s) × (o ≡ cond (authenticAt key 0 s) (openAt key 0 s) plain)
     fixed-forged e = (fixed-decided false e, fixed-left)
 
 -- ---- the response's
 
 -- what was read was authentic
-read-authentic : (b : Bool) (x : FixedRead) (f : Fixed) → pickFixed b x (Unread NotAuthentic) ≡ Read f → b ≡ true
+read-authentic : (b : Bool) (x : FixedRead) (f : Fixed) → cond b x (Unread NotAuthentic) ≡ Read f → b ≡ true
 read-authentic true x f e = refl
 read-authentic false x f e = absurd (let z : _≡_ {A = ℕ} 0 1 = cc in omega arith)
 
@@ -95,14 +94,14 @@ module _ (method : ℕ) (w : Subkey) (key : List ℕ) (clock n : ℕ) (salt s : 
     unfolding boundOf
     bound-refused q e = ap (boundAs method w (frontLength n n) (same (bindingOf n (openAt key 0 s)) salt)) (sym e ∙ er)
 
-    module _ (plain o : List ℕ) (eo : o ≡ if (authenticAt key 0 s) (openAt key 0 s) plain) (f : Fixed) (e : r ≡ Read f) (b : Bool)
+    module _ (plain o : List ℕ) (eo : o ≡ cond (authenticAt key 0 s) (openAt key 0 s) plain) (f : Fixed) (e : r ≡ Read f) (b : Bool)
         (eb : b ≡ same (take (9 + n - 9) (drop 9 o)) salt)
       where
         plain-read : o ≡ openAt key 0 s
         unfolding openFixed
         plain-read =
             let good = read-authentic (authenticAt key 0 s) (readFixed 1 clock (openAt key 0 s)) f (sym er ∙ e) in
-            eo ∙ ap (λ (d : Bool). if d (openAt key 0 s) plain) good
+            eo ∙ ap (λ (d : Bool). cond d (openAt key 0 s) plain) good
 
         bound-at : (d : Bool) → b ≡ d → boundAs method w (frontLength n n) d (Read f) ≡ boundOf method w key clock n salt s
         unfolding boundOf
@@ -154,14 +153,14 @@ module _ (method : ℕ) (key : List ℕ) (clock : ℕ) (salt s : List ℕ) (k : 
 
   opened-at : (a b c : Bool) → k ≡ a → eqb (length salt) (saltLength method) ≡ b
       → leb (frontLength (saltLength method) (saltLength method)) (length s) ≡ c
-      → pickResponse (both a b)
-      (pickResponse c (responseAt method (subkeyWords sub) sub clock (saltLength method) salt s)
+      → cond (a && b)
+      (cond c (responseAt method (subkeyWords sub) sub clock (saltLength method) salt s)
       (Refused (More (frontLength (saltLength method) (saltLength method))))) (Refused Settings)
       ≡ openedResponse method key clock salt s
   unfolding openedResponse
   opened-at a b c ea eb ec =
-      λ i. pickResponse (both ((sym ea ∙ ek) i) (sym eb i))
-      (pickResponse (sym ec i) (responseAt method (subkeyWords sub) sub clock (saltLength method) salt s)
+      λ i. cond ((sym ea ∙ ek) i && sym eb i)
+      (cond (sym ec i) (responseAt method (subkeyWords sub) sub clock (saltLength method) salt s)
       (Refused (More (frontLength (saltLength method) (saltLength method))))) (Refused Settings)
 
   pub response-settings : k ≡ false → Refused Settings ≡ openedResponse method key clock salt s

@@ -1,10 +1,10 @@
 -- The fixed header of a head that is opened, and the response's head (SIP022, section 3.1).
-use mathlib.Core.Bool.{Bool, true, false}
+use mathlib.Core.Bool.{Bool, cond, _&&_}
 use mathlib.Core.List.{List}
 use Prim.Native.Nat.{ℕ, _+_, _-_}
 use lib.Dec.{eqb, leb}
 use lib.ListN.{length, getD, take, drop}
-use Rattle.octets.specs.Buffers.{both, same}
+use Rattle.octets.specs.Buffers.{same}
 use Rattle.octets.specs.Numbers.{be}
 use Rattle.protocol.specs.declared.Refusal.the-variants.{Settings, NotAuthentic, WrongType, WrongTime, More, Binding}
 use Rattle.protocol.specs.Method.{keyFits, saltLength}
@@ -34,28 +34,20 @@ receiver method turn counter w = record { method = method; turn = turn; counter 
 
 -- ---- the fixed header, in the order 4, 6, 7
 
-abbrev pub pickFixed : Bool → FixedRead → FixedRead → FixedRead
-pickFixed true a b = a
-pickFixed false a b = b
-
 -- the last two bytes are the length of the piece behind it
 abbrev pub fieldsOf : List ℕ → Fixed
 fieldsOf plain = record { time = be 8 (drop 1 plain); length = be 2 (drop (length plain - 2) plain) }
 
 unfoldable pub readFixed : (kind clock : ℕ) → List ℕ → FixedRead
 readFixed kind clock plain =
-    pickFixed (eqb (getD plain 0 0) kind)
-    (pickFixed (timeValid (be 8 (drop 1 plain)) clock) (Read (fieldsOf plain)) (Unread WrongTime)) (Unread WrongType)
+    cond (eqb (getD plain 0 0) kind)
+    (cond (timeValid (be 8 (drop 1 plain)) clock) (Read (fieldsOf plain)) (Unread WrongTime)) (Unread WrongType)
 
 unfoldable pub openFixed : List ℕ → (kind clock : ℕ) → List ℕ → FixedRead
 openFixed key kind clock s =
-    pickFixed (authenticAt key 0 s) (readFixed kind clock (openAt key 0 s)) (Unread NotAuthentic)
+    cond (authenticAt key 0 s) (readFixed kind clock (openAt key 0 s)) (Unread NotAuthentic)
 
 -- ---- the response's head, in the order 1, 10, 4, 6, 7, 13
-
-abbrev pub pickResponse : Bool → ResponseOpened → ResponseOpened → ResponseOpened
-pickResponse true a b = a
-pickResponse false a b = b
 
 -- the request's salt, as the response has it
 abbrev pub bindingOf : ℕ → List ℕ → List ℕ
@@ -64,7 +56,7 @@ bindingOf n plain = take n (drop 9 plain)
 -- the payload is the next step's, with counter 1
 abbrev pub boundAs : ℕ → Subkey → ℕ → Bool → FixedRead → ResponseOpened
 boundAs method w used ours (Read f) =
-    pickResponse ours
+    cond ours
     (Accepted (record { time = f .time; length = f .length; used = used }) (receiver method (Payload (f .length)) 1 w)) (Refused Binding)
 boundAs method w used ours (Unread r) = Refused r
 
@@ -85,6 +77,6 @@ module _ (method : ℕ) (key : List ℕ) (clock : ℕ) (requestSalt s : List ℕ
 
   unfoldable pub openedResponse : ResponseOpened
   openedResponse =
-      pickResponse (both (keyFits method (length key)) (eqb (length requestSalt) n))
-      (pickResponse (leb (frontLength n n) (length s)) (responseAt method (subkeyWords k) k clock n requestSalt s)
+      cond (keyFits method (length key) && eqb (length requestSalt) n)
+      (cond (leb (frontLength n n) (length s)) (responseAt method (subkeyWords k) k clock n requestSalt s)
       (Refused (More (frontLength n n)))) (Refused Settings)

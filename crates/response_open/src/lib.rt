@@ -8,7 +8,7 @@ use stream_open::Turn;
 ghost use mathlib.Core.Path.{_≡_};
 ghost use Prim.Native.Nat.{_+_, _-_, _<_, _≤_};
 ghost use lib.ListN.{length};
-ghost use Rattle.aes.specs.KeyExpansion.{if};
+ghost use mathlib.Core.Bool.{cond};
 ghost use Rattle.aes.specs.Keyed.{nkOf};
 ghost use Rattle.stream.specs.Pieces.{authenticAt, openAt, keyOf};
 ghost use Rattle.response_open.specs.Heads.{readFixed, openFixed, frontLength, boundOf, responseAt, openedResponse};
@@ -68,7 +68,7 @@ pub fn open_fixed(
     requires { ⌜ length (now plain) ≤ 65535 ⌝ }
     requires { ⌜ length (now s) ≡ length (now plain) + 16 ⌝ }
     ensures { λ r. ⌜ r ≡ openFixed (keyOf w k) kind clock (now (s .entry)) ⌝ }
-    ensures { λ r. ⌜ now (plain .exit) ≡ if (authenticAt (keyOf w k) 0 (now (s .entry))) (openAt (keyOf w k) 0 (now (s .entry))) (now (plain .entry)) ⌝ }
+    ensures { λ r. ⌜ now (plain .exit) ≡ cond (authenticAt (keyOf w k) 0 (now (s .entry))) (openAt (keyOf w k) 0 (now (s .entry))) (now (plain .entry)) ⌝ }
 {
     if open_piece(w, k, 0, s, plain) {
         return read_fixed(kind, clock, plain);

@@ -2,7 +2,7 @@
 -- the same target, a name's place moved by the bytes before.
 -- Assumes nothing.
 use mathlib.Core.Path.{_≡_, refl, sym, ap, ap₂, _∙_, subst}
-use mathlib.Core.Bool.{Bool, true, false}
+use mathlib.Core.Bool.{Bool, true, false, cond}
 use mathlib.Core.List.{List, [], _∷_, _++_}
 use Prim.Native.Nat.{ℕ, _+_, _-_, _≤_, _<_}
 use native.Mathlib.Omega.{arith}
@@ -17,7 +17,7 @@ use Rattle.socks5.specs.declared.Target.{Target}
 use Rattle.socks5.specs.declared.Target.the-variants.{V4, V6, Name}
 use Rattle.socks5.specs.declared.Parsed.{Parsed}
 use Rattle.socks5.specs.declared.Parsed.the-variants.{Found, Malformed}
-use Rattle.socks5.specs.Address.{pickParsed, addressAt, v4At, v6At, nameAt, parseAt, ends, isAddress, moved}
+use Rattle.socks5.specs.Address.{addressAt, v4At, v6At, nameAt, parseAt, ends, isAddress, moved}
 use Rattle.socks5.proofs.AddressLaws.{of-kind, whole-law}
 
 -- ---- what is found, if something is
@@ -35,7 +35,7 @@ record Picked (b : Bool) (p : Parsed) (a : Address) : Type 0 where
   passed : b ≡ true
   this : p ≡ Found a
 
-picked : {a : Address} (b : Bool) (p : Parsed) → pickParsed b p Malformed ≡ Found a → Picked b p a
+picked : {a : Address} (b : Bool) (p : Parsed) → cond b p Malformed ≡ Found a → Picked b p a
 picked true p e = record { passed = refl; this = e }
 picked false p e = absurd (not-found e)
 
@@ -67,15 +67,15 @@ module _ (before s after : List ℕ) (a : Address) where
 
   -- an address of m bytes, its port at place p
   there : (m p q : ℕ) (x y : Target) → p + 2 ≤ m → q ≡ k + p → (m ≤ length s → y ≡ moved k x)
-      → pickParsed (leb m (length s - 0)) (addressAt s x p) Malformed ≡ Found a
-      → pickParsed (leb m (length whole - k)) (addressAt whole y q) Malformed ≡ shifted k (Found a)
+      → cond (leb m (length s - 0)) (addressAt s x p) Malformed ≡ Found a
+      → cond (leb m (length whole - k)) (addressAt whole y q) Malformed ≡ shifted k (Found a)
   there m p q x y fits eq ey e =
       let found = picked (leb m (length s - 0)) (addressAt s x p) e in
       let h : m ≤ length s = omega (arith, leb-true m (length s - 0) (found .passed)) in
       let l : m ≤ length whole - k = omega (arith, left) in
       let end : k + p + 2 ≡ k + (p + 2) = omega arith in
       let port : p + 2 ≤ length s = omega arith in
-      ap (λ (b : Bool). pickParsed b (addressAt whole y q) Malformed) (le-leb m (length whole - k) l)
+      ap (λ (b : Bool). cond b (addressAt whole y q) Malformed) (le-leb m (length whole - k) l)
       ∙ (λ i. addressAt whole (ey h i) (eq i))
       ∙ (λ i. Found (record { target = moved k x; port = number-there 2 p port i; end = end i }))
       ∙ ap (shifted k) (found .this)
@@ -98,18 +98,18 @@ module _ (before s after : List ℕ) (a : Address) where
   unfolding nameAt
   name-there e =
       let n = getD s 1 0 in
-      let some = picked (ltb 0 n) (pickParsed (leb (n + 4) (length s - 0)) (addressAt s (Name 2 n) (2 + n)) Malformed) e in
+      let some = picked (ltb 0 n) (cond (leb (n + 4) (length s - 0)) (addressAt s (Name 2 n) (2 + n)) Malformed) e in
       let found = picked (leb (n + 4) (length s - 0)) (addressAt s (Name 2 n) (2 + n)) (some .this) in
       let h : 1 < length s = omega (arith, leb-true (n + 4) (length s - 0) (found .passed)) in
       let q : k + 2 + n ≡ k + (2 + n) = omega arith in
       ap (nameAt whole k) (byte-there 1 h)
-      ∙ ap (λ (b : Bool). pickParsed b (pickParsed (leb (n + 4) (length whole - k)) (addressAt whole (Name (k + 2) n) (k + 2 + n)) Malformed) Malformed)
+      ∙ ap (λ (b : Bool). cond b (cond (leb (n + 4) (length whole - k)) (addressAt whole (Name (k + 2) n) (k + 2 + n)) Malformed) Malformed)
       (some .passed)
       ∙ there (n + 4) (2 + n) (k + 2 + n) (Name 2 n) (Name (k + 2) n) (omega arith) q (λ l. refl) (some .this)
 
   by-kind : (b c d : Bool)
-      → pickParsed b (v4At s 0) (pickParsed c (nameAt s 0 (getD s 1 0)) (pickParsed d (v6At s 0) Malformed)) ≡ Found a
-      → pickParsed b (v4At whole k) (pickParsed c (nameAt whole k (getD whole (k + 1) 0)) (pickParsed d (v6At whole k) Malformed))
+      → cond b (v4At s 0) (cond c (nameAt s 0 (getD s 1 0)) (cond d (v6At s 0) Malformed)) ≡ Found a
+      → cond b (v4At whole k) (cond c (nameAt whole k (getD whole (k + 1) 0)) (cond d (v6At whole k) Malformed))
       ≡ shifted k (Found a)
   by-kind true c d e = v4-there e
   by-kind false true d e = name-there e

@@ -1,7 +1,7 @@
 -- One piece of a stream: its nonce, its subkey in words and in bytes, sealed and opened.
 -- Assumes nothing.
 use mathlib.Core.Path.{_≡_, sym, ap, _∙_, subst}
-use mathlib.Core.Bool.{Bool, true, false}
+use mathlib.Core.Bool.{Bool, true, false, cond}
 use mathlib.Core.List.{List, _++_, append-assoc}
 use Prim.Native.Nat.{ℕ, _+_, _-_, _/_, _<_, _≤_}
 use native.Mathlib.Omega.{arith}
@@ -11,7 +11,6 @@ use Rattle.octets.specs.Buffers.{put}
 use Rattle.octets.specs.Numbers.{be, toBe, toLe}
 use Rattle.octets.proofs.BufferLaws.{length-put, take-put, put-behind, put-whole, getD-padded}
 use Rattle.octets.proofs.NumberLaws.{be-same, toLe-add, length-toBe, length-toLe}
-use Rattle.aes.specs.KeyExpansion.{if}
 use Rattle.aes.specs.Keyed.{nkOf}
 use Rattle.aes.proofs.KeyedLaws.{key-most}
 use Rattle.gcm.specs.Gcm.{textOf}
@@ -109,7 +108,7 @@ text-copied d p o l e =
 -- GCM's answer and what it leaves in the buffer, by the piece's tag
 pub record PieceOpened (key : List ℕ) (counter : ℕ) (s out : List ℕ) (a : Answer) (o : List ℕ) : Type 0 where
   pub answers : answer true (authenticAt key counter s) ≡ a
-  pub leaves : if (authenticAt key counter s) (put out 0 (openAt key counter s)) out ≡ o
+  pub leaves : cond (authenticAt key counter s) (put out 0 (openAt key counter s)) out ≡ o
 
 pub piece-opened : (w : Subkey) (k counter : ℕ) (s out : List ℕ) → 0 < nkOf k → 16 ≤ length s → length s ≤ 65551 → length s - 16 ≤ length out
     → (key n : List ℕ) → key ≡ subkeyBytes w → n ≡ nonce counter → (a : Answer) (o : List ℕ) → a ≡ openAnswer (take k key) n s out
@@ -126,8 +125,8 @@ piece-opened w k counter s out has-key tagged small room key n ek en a o ea eo =
 
 module _ (key : List ℕ) (counter : ℕ) (s out : List ℕ) (a : Answer) (o : List ℕ) (d : PieceOpened key counter s out a o) where
   piece-decided : (b : Bool) → authenticAt key counter s ≡ b
-      → (b ≡ authenticAt key counter s) × (o ≡ if b (put out 0 (openAt key counter s)) out)
-  piece-decided b e = (sym e, sym (d .leaves) ∙ ap (λ (t : Bool). if t (put out 0 (openAt key counter s)) out) e)
+      → (b ≡ authenticAt key counter s) × (o ≡ cond b (put out 0 (openAt key counter s)) out)
+  piece-decided b e = (sym e, sym (d .leaves) ∙ ap (λ (t : Bool). cond t (put out 0 (openAt key counter s)) out) e)
 
   pub piece-text : a ≡ Text → (true ≡ authenticAt key counter s) × (o ≡ put out 0 (openAt key counter s))
   piece-text e = piece-decided true (answer-text (authenticAt key counter s) (d .answers ∙ e))

@@ -1,7 +1,7 @@
 -- What sealing a chunk answers: one law for each way out, and what an answered length tells.
 -- Assumes nothing.
 use mathlib.Core.Path.{_≡_, refl, sym, ap, _∙_}
-use mathlib.Core.Bool.{Bool, true, false}
+use mathlib.Core.Bool.{Bool, true, false, cond}
 use Prim.Native.Nat.{ℕ, _+_, _-_, _≤_, _<_}
 use native.Mathlib.Omega.{arith}
 use lib.Dec.{eqb, leb, ltb}
@@ -14,17 +14,17 @@ use Rattle.stream.specs.declared.Subkey.{Subkey}
 use Rattle.stream.specs.declared.Sender.{Sender}
 use Rattle.stream.specs.declared.Sealed.{Sealed}
 use Rattle.stream.specs.declared.Sealed.the-variants.{Bytes, Refused}
-use Rattle.stream.specs.Sealing.{maxChunk, lastCounter, pickSealed, moved, sizeAnswer, chunkAnswer}
+use Rattle.stream.specs.Sealing.{maxChunk, lastCounter, moved, sizeAnswer, chunkAnswer}
 use Rattle.stream.proofs.KeyLaws.{key-of-length}
 
 -- ---- refusals for length and room
 
 module _ (n before room : ℕ) (s : Sender) where
   size-decided : (a b : Bool) → leb n maxChunk ≡ a → leb (before + n + 16) room ≡ b
-      → pickSealed a (pickSealed b (Bytes (before + n + 16) s) (Refused Room)) (Refused Length) ≡ sizeAnswer n before room s
+      → cond a (cond b (Bytes (before + n + 16) s) (Refused Room)) (Refused Length) ≡ sizeAnswer n before room s
   unfolding sizeAnswer
   size-decided a b ea eb =
-      λ i. pickSealed (sym ea i) (pickSealed (sym eb i) (Bytes (before + n + 16) s) (Refused Room)) (Refused Length)
+      λ i. cond (sym ea i) (cond (sym eb i) (Bytes (before + n + 16) s) (Refused Room)) (Refused Length)
 
   pub too-long : maxChunk < n → Refused Length ≡ sizeAnswer n before room s
   too-long h = size-decided false (leb (before + n + 16) room) (lt-leb n maxChunk h) refl
@@ -39,10 +39,10 @@ module _ (n before room : ℕ) (s : Sender) where
 
 module _ (s : Sender) (payload room : ℕ) where
   chunk-decided : (a b : Bool) → eqb (keyLength (s .method)) 0 ≡ a → ltb (s .counter) (lastCounter - 1) ≡ b
-      → pickSealed a (Refused Settings) (pickSealed b (sizeAnswer payload 18 room (moved s)) (Refused Counter)) ≡ chunkAnswer s payload room
+      → cond a (Refused Settings) (cond b (sizeAnswer payload 18 room (moved s)) (Refused Counter)) ≡ chunkAnswer s payload room
   unfolding chunkAnswer
   chunk-decided a b ea eb =
-      λ i. pickSealed (sym ea i) (Refused Settings) (pickSealed (sym eb i) (sizeAnswer payload 18 room (moved s)) (Refused Counter))
+      λ i. cond (sym ea i) (Refused Settings) (cond (sym eb i) (sizeAnswer payload 18 room (moved s)) (Refused Counter))
 
   module _ (k : ℕ) (ek : k ≡ keyLength (s .method)) where
     pub chunk-unfit : k ≡ 0 → Refused Settings ≡ chunkAnswer s payload room
@@ -75,11 +75,11 @@ isBytes (Refused r) = 0
 not-refused : (r : Refusal) (n : ℕ) (s : Sender) → Refused r ≡ Bytes n s → ⊥
 not-refused r n s e = let z : _≡_ {A = ℕ} 0 1 = ap isBytes e in omega arith
 
-pub passed : (b : Bool) (x : Sealed) (r : Refusal) (n : ℕ) (s : Sender) → pickSealed b x (Refused r) ≡ Bytes n s → (b ≡ true) × (x ≡ Bytes n s)
+pub passed : (b : Bool) (x : Sealed) (r : Refusal) (n : ℕ) (s : Sender) → cond b x (Refused r) ≡ Bytes n s → (b ≡ true) × (x ≡ Bytes n s)
 passed true x r n s e = (refl, e)
 passed false x r n s e = absurd (not-refused r n s e)
 
-escaped : (b : Bool) (x : Sealed) (r : Refusal) (n : ℕ) (s : Sender) → pickSealed b (Refused r) x ≡ Bytes n s → (b ≡ false) × (x ≡ Bytes n s)
+escaped : (b : Bool) (x : Sealed) (r : Refusal) (n : ℕ) (s : Sender) → cond b (Refused r) x ≡ Bytes n s → (b ≡ false) × (x ≡ Bytes n s)
 escaped true x r n s e = absurd (not-refused r n s e)
 escaped false x r n s e = (refl, e)
 

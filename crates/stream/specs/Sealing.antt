@@ -1,5 +1,5 @@
 -- Sealing chunks (SIP022, section 3.1): what is answered and what is written. What is said of one piece serves the heads too.
-use mathlib.Core.Bool.{Bool, true, false}
+use mathlib.Core.Bool.{cond}
 use mathlib.Core.List.{List, _++_}
 use Prim.Native.Nat.{ℕ, _+_, _-_, _^_}
 use lib.Dec.{eqb, leb, ltb}
@@ -29,10 +29,6 @@ chunk key counter payload = sealAt key counter (toBe 2 (length payload)) ++ seal
 
 -- ---- what is answered
 
-abbrev pub pickSealed : Bool → Sealed → Sealed → Sealed
-pickSealed true a b = a
-pickSealed false a b = b
-
 -- the stream behind a chunk, which uses two counters
 abbrev pub moved : Sender → Sender
 moved s = record { method = s .method; counter = s .counter + 2; subkey = s .subkey }
@@ -43,13 +39,13 @@ senderKey s = keyOf (s .subkey) (keyLength (s .method))
 -- refusals 2 and 3, of a piece of n bytes behind `before` bytes
 unfoldable pub sizeAnswer : (n before room : ℕ) → Sender → Sealed
 sizeAnswer n before room s =
-    pickSealed (leb n maxChunk) (pickSealed (leb (before + n + 16) room) (Bytes (before + n + 16) s) (Refused Room)) (Refused Length)
+    cond (leb n maxChunk) (cond (leb (before + n + 16) room) (Bytes (before + n + 16) s) (Refused Room)) (Refused Length)
 
 -- 1, 11, 2, 3
 unfoldable pub chunkAnswer : Sender → ℕ → ℕ → Sealed
 chunkAnswer s payload room =
-    pickSealed (eqb (keyLength (s .method)) 0) (Refused Settings)
-    (pickSealed (ltb (s .counter) (lastCounter - 1)) (sizeAnswer payload 18 room (moved s)) (Refused Counter))
+    cond (eqb (keyLength (s .method)) 0) (Refused Settings)
+    (cond (ltb (s .counter) (lastCounter - 1)) (sizeAnswer payload 18 room (moved s)) (Refused Counter))
 
 -- what is written goes to the front of the buffer; a refusal writes nothing
 abbrev pub sealOut : Sealed → List ℕ → List ℕ → List ℕ

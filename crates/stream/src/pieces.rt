@@ -4,7 +4,7 @@ ghost use mathlib.Core.Path.{_≡_};
 ghost use Prim.Native.Nat.{_+_, _-_, _<_, _≤_};
 ghost use lib.ListN.{length};
 ghost use Rattle.octets.specs.Buffers.{put};
-ghost use Rattle.aes.specs.KeyExpansion.{if};
+ghost use mathlib.Core.Bool.{cond};
 ghost use Rattle.aes.specs.Keyed.{nkOf};
 ghost use Rattle.gcm.specs.Gcm.{textOf};
 ghost use Rattle.protocol.specs.Subkey.{subkey as subkeyOf};
@@ -82,7 +82,7 @@ pub fn open_piece(w: Subkey, k: usize, counter: u64, s: &[u8], out: &mut [u8]) -
     requires { ⌜ length (now s) ≤ 65551 ⌝ }
     requires { ⌜ length (now s) - 16 ≤ length (now out) ⌝ }
     ensures { λ r. ⌜ r ≡ authenticAt (keyOf w k) counter (now (s .entry)) ⌝ }
-    ensures { λ r. ⌜ now (out .exit) ≡ if r (put (now (out .entry)) 0 (openAt (keyOf w k) counter (now (s .entry)))) (now (out .entry)) ⌝ }
+    ensures { λ r. ⌜ now (out .exit) ≡ cond r (put (now (out .entry)) 0 (openAt (keyOf w k) counter (now (s .entry)))) (now (out .entry)) ⌝ }
 {
     let key = subkey_bytes(w);
     let n = nonce(counter);

@@ -1,7 +1,7 @@
 -- A step of the receiving half: a law for each way out of each function.
 -- Assumes nothing.
 use mathlib.Core.Path.{_≡_, refl, sym, ap, _∙_}
-use mathlib.Core.Bool.{Bool, true, false}
+use mathlib.Core.Bool.{Bool, true, false, cond}
 use mathlib.Core.List.{List}
 use Prim.Native.Nat.{ℕ, _+_, _<_, _≤_}
 use native.Mathlib.Omega.{arith}
@@ -12,7 +12,6 @@ use borrow.Author.Tests.{eq-eqb, ne-eqb, le-leb, lt-leb}
 use Rattle.octets.specs.Buffers.{put}
 use Rattle.octets.specs.Numbers.{be}
 use Rattle.octets.proofs.BufferLaws.{put-whole}
-use Rattle.aes.specs.KeyExpansion.{if}
 use Rattle.protocol.specs.declared.Refusal.{Refusal}
 use Rattle.protocol.specs.declared.Refusal.the-variants.{Settings, Room, NotAuthentic, More, Counter}
 use Rattle.protocol.specs.Method.{keyLength}
@@ -26,20 +25,20 @@ use Rattle.stream_open.specs.declared.Receiver.{Receiver}
 use Rattle.stream_open.specs.declared.Chunk.{Chunk}
 use Rattle.stream_open.specs.declared.Stepped.{Stepped}
 use Rattle.stream_open.specs.declared.Stepped.the-variants.{Opened, Refused}
-use Rattle.stream_open.specs.Chunks.{pickStepped, streamKey, pieceAnswer, lengthRead, turnAnswer, stepAnswer, writtenBy, payloadPiece, stepOut, turnAfter, ended, pickReceiver, refusedNext, advances}
+use Rattle.stream_open.specs.Chunks.{streamKey, pieceAnswer, lengthRead, turnAnswer, stepAnswer, writtenBy, payloadPiece, stepOut, turnAfter, ended, refusedNext, advances}
 
 -- ---- one piece, by the four tests
 
 module _ (st : Receiver) (n : ℕ) (s : List ℕ) (asked room : ℕ) (good : Stepped) where
   piece-at : (a b c d : Bool) → eqb (st .counter) lastCounter ≡ a → leb (n + 16) (length s) ≡ b → leb asked room ≡ c
       → authenticAt (streamKey st) (st .counter) (take (n + 16) s) ≡ d
-      → pickStepped a (Refused Counter)
-      (pickStepped b (pickStepped c (pickStepped d good (Refused NotAuthentic)) (Refused Room)) (Refused (More (n + 16))))
+      → cond a (Refused Counter)
+      (cond b (cond c (cond d good (Refused NotAuthentic)) (Refused Room)) (Refused (More (n + 16))))
       ≡ pieceAnswer st n s asked room good
   unfolding pieceAnswer
   piece-at a b c d ea eb ec ed =
-      λ i. pickStepped (sym ea i) (Refused Counter)
-      (pickStepped (sym eb i) (pickStepped (sym ec i) (pickStepped (sym ed i) good (Refused NotAuthentic)) (Refused Room)) (Refused (More (n + 16))))
+      λ i. cond (sym ea i) (Refused Counter)
+      (cond (sym eb i) (cond (sym ec i) (cond (sym ed i) good (Refused NotAuthentic)) (Refused Room)) (Refused (More (n + 16))))
 
   pub piece-counter : st .counter ≡ lastCounter → Refused Counter ≡ pieceAnswer st n s asked room good
   piece-counter e = piece-at true _ _ _ (eq-eqb _ _ e) refl refl refl
@@ -53,7 +52,7 @@ module _ (st : Receiver) (n : ℕ) (s : List ℕ) (asked room : ℕ) (good : Ste
       piece-room h = piece-at false true false _ (ne-eqb _ _ counts) (le-leb _ _ long) (lt-leb _ _ h) refl
 
       module _ (fits : asked ≤ room) (b : Bool) (eb : b ≡ authenticAt (streamKey st) (st .counter) (take (n + 16) s)) where
-        piece-tag : (d : Bool) → b ≡ d → pickStepped d good (Refused NotAuthentic) ≡ pieceAnswer st n s asked room good
+        piece-tag : (d : Bool) → b ≡ d → cond d good (Refused NotAuthentic) ≡ pieceAnswer st n s asked room good
         piece-tag d e = piece-at false true true d (ne-eqb _ _ counts) (le-leb _ _ long) (le-leb _ _ fits) (sym eb ∙ e)
 
         pub piece-good : b ≡ true → good ≡ pieceAnswer st n s asked room good
@@ -81,14 +80,14 @@ module _ (st : Receiver) (s : List ℕ) (room : ℕ) where
       length-forged e = piece-forged st 2 s 0 room _ counts long (omega arith) b tag-of e
 
       -- two bytes fill the buffer that they are read from
-      pub length-good : (z o : List ℕ) (r : ℕ) → length z ≡ 2 → o ≡ if b (put z 0 (openAt (keyOf (st .subkey) k) (st .counter) (take 18 s))) z
+      pub length-good : (z o : List ℕ) (r : ℕ) → length z ≡ 2 → o ≡ cond b (put z 0 (openAt (keyOf (st .subkey) k) (st .counter) (take 18 s))) z
           → r ≡ be 2 o → b ≡ true → Opened (record { used = 18; length = r }) ≡ turnAnswer Length st s room
       unfolding lengthRead
       length-good z o r size eo er e =
           let plain = openAt (streamKey st) (st .counter) (take 18 s) in
           let m : length (take 18 s) ≡ 18 = length-take-le 18 s long in
           let l : length z ≤ length plain = omega (arith, size, m, length-openAt (streamKey st) (st .counter) (take 18 s)) in
-          let whole = eo ∙ (λ i. if (e i) (put z 0 (openAt (keyOf (st .subkey) (ek i)) (st .counter) (take 18 s))) z) ∙ put-whole z plain l in
+          let whole = eo ∙ (λ i. cond (e i) (put z 0 (openAt (keyOf (st .subkey) (ek i)) (st .counter) (take 18 s))) z) ∙ put-whole z plain l in
           ap (λ (x : ℕ). Opened (record { used = 18; length = x })) (er ∙ ap (be 2) whole)
           ∙ piece-good st 2 s 0 room _ counts long (omega arith) b tag-of e
 
@@ -109,14 +108,14 @@ module _ (st : Receiver) (n due : ℕ) (ed : due ≡ n) (s out : List ℕ) where
 
       module _ (fits : due ≤ length out) (k : ℕ) (b : Bool) (o : List ℕ) (ek : k ≡ keyLength (st .method))
           (eb : b ≡ authenticAt (keyOf (st .subkey) k) (st .counter) (take (due + 16) s))
-          (eo : o ≡ if b (put out 0 (openAt (keyOf (st .subkey) k) (st .counter) (take (due + 16) s))) out)
+          (eo : o ≡ cond b (put out 0 (openAt (keyOf (st .subkey) k) (st .counter) (take (due + 16) s))) out)
         where
           payload-tag : b ≡ authenticAt (streamKey st) (st .counter) (take (n + 16) s)
           payload-tag = eb ∙ (λ i. authenticAt (keyOf (st .subkey) (ek i)) (st .counter) (take (ed i + 16) s))
 
-          payload-left : (d : Bool) → b ≡ d → o ≡ if d (put out 0 (openAt (streamKey st) (st .counter) (take (n + 16) s))) out
+          payload-left : (d : Bool) → b ≡ d → o ≡ cond d (put out 0 (openAt (streamKey st) (st .counter) (take (n + 16) s))) out
           payload-left d e =
-              eo ∙ (λ i. if (e i) (put out 0 (openAt (keyOf (st .subkey) (ek i)) (st .counter) (take (ed i + 16) s))) out)
+              eo ∙ (λ i. cond (e i) (put out 0 (openAt (keyOf (st .subkey) (ek i)) (st .counter) (take (ed i + 16) s))) out)
 
           pub payload-good : b ≡ true → (Opened (record { used = due + 16; length = n }) ≡ turnAnswer (Payload n) st s (length out))
               × (o ≡ put out 0 (openAt (streamKey st) (st .counter) (take (n + 16) s)))
@@ -139,13 +138,13 @@ length-kept (Refused r) plain out = refl
 
 module _ (st : Receiver) (s out : List ℕ) (k : ℕ) (ek : k ≡ keyLength (st .method)) where
   step-at : (a : Bool) (t : Turn) → eqb (keyLength (st .method)) 0 ≡ a → st .turn ≡ t
-      → (pickStepped a (Refused Settings) (turnAnswer t st s (length out)) ≡ stepAnswer st s (length out))
-      × (writtenBy (pickStepped a (Refused Settings) (turnAnswer t st s (length out))) t
+      → (cond a (Refused Settings) (turnAnswer t st s (length out)) ≡ stepAnswer st s (length out))
+      × (writtenBy (cond a (Refused Settings) (turnAnswer t st s (length out))) t
       (openAt (streamKey st) (st .counter) (payloadPiece t s)) out ≡ stepOut st s out)
   unfolding stepAnswer stepOut
   step-at a t ea et = (
-    λ i. pickStepped (sym ea i) (Refused Settings) (turnAnswer (sym et i) st s (length out)),
-    λ i. writtenBy (pickStepped (sym ea i) (Refused Settings) (turnAnswer (sym et i) st s (length out))) (sym et i)
+    λ i. cond (sym ea i) (Refused Settings) (turnAnswer (sym et i) st s (length out)),
+    λ i. writtenBy (cond (sym ea i) (Refused Settings) (turnAnswer (sym et i) st s (length out))) (sym et i)
         (openAt (streamKey st) (st .counter) (payloadPiece (sym et i) s)) out,
   )
 
@@ -182,8 +181,8 @@ pub advanced-law : (st : Receiver) (n : ℕ) (t : Turn) → t ≡ turnAfter (st 
 advanced-law st n t e = λ i. record { method = st .method; turn = e i; counter = st .counter + 1; subkey = st .subkey }
 
 module _ (st : Receiver) (r : Refusal) (n : ℕ) (en : n ≡ refusalNumber r) where
-  next-at : (b : Bool) → eqb (refusalNumber r) 4 ≡ b → pickReceiver b (ended st) st ≡ refusedNext r st
-  next-at b e = ap (λ (x : Bool). pickReceiver x (ended st) st) (sym e)
+  next-at : (b : Bool) → eqb (refusalNumber r) 4 ≡ b → cond b (ended st) st ≡ refusedNext r st
+  next-at b e = ap (λ (x : Bool). cond x (ended st) st) (sym e)
 
   pub next-ended : n ≡ 4 → ended st ≡ refusedNext r st
   next-ended e = next-at true (eq-eqb _ _ (sym en ∙ e))
@@ -208,6 +207,6 @@ module _ (st : Receiver) (s : List ℕ) (room : ℕ) where
       let z : _≡_ {A = ℕ} 1 0 = ap openings (sym eo ∙ er) ∙ go (eqb (keyLength (st .method)) 0) in
       omega arith
     where
-      go : (b : Bool) → openings (pickStepped b (Refused Settings) (turnAnswer (st .turn) st s room)) ≡ 0
+      go : (b : Bool) → openings (cond b (Refused Settings) (turnAnswer (st .turn) st s room)) ≡ 0
       go true = refl
       go false = none-at-last e (st .turn)

@@ -1,12 +1,11 @@
 -- Opening a stream behind its head, one piece a step: a length and its payload by turns (SIP022, section 3.1).
-use mathlib.Core.Bool.{Bool, true, false}
+use mathlib.Core.Bool.{cond}
 use mathlib.Core.List.{List}
 use Prim.Native.Nat.{ℕ, _+_}
 use lib.Dec.{eqb, leb}
 use lib.ListN.{length, take}
-use Rattle.octets.specs.Buffers.{both, put}
+use Rattle.octets.specs.Buffers.{put}
 use Rattle.octets.specs.Numbers.{be}
-use Rattle.aes.specs.KeyExpansion.{if}
 use Rattle.protocol.specs.declared.Refusal.{Refusal}
 use Rattle.protocol.specs.declared.Refusal.the-variants.{Settings, Room, NotAuthentic, More, Counter}
 use Rattle.protocol.specs.Method.{keyLength}
@@ -20,10 +19,6 @@ use Rattle.stream_open.specs.declared.Chunk.{Chunk}
 use Rattle.stream_open.specs.declared.Stepped.{Stepped}
 use Rattle.stream_open.specs.declared.Stepped.the-variants.{Opened, Refused}
 
-abbrev pub pickStepped : Bool → Stepped → Stepped → Stepped
-pickStepped true a b = a
-pickStepped false a b = b
-
 -- the key of a stream, by its method
 abbrev pub streamKey : Receiver → List ℕ
 streamKey st = keyOf (st .subkey) (keyLength (st .method))
@@ -32,10 +27,10 @@ streamKey st = keyOf (st .subkey) (keyLength (st .method))
 
 unfoldable pub pieceAnswer : Receiver → (n : ℕ) → List ℕ → (asked room : ℕ) → Stepped → Stepped
 pieceAnswer st n s asked room good =
-    pickStepped (eqb (st .counter) lastCounter) (Refused Counter)
-    (pickStepped (leb (n + 16) (length s))
-    (pickStepped (leb asked room)
-    (pickStepped (authenticAt (streamKey st) (st .counter) (take (n + 16) s)) good (Refused NotAuthentic)) (Refused Room))
+    cond (eqb (st .counter) lastCounter) (Refused Counter)
+    (cond (leb (n + 16) (length s))
+    (cond (leb asked room)
+    (cond (authenticAt (streamKey st) (st .counter) (take (n + 16) s)) good (Refused NotAuthentic)) (Refused Room))
     (Refused (More (n + 16))))
 
 -- what was read as a length
@@ -49,7 +44,7 @@ turnAnswer Ended st s room = Refused NotAuthentic
 
 -- 1, 4 of a stream that has ended, and the piece's
 unfoldable pub stepAnswer : Receiver → List ℕ → ℕ → Stepped
-stepAnswer st s room = pickStepped (eqb (keyLength (st .method)) 0) (Refused Settings) (turnAnswer (st .turn) st s room)
+stepAnswer st s room = cond (eqb (keyLength (st .method)) 0) (Refused Settings) (turnAnswer (st .turn) st s room)
 
 -- ---- what is written: a payload, to the front of the buffer
 
@@ -78,12 +73,8 @@ turnAfter Ended n = Ended
 abbrev pub ended : Receiver → Receiver
 ended st = record { method = st .method; turn = Ended; counter = st .counter; subkey = st .subkey }
 
-abbrev pub pickReceiver : Bool → Receiver → Receiver → Receiver
-pickReceiver true a b = a
-pickReceiver false a b = b
-
 abbrev pub refusedNext : Refusal → Receiver → Receiver
-refusedNext r st = pickReceiver (eqb (refusalNumber r) 4) (ended st) st
+refusedNext r st = cond (eqb (refusalNumber r) 4) (ended st) st
 
 abbrev pub advances : Receiver → ℕ → Receiver
 advances st n = record { method = st .method; turn = turnAfter (st .turn) n; counter = st .counter + 1; subkey = st .subkey }

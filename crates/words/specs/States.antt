@@ -1,5 +1,5 @@
 -- The states that a host holds as words, and lends at each call. Any words have a meaning.
-use mathlib.Core.Bool.{Bool, true, false, cond, _&&_}
+use mathlib.Core.Bool.{Bool, cond, _&&_}
 use mathlib.Core.List.{List, [], _∷_}
 use Prim.Native.Nat.{ℕ, _%_}
 use lib.Dec.{eqb, leb}
@@ -21,12 +21,8 @@ sessionSize = 4
 abbrev pub sessionLawful : List ℕ → Bool
 sessionLawful w = eqb (length w) sessionSize && leb (getD w 0 0) 1
 
-abbrev pub pickSide : Bool → Side → Side → Side
-pickSide true a b = a
-pickSide false a b = b
-
 abbrev pub sideIn : ℕ → ℕ → Side
-sideIn side client = pickSide (eqb side 0) Client (Server client)
+sideIn side client = cond (eqb side 0) Client (Server client)
 
 abbrev pub sessionIn : List ℕ → Session
 sessionIn w = record { side = sideIn (getD w 0 0) (getD w 2 0); id = getD w 1 0; packet = getD w 3 0 }
@@ -69,12 +65,8 @@ turnLawful turn n = cond (eqb turn 2) (leb n 65535) (leb turn 1)
 abbrev pub receiverLawful : List ℕ → Bool
 receiverLawful w = eqb (length w) streamSize && turnLawful (turnOf w) (getD w 3 0)
 
-abbrev pub pickTurn : Bool → Turn → Turn → Turn
-pickTurn true a b = a
-pickTurn false a b = b
-
 abbrev pub turnIn : (turn n : ℕ) → Turn
-turnIn turn n = pickTurn (eqb turn 1) Length (pickTurn (eqb turn 2) (Payload (n % 65536)) Ended)
+turnIn turn n = cond (eqb turn 1) Length (cond (eqb turn 2) (Payload (n % 65536)) Ended)
 
 abbrev pub receiverIn : List ℕ → Receiver
 receiverIn w = record { method = getD w 1 0; turn = turnIn (turnOf w) (getD w 3 0); counter = getD w 2 0; subkey = subkeyIn w }

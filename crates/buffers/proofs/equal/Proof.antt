@@ -1,12 +1,12 @@
 -- The loop's invariant: no difference so far if the bytes passed are the same.
-use mathlib.Core.Bool.{Bool}
+use mathlib.Core.Bool.{Bool, _&&_}
 use mathlib.Core.Path.{_≡_, refl, _∙_, sym, ap, ap₂}
 use Prim.Native.Nat.{_-_, _≤_}
 use borrow.Author.Needs.{needs}
 use lib.Dec.{eqb}
 use lib.ListN.{length, getD, take}
 use lib.Seq.{take-all}
-use Rattle.buffers.specs.Buffers.{both, same}
+use Rattle.buffers.specs.Buffers.{same}
 use Rattle.buffers.proofs.BufferLaws.{same-next, no-difference}
 use Rattle.buffers.proofs.equal.Statement.{statement}
 use Rattle.buffers.proofs.equal.Tie as tie
@@ -29,7 +29,7 @@ loop-again c =
     let x = getD (a .a .now) i 0 in
     let y = getD (a .b .now) i 0 in (
       search needs,
-      no-difference (l .loop .differ) x y ∙ ap (λ (p : Bool). both p (eqb x y)) (l .loop .inv .1)
+      no-difference (l .loop .differ) x y ∙ ap (λ (p : Bool). p && eqb x y) (l .loop .inv .1)
           ∙ sym (same-next (a .a .now) (a .b .now) i (search needs) (search needs)),
     )
 

@@ -1,12 +1,11 @@
 use mathlib.Core.Path.{_≡_, sym, ap, _∙_}
-use mathlib.Core.Bool.{Bool, true}
+use mathlib.Core.Bool.{Bool, true, cond}
 use Prim.Native.Nat.{_-_, _≤_}
 use native.Mathlib.Omega.{arith}
 use borrow.Author.Needs.{needs}
 use lib.ListN.{length, take}
 use lib.Seq.{length-take-le}
 use Rattle.octets.specs.Buffers.{put}
-use Rattle.aes.specs.KeyExpansion.{if}
 use Rattle.ctr.specs.Gctr.{ciphAt}
 use Rattle.ctr.specs.Words.{nonceBytes}
 use Rattle.gcm.specs.Gcm.{textOf, opened}
@@ -47,7 +46,7 @@ returns c =
     let good : e .equal .result ≡ true = p .before .before .before .if1 .taken in (
       authentic-law ciph n (a .s .now) _ _ (t .tag-of .ensures) (e .equal .ensures),
       p .crypt-into .ensures
-          ∙ ap (λ (b : Bool). if b (put (a .out .now) 0 (opened ciph n (a .s .now))) (a .out .now)) (sym good),
+          ∙ ap (λ (b : Bool). cond b (put (a .out .now) 0 (opened ciph n (a .s .now))) (a .out .now)) (sym good),
     )
 
 returns-2 : tie.Need-returns-2
@@ -58,7 +57,7 @@ returns-2 c =
     let ciph = ciphAt (a .rounds) (a .w .now) in
     let n = nonceBytes (a .n) in (
       authentic-law ciph n (a .s .now) _ _ (t .tag-of .ensures) (e .equal .ensures),
-      ap (λ (b : Bool). if b (put (a .out .now) 0 (opened ciph n (a .s .now))) (a .out .now)) (sym (c .if1 .left)),
+      ap (λ (b : Bool). cond b (put (a .out .now) 0 (opened ciph n (a .s .now))) (a .out .now)) (sym (c .if1 .left)),
     )
 
 pub open-at-spec : {M : Type 1} → statement M
