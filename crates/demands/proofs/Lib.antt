@@ -13,3 +13,5 @@ pub mod WholeStreams
 pub mod SaltsOnce
 pub mod StreamDemands
 pub mod BeyondUnread
+pub mod OrderLaws
+pub mod Orders

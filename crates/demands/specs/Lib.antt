@@ -3,3 +3,4 @@ pub mod StreamsKeep
 pub mod StreamsOpen
 pub mod StreamsBack
 pub mod SaltsOnce
+pub mod Orders

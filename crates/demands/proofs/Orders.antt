@@ -1,0 +1,461 @@
+-- Each call answers by its order.
+-- Assumes nothing.
+use mathlib.Core.Path.{_≡_, refl, sym, ap, ap₂, _∙_}
+use mathlib.Core.Bool.{Bool, true, false, cond, not, _&&_, _||_, false≢true}
+use mathlib.Core.List.{List, [], _∷_}
+use mathlib.Core.Option.{Option, none, some}
+use Prim.Native.Nat.{ℕ, _+_, _-_, _^_, _≤_, _<_}
+use native.Mathlib.Omega.{arith}
+use lib.Dec.{eqb, leb, ltb}
+use lib.ListN.{length, getD, take, drop, length-drop}
+use lib.Seq.{length-take-le}
+use borrow.Author.Tests.{leb-true, ne-eqb}
+use Rattle.octets.specs.Buffers.{same}
+use Rattle.octets.specs.Numbers.{be}
+use Rattle.session_record.specs.declared.Peer.{Peer}
+use Rattle.session.specs.Table.{Record, recordAt, lawful, freshIn, acceptIn, sessionPlace, freePlace, stores, replay, meetBy, meet}
+use Rattle.book.specs.Call.{Call, Outcome}
+use Rattle.book.specs.Runs.{report, tableOutcomeBy}
+use Rattle.protocol.specs.declared.Refusal.{Refusal}
+use Rattle.protocol.specs.declared.Refusal.the-variants.{Length as Long, Room as Narrow, NotAuthentic, WrongType, WrongTime}
+use Rattle.protocol.specs.Method.{keyFits, keyLength, saltLength}
+use Rattle.protocol.specs.Subkey.{subkey}
+use Rattle.protocol.specs.Time.{timeValid}
+use Rattle.socks5.specs.declared.Parsed.{Parsed}
+use Rattle.socks5.specs.declared.Parsed.the-variants.{Found, Malformed}
+use Rattle.socks5.specs.Address.{parseAt, isAddress}
+use Rattle.datagram_parts.specs.declared.Side.{Side}
+use Rattle.datagram_parts.specs.declared.Side.the-variants.{Client, Server}
+use Rattle.datagram_parts.specs.Headers.{typeOf, fixedLength}
+use Rattle.datagram_parts.specs.Parts.{maxDatagram}
+use Rattle.datagram.specs.declared.Sender.{Sender as Session}
+use Rattle.datagram.specs.declared.Sealed.the-variants.{Datagram, Refused as NoDatagram}
+use Rattle.datagram.specs.Sealing.{begun as begunSession, idsDiffer, sealedLength, capped, lengthAnswer, argumentAnswer, sealAnswer}
+use Rattle.datagram_read.specs.declared.Header.{Header}
+use Rattle.datagram_read.specs.declared.Opened.{Opened}
+use Rattle.datagram_read.specs.Opening.{sessionOf, packetOf, timeOf, meant, headerWith, readAddress, readMain, lengthLawful, readBody, readAnswer, readOut}
+use Rattle.datagram_open.specs.Deciding.{expected, plainOf, decidedBy, decide, callOf, openAnswer}
+use Rattle.pool.specs.declared.Met.{Met}
+use Rattle.pool.specs.declared.Met.the-variants.{Room as Free, Replay as Known, Full as NoRoom}
+use Rattle.pool.specs.Pool.{meet as meetSalt, lawful as lawfulPool}
+use Rattle.stream.specs.declared.Sender.{Sender}
+use Rattle.stream.specs.Pieces.{authenticAt, openAt, subkeyWords}
+use Rattle.stream.specs.Sealing.{maxChunk, lastCounter, moved, sizeAnswer, chunkAnswer}
+use Rattle.head_seal.specs.HeadSealing.{variableLength, begun, sizesFit, paddingLawful, requestAnswer, responseAnswer}
+use Rattle.stream_open.specs.declared.Turn.{Turn}
+use Rattle.stream_open.specs.declared.Turn.the-variants.{Length, Payload, Ended}
+use Rattle.stream_open.specs.declared.Receiver.{Receiver}
+use Rattle.stream_open.specs.declared.Chunk.{Chunk}
+use Rattle.stream_open.specs.declared.Stepped.the-variants.{Opened as OpenedChunk}
+use Rattle.stream_open.specs.Chunks.{streamKey, pieceAnswer, lengthRead, turnAnswer, stepAnswer}
+use Rattle.response_open.specs.declared.Fixed.{Fixed}
+use Rattle.response_open.specs.declared.FixedRead.{FixedRead}
+use Rattle.response_open.specs.declared.FixedRead.the-variants.{Read as Fields, Refused as Unread}
+use Rattle.response_open.specs.declared.Response.{Response}
+use Rattle.response_open.specs.Heads.{frontLength, fieldsOf, readFixed, openFixed, boundAs, boundOf, responseAt, openedResponse}
+use Rattle.request_open.specs.declared.Request.{Request}
+use Rattle.request_open.specs.declared.RequestRead.{RequestRead}
+use Rattle.request_open.specs.Requests.{paddingAt, paddingFits, headerWith as requestHeaderWith, readVariable, openVariable, openedAs, metAs, fixedAs, readHead, settings, openedRequest}
+use Rattle.stream.proofs.LengthLaws.{length-openAt}
+use Rattle.demands.specs.Datagrams.{tagGood}
+use Rattle.demands.specs.Orders.{Rule, rule, more, Said, first, refusesWith, otherKey, addressIn, noAddress, othersDatagram, notFresh, noRoom, saidOpened, openOrder, openedHeader, isReplay, isFull, badVariable, saidRequest, requestOrder, requestOpened, saidResponse, responseOrder, responseOpened, isEnded, textBytes, dueBytes, lengthTold, saidStep, stepOrder, chunkOpened, ownHeader, saidSealed, datagramBytes, sealOrder, saidPiece, sealRequestOrder, requestSealed, sealResponseOrder, responseSealed, sealChunkOrder, chunkSealed, saidBegun, beginOrder, sessionBegun, Orders}
+use Rattle.demands.proofs.OrderLaws.{next, unless, done, stops, passes, split, not-and, under, under-or-over, other-key, other-method, unsuited, unsuited-both, bad-padding, same-ids, bad-behind}
+
+-- ---- opening a datagram
+
+module _ (t : List ℕ) (c : Call) (id p : ℕ) (h : Header) (text : List ℕ) where
+  -- 8 and 9: what the packet ID meets in the table
+  meets : saidOpened (report (meet t (c .clock) (c .peer) id p) c h text .answer)
+      ≡ first (rule 8 (notFresh (sessionPlace t (c .clock) id) t p) ∷ rule 9 (noRoom (sessionPlace t (c .clock) id) (freePlace t (c .clock))) ∷ []) h
+  unfolding meet first
+  meets = go (sessionPlace t (c .clock) id) (freePlace t (c .clock))
+    where
+      fresh : (i : ℕ) (b : Bool) (r : Record)
+          → saidOpened (report (cond b (stores i r) replay) c h text .answer)
+          ≡ first (rule 8 (not b) ∷ rule 9 false ∷ []) h
+      fresh i true r = refl
+      fresh i false r = refl
+
+      go : (x y : Option ℕ) → saidOpened (report (meetBy x y t (c .clock) (c .peer) id p) c h text .answer)
+          ≡ first (rule 8 (notFresh x t p) ∷ rule 9 (noRoom x y) ∷ []) h
+      go (some i) y = fresh i (freshIn (recordAt t i) p) (acceptIn (c .clock) (c .peer) p (recordAt t i))
+      go none (some i) = refl
+      go none none = refl
+
+module _ (method : ℕ) (key : List ℕ) (client : Option ℕ) (clock : ℕ) (peer : Peer) (s t out : List ℕ) where
+  abbrev side : Side
+  side = expected client
+
+  abbrev call : Call
+  call = callOf clock peer s out client
+
+  abbrev plain : List ℕ
+  plain = plainOf key s
+
+  -- what is said where the arguments came to this answer
+  abbrev said : Opened → Said Header
+  said a = saidOpened (tableOutcomeBy (decidedBy a (readOut method key side clock s out) plain) t call .answer)
+
+  abbrev value : Header
+  value = openedHeader method key client clock s t out
+
+  abbrev entry : List Rule
+  entry =
+      rule 8 (notFresh (sessionPlace t clock (sessionOf key s)) t (packetOf key s))
+      ∷ rule 9 (noRoom (sessionPlace t clock (sessionOf key s)) (freePlace t clock)) ∷ []
+
+  headed : (n time : ℕ) (a : Parsed)
+      → said (headerWith (sessionOf key s) (packetOf key s) time n a)
+      ≡ first (rule 5 (noAddress a) ∷ entry)
+      (record {
+        target = addressIn a .target;
+        port = addressIn a .port;
+        session = sessionOf key s;
+        packet = packetOf key s;
+        time = time;
+        padding = n;
+        payload = addressIn a .end;
+      })
+  unfolding first
+  headed n time (Found a) = meets t call (sessionOf key s) (packetOf key s) _ plain
+  headed n time Malformed = refl
+
+  -- 5, 6, 7, 13, 5: n bytes of header and the type byte of the side that is expected
+  module _ (n kind : ℕ) (others : Bool) (en : fixedLength side ≡ n) (ek : typeOf side ≡ kind) (eo : others ≡ not (meant side plain)) where
+    abbrev lengthAt : ℕ
+    lengthAt = be 2 (drop (n - 2) plain)
+
+    read-order : said (readMain side clock (sessionOf key s) (packetOf key s) plain)
+        ≡ first
+        (rule 5 (ltb (length plain) n) ∷ rule 6 (not (eqb (getD plain 0 0) kind)) ∷ rule 7 (not (timeValid (be 8 (drop 1 plain)) clock))
+        ∷ rule 13 others ∷ rule 5 (noAddress (parseAt plain (n + lengthAt))) ∷ entry)
+        (record {
+          target = addressIn (parseAt plain (n + lengthAt)) .target;
+          port = addressIn (parseAt plain (n + lengthAt)) .port;
+          session = sessionOf key s;
+          packet = packetOf key s;
+          time = be 8 (drop 1 plain);
+          padding = lengthAt;
+          payload = addressIn (parseAt plain (n + lengthAt)) .end;
+        })
+    unfolding readMain readAddress
+    read-order =
+        next said (leb (fixedLength side) (length plain)) _ _ _ (under (length plain) n ∙ ap (λ (m : ℕ). not (leb m (length plain))) (sym en)) refl λ _.
+        next said (eqb (getD plain 0 0) (typeOf side)) _ _ _ (ap (λ (m : ℕ). not (eqb (getD plain 0 0) m)) (sym ek)) refl λ _.
+        next said (timeValid (timeOf plain) clock) _ _ _ refl refl λ _.
+        next said (meant side plain) _ _ _ eo refl λ _.
+        ap (λ (m : ℕ). said (headerWith (sessionOf key s) (packetOf key s) (timeOf plain) (be 2 (drop (m - 2) plain)) (parseAt plain (m + be 2 (drop (m - 2) plain))))) en
+        ∙ headed lengthAt (timeOf plain) (parseAt plain (n + lengthAt))
+
+  -- 1, 2, 3, 4, and what the main header's rules and the session's say
+  whole : (rs : List Rule) (v : Header) → said (readMain side clock (sessionOf key s) (packetOf key s) plain) ≡ first rs v
+      → saidOpened (openAnswer method key client clock peer s t out)
+      ≡ first
+      (rule 1 (not (lawful t) || otherKey method (length key)) ∷ rule 2 (ltb (length s) 32 || ltb 65507 (length s))
+      ∷ rule 3 (ltb (length out) (length s - 32)) ∷ rule 4 (not (tagGood key s)) ∷ rs)
+      v
+  unfolding openAnswer decide readAnswer readBody lengthLawful
+  whole rs v e =
+      next (λ (o : Outcome Header). saidOpened (o .answer)) (lawful t) (rule 1 (not (lawful t))) _ v refl refl
+      (λ _. next said (keyFits method (length key)) (rule 1 (otherKey method (length key))) _ v (other-key method (length key)) refl λ _.
+      next said (leb 32 (length s) && leb (length s) maxDatagram) _ _ v (under-or-over (length s) 32 maxDatagram) refl λ _.
+      next said (leb (length s - 32) (length out)) _ _ v (under (length out) (length s - 32)) refl λ _.
+      next said (tagGood key s) _ rs v refl refl λ _. e)
+      ∙ split 1 (not (lawful t)) (otherKey method (length key)) _ v
+
+open-order : (method : ℕ) (key : List ℕ) (client : Option ℕ) (clock : ℕ) (peer : Peer) (s t out : List ℕ)
+    → saidOpened (openAnswer method key client clock peer s t out)
+    ≡ first (openOrder method key client clock s t out) (openedHeader method key client clock s t out)
+open-order method key none clock peer s t out =
+    whole method key none clock peer s t out _ _ (read-order method key none clock peer s t out 11 0 false refl refl refl)
+open-order method key (some client) clock peer s t out =
+    whole method key (some client) clock peer s t out _ _
+    (read-order method key (some client) clock peer s t out 19 1 (othersDatagram (some client) (be 8 (drop 9 (plainOf key s)))) refl refl refl)
+
+-- ---- a step
+
+module _ (st : Receiver) (s : List ℕ) (room : ℕ) where
+  -- 11, 10, 3, 4 of a piece of n bytes of plaintext
+  piece-order : (n asked : ℕ) (c : Chunk)
+      → saidStep (pieceAnswer st n s asked room (OpenedChunk c))
+      ≡ first
+      (rule 11 (eqb (st .counter) (2 ^ 64 - 1)) ∷ more (n + 16) (ltb (length s) (n + 16)) ∷ rule 3 (ltb room asked)
+      ∷ rule 4 (not (authenticAt (streamKey st) (st .counter) (take (n + 16) s))) ∷ [])
+      c
+  unfolding pieceAnswer
+  piece-order n asked c =
+      unless saidStep (eqb (st .counter) (2 ^ 64 - 1)) _ _ c refl refl λ _.
+      next saidStep (leb (n + 16) (length s)) _ _ c (under (length s) (n + 16)) refl λ _.
+      next saidStep (leb asked room) _ _ c (under room asked) refl λ _.
+      next saidStep (authenticAt (streamKey st) (st .counter) (take (n + 16) s)) _ [] c refl refl λ _. done c
+
+  step-order : saidStep (stepAnswer st s room) ≡ first (stepOrder st s room) (chunkOpened st s room)
+  unfolding stepAnswer lengthRead
+  step-order =
+      unless saidStep (eqb (keyLength (st .method)) 0) _ _ (chunkOpened st s room) (other-method (st .method)) refl λ _. at (st .turn)
+    where
+      at : (u : Turn) → saidStep (turnAnswer u st s room)
+          ≡ first
+          (rule 4 (isEnded u) ∷ rule 11 (eqb (st .counter) (2 ^ 64 - 1)) ∷ more (textBytes u + 16) (ltb (length s) (textBytes u + 16))
+          ∷ rule 3 (ltb room (dueBytes u)) ∷ rule 4 (not (authenticAt (streamKey st) (st .counter) (take (textBytes u + 16) s))) ∷ [])
+          (record {
+            used = textBytes u + 16;
+            length = lengthTold u (be 2 (openAt (streamKey st) (st .counter) (take (textBytes u + 16) s)));
+          })
+      at Length = piece-order 2 0 _ ∙ passes 4 _ _
+      at (Payload m) = piece-order m m _ ∙ passes 4 _ _
+      at Ended = stops 4 _ _
+
+-- ---- sealing
+
+-- 2 and 3 of a piece of n bytes behind others
+size-order : (n before room : ℕ) (s : Sender)
+    → saidPiece (sizeAnswer n before room s)
+    ≡ first (rule 2 (ltb 65535 n) ∷ rule 3 (ltb room (before + n + 16)) ∷ []) (before + n + 16, s)
+unfolding sizeAnswer
+size-order n before room s =
+    next saidPiece (leb n maxChunk) _ _ _ (under maxChunk n) refl λ _.
+    next saidPiece (leb (before + n + 16) room) _ [] _ (under room (before + n + 16)) refl λ _. done _
+
+chunk-order : (s : Sender) (payload room : ℕ) → saidPiece (chunkAnswer s payload room) ≡ first (sealChunkOrder s payload room) (chunkSealed s payload room)
+unfolding chunkAnswer
+chunk-order s payload room =
+    unless saidPiece (eqb (keyLength (s .method)) 0) _ _ _ (other-method (s .method)) refl λ _.
+    next saidPiece (ltb (s .counter) (lastCounter - 1)) _ _ _ refl refl λ _. size-order payload 18 room (moved s)
+
+module _ (method : ℕ) (key salt address : List ℕ) (padding payload room : ℕ) where
+  request-seal-order : saidPiece (requestAnswer method key salt address padding payload room)
+      ≡ first (sealRequestOrder method key salt address padding payload room) (requestSealed method key salt address padding payload room)
+  unfolding requestAnswer sizesFit paddingLawful variableLength
+  request-seal-order =
+      next saidPiece (keyFits method (length key) && eqb (length salt) (saltLength method)) _ _ _ (unsuited method (length key) (length salt)) refl λ _.
+      next saidPiece (isAddress address && (leb padding 900 && ltb 0 (padding + payload))) _ _ _
+      (ap (_||_ (not (isAddress address))) (bad-padding padding payload) ∙ not-and (isAddress address) (leb padding 900 && ltb 0 (padding + payload))) refl λ _.
+      size-order (length address + 2 + padding + payload) (length salt + 27) room (begun method key salt)
+
+module _ (method : ℕ) (key salt requestSalt : List ℕ) (payload room : ℕ) where
+  response-seal-order : saidPiece (responseAnswer method key salt requestSalt payload room)
+      ≡ first (sealResponseOrder method key salt requestSalt payload room) (responseSealed method key salt requestSalt payload room)
+  unfolding responseAnswer sizesFit
+  response-seal-order =
+      next saidPiece ((keyFits method (length key) && eqb (length salt) (saltLength method)) && eqb (length requestSalt) (length salt)) _ _ _
+      (unsuited-both method (length key) (length salt) (length requestSalt)) refl λ _.
+      size-order payload (length salt + 27 + length requestSalt) room (begun method key salt)
+
+module _ (method k : ℕ) (sender : Session) (address : List ℕ) (padding payload room : ℕ) where
+  abbrev total : ℕ
+  total = datagramBytes method k sender address padding payload room
+
+  -- 2 and 3: a length that is too long counts as 0
+  capped-order : (n : ℕ) → 0 < n
+      → saidSealed (cond (eqb (capped n) 0) (NoDatagram Long) (cond (leb (capped n) room) (Datagram (capped n)) (NoDatagram Narrow)))
+      ≡ first (rule 2 (ltb 65507 n) ∷ rule 3 (ltb room n) ∷ []) n
+  unfolding capped
+  capped-order n h = go (leb n maxDatagram) refl
+    where
+      go : (b : Bool) → leb n maxDatagram ≡ b
+          → saidSealed (cond (eqb (cond b n 0) 0) (NoDatagram Long) (cond (leb (cond b n 0) room) (Datagram (cond b n 0)) (NoDatagram Narrow)))
+          ≡ first (rule 2 (ltb 65507 n) ∷ rule 3 (ltb room n) ∷ []) n
+      go true e =
+          ap (λ (b : Bool). saidSealed (cond b (NoDatagram Long) (cond (leb n room) (Datagram n) (NoDatagram Narrow)))) (ne-eqb n 0 (λ z. omega arith))
+          ∙ next saidSealed true {x = cond (leb n room) (Datagram n) (NoDatagram Narrow)} {bad = NoDatagram Long} (rule 2 (ltb 65507 n)) (rule 3 (ltb room n) ∷ []) n (under 65507 n ∙ ap not e) refl λ _.
+          next saidSealed (leb n room) (rule 3 (ltb room n)) [] n (under room n) refl λ _. done n
+      go false e =
+          next saidSealed false {x = NoDatagram Long} {bad = NoDatagram Long} (rule 2 (ltb 65507 n)) (rule 3 (ltb room n) ∷ []) n (under 65507 n ∙ ap not e) refl λ z. absurd (false≢true z)
+
+  seal-order : saidSealed (sealAnswer method k sender address padding payload room)
+      ≡ first (sealOrder method k sender address padding payload room) total
+  unfolding sealAnswer argumentAnswer lengthAnswer sealedLength
+  seal-order =
+      next saidSealed (keyFits method k) _ _ total (other-key method k) refl λ _.
+      next saidSealed (isAddress address && idsDiffer sender) _ _ total
+      (ap (_||_ (not (isAddress address))) (same-ids (sender .side) (sender .id)) ∙ not-and (isAddress address) (idsDiffer sender)) refl λ _.
+      unless saidSealed (eqb (sender .packet) (2 ^ 64 - 1)) _ _ total refl refl λ _.
+      ap
+      (λ (n : ℕ). saidSealed (cond (eqb (capped n) 0) (NoDatagram Long) (cond (leb (capped n) room) (Datagram (capped n)) (NoDatagram Narrow))))
+      (lengths (sender .side))
+      ∙ capped-order total (let z : 0 < total = omega arith in z)
+    where
+      lengths : (side : Side) → fixedLength side + padding + length address + payload + 32 ≡ 16 + (ownHeader side + padding + length address + payload) + 16
+      lengths Client = omega arith
+      lengths (Server client) = omega arith
+
+begin-order : (id client : ℕ) → saidBegun (begunSession id client) ≡ first (beginOrder id client) (sessionBegun id client)
+begin-order id client = unless saidBegun (eqb id client) _ [] _ refl refl λ _. done _
+
+-- ---- heads
+
+-- the length that a fixed header with a binding of b bytes gives stands behind 9 bytes and the binding
+length-place : (k : List ℕ) (n b : ℕ) (s : List ℕ) → n + 27 + b ≤ length s → length (openAt k 0 (take (27 + b) (drop n s))) - 2 ≡ 9 + b
+length-place k n b s h =
+    let l : length (take (27 + b) (drop n s)) ≡ 27 + b = length-take-le (27 + b) (drop n s) (omega (arith, length-drop n s)) in
+    omega (arith, length-openAt k 0 (take (27 + b) (drop n s)))
+
+-- 4, 6 and 7 of a fixed header, and what follows it
+module _ {B : Type 0} (said : FixedRead → Said B) (k : List ℕ) (kind clock : ℕ) (piece : List ℕ) (rs : List Rule) (v : B) where
+  abbrev text : List ℕ
+  text = openAt k 0 piece
+
+  fixed-order : ((r : Refusal) → said (Unread r) ≡ refusesWith r) → said (Fields (fieldsOf text)) ≡ first rs v
+      → said (openFixed k kind clock piece)
+      ≡ first
+      (rule 4 (not (authenticAt k 0 piece)) ∷ rule 6 (not (eqb (getD text 0 0) kind)) ∷ rule 7 (not (timeValid (be 8 (drop 1 text)) clock)) ∷ rs)
+      v
+  unfolding openFixed readFixed
+  fixed-order refused e =
+      next said (authenticAt k 0 piece) _ _ v refl (refused NotAuthentic) λ _.
+      next said (eqb (getD text 0 0) kind) _ _ v refl (refused WrongType) λ _.
+      next said (timeValid (be 8 (drop 1 text)) clock) _ rs v refl (refused WrongTime) λ _. e
+
+module _ (method : ℕ) (key : List ℕ) (clock : ℕ) (requestSalt s : List ℕ) where
+  abbrev n : ℕ
+  n = saltLength method
+
+  abbrev k : List ℕ
+  k = subkey key (take n s)
+
+  abbrev fixed : List ℕ
+  fixed = openAt k 0 (take (27 + n) (drop n s))
+
+  abbrev ours : Bool
+  ours = same (take n (drop 9 fixed)) requestSalt
+
+  -- the value, where the length stands at this place
+  abbrev answered : ℕ → Response × Receiver
+  answered m = (
+    record { time = be 8 (drop 1 fixed); length = be 2 (drop m fixed); used = n + 27 + n },
+    record { method = method; turn = Payload (be 2 (drop m fixed)); counter = 1; subkey = subkeyWords k },
+  )
+
+  response-order : saidResponse (openedResponse method key clock requestSalt s)
+      ≡ first (responseOrder method key clock requestSalt s) (responseOpened method key clock requestSalt s)
+  unfolding openedResponse responseAt boundOf
+  response-order =
+      next saidResponse (keyFits method (length key) && eqb (length requestSalt) n) _ _ _ (unsuited method (length key) (length requestSalt)) refl λ _.
+      next saidResponse (leb (n + 27 + n) (length s)) _ _ _ (under (length s) (n + 27 + n)) refl λ e.
+      fixed-order (λ (f : FixedRead). saidResponse (boundAs method (subkeyWords k) (n + 27 + n) ours f)) k 1 clock (take (27 + n) (drop n s)) _ _ (λ r. refl)
+      (next saidResponse ours (rule 13 (not ours)) [] (answered (length fixed - 2)) refl refl (λ _. done _)
+      ∙ ap (λ (m : ℕ). first (rule 13 (not ours) ∷ []) (answered m)) (length-place k n n s (leb-true (n + 27 + n) (length s) e)))
+
+module _ (method : ℕ) (key : List ℕ) (clock : ℕ) (s pool out : List ℕ) where
+  abbrev bytes : ℕ
+  bytes = saltLength method
+
+  abbrev streamKeyOf : List ℕ
+  streamKeyOf = subkey key (take bytes s)
+
+  abbrev front : List ℕ
+  front = openAt streamKeyOf 0 (take 27 (drop bytes s))
+
+  abbrev met : Met
+  met = meetSalt pool clock (take bytes s)
+
+  -- the variable header, behind so many bytes, where the fixed header gives it this length
+  module _ (before size : ℕ) where
+    abbrev lastPiece : List ℕ
+    lastPiece = take (size + 16) (drop before s)
+
+    abbrev variable : List ℕ
+    variable = openAt streamKeyOf 1 lastPiece
+
+    abbrev opened : Parsed → Request × Receiver
+    opened a = (
+      record {
+        target = addressIn a .target;
+        port = addressIn a .port;
+        time = be 8 (drop 1 front);
+        padding = be 2 (drop (addressIn a .end) variable);
+        payload = addressIn a .end + 2 + be 2 (drop (addressIn a .end) variable);
+        length = size;
+        used = before + size + 16;
+      },
+      record { method = method; turn = Length; counter = 2; subkey = subkeyWords streamKeyOf },
+    )
+
+    abbrev variableRules : List Rule
+    variableRules =
+        more (before + size + 16) (ltb (length s) (before + size + 16)) ∷ rule 3 (ltb (length out) size)
+        ∷ rule 4 (not (authenticAt streamKeyOf 1 lastPiece)) ∷ rule 5 (badVariable (parseAt variable 0) variable) ∷ []
+
+    abbrev rules : List Rule
+    rules =
+        rule 1 (otherKey method (length key) || not (lawfulPool pool method))
+        ∷ more before (ltb (length s) before)
+        ∷ rule 4 (not (authenticAt streamKeyOf 0 (take 27 (drop bytes s))))
+        ∷ rule 6 (not (eqb (getD front 0 0) 0))
+        ∷ rule 7 (not (timeValid (be 8 (drop 1 front)) clock))
+        ∷ rule 8 (isReplay met) ∷ rule 9 (isFull met) ∷ variableRules
+
+    abbrev fieldsWith : Fixed
+    fieldsWith = record { time = be 8 (drop 1 front); length = size }
+
+  abbrev saidRead : RequestRead → Said (Request × Receiver)
+  saidRead r = saidRequest (openedAs method (subkeyWords streamKeyOf) r)
+
+  -- as the definitions count the front
+  abbrev frontBytes : ℕ
+  frontBytes = frontLength bytes 0
+
+  module _ (size : ℕ) where
+    abbrev plainHeader : List ℕ
+    plainHeader = variable frontBytes size
+
+    headed-order : (a : Parsed) → saidRead (requestHeaderWith (fieldsWith frontBytes size) (frontBytes + size + 16) plainHeader a)
+        ≡ first (rule 5 (badVariable a plainHeader) ∷ []) (opened frontBytes size a)
+    unfolding paddingFits
+    headed-order (Found a) =
+        next saidRead (paddingFits (a .end) plainHeader) _ [] _
+        (bad-behind (length plainHeader) (a .end) (paddingAt (a .end) plainHeader)) refl λ _. done _
+    headed-order Malformed = stops 5 [] _
+
+    variable-order : saidRead (openVariable streamKeyOf bytes (fieldsWith frontBytes size) s (length out))
+        ≡ first (variableRules frontBytes size) (opened frontBytes size (parseAt plainHeader 0))
+    unfolding openVariable readVariable
+    variable-order =
+        next saidRead (leb (frontBytes + size + 16) (length s)) _ _ _ (under (length s) (frontBytes + size + 16)) refl λ _.
+        next saidRead (leb size (length out)) _ _ _ (under (length out) size) refl λ _.
+        next saidRead (authenticAt streamKeyOf 1 (lastPiece frontBytes size)) _ _ _ refl refl λ _. headed-order (parseAt plainHeader 0)
+
+    met-order : (m : Met) → saidRead (metAs m (openVariable streamKeyOf bytes (fieldsWith frontBytes size) s (length out)))
+        ≡ first (rule 8 (isReplay m) ∷ rule 9 (isFull m) ∷ variableRules frontBytes size) (opened frontBytes size (parseAt plainHeader 0))
+    met-order (Free i) = variable-order ∙ passes 9 _ _ ∙ passes 8 _ _
+    met-order Known = stops 8 _ _
+    met-order NoRoom = stops 9 _ _ ∙ passes 8 _ _
+
+  request-order : saidRequest (openedRequest method key clock s pool out)
+      ≡ first (requestOrder method key clock s pool out) (requestOpened method key clock s pool out)
+  unfolding openedRequest settings readHead
+  request-order =
+      next saidRequest (keyFits method (length key) && lawfulPool pool method) _ _ _
+      (ap (λ (b : Bool). b || not (lawfulPool pool method)) (other-key method (length key)) ∙ not-and (keyFits method (length key)) (lawfulPool pool method))
+      refl
+      (λ _. next saidRequest (leb frontBytes (length s)) _ _ _ (under (length s) frontBytes) refl λ e.
+      fixed-order (λ (f : FixedRead). saidRead (fixedAs streamKeyOf bytes met f s (length out))) streamKeyOf 0 clock (take 27 (drop bytes s)) _ _ (λ r. refl)
+      (met-order (be 2 (drop (length front - 2) front)) met
+      ∙ ap
+      (λ (m : ℕ). let z = be 2 (drop m front) in
+      first (rule 8 (isReplay met) ∷ rule 9 (isFull met) ∷ variableRules frontBytes z) (opened frontBytes z (parseAt (variable frontBytes z) 0)))
+      (length-place streamKeyOf bytes 0 s (leb-true frontBytes (length s) e))))
+      ∙ ap (λ (b : ℕ). first (rules b size) (opened b size (parseAt (variable b size) 0))) same-front
+    where
+      size : ℕ
+      size = be 2 (drop 9 front)
+
+      same-front : frontBytes ≡ bytes + 27
+      same-front = omega arith
+
+-- ---- all of them
+
+pub orders : Orders
+orders =
+    record {
+      datagram-opened = open-order;
+      request-opened = request-order;
+      response-opened = response-order;
+      step = step-order;
+      datagram-sealed = seal-order;
+      request-sealed = request-seal-order;
+      response-sealed = response-seal-order;
+      chunk-sealed = chunk-order;
+      session-begun = begin-order;
+    }
