@@ -8,7 +8,7 @@ use native.Mathlib.Omega.{arith}
 use lib.Dec.{leb, ltb, eqb}
 use Rattle.records.proofs.SearchLaws.{lowest-found, lowest-none}
 use Rattle.window.specs.Window.{window, bit}
-use Rattle.session.specs.Sizes.{capacity, alive}
+use Rattle.session.specs.Sizes.{capacity}
 use Rattle.session.specs.Table.{Record, retention, newTable, recordAt, lowest, live, holds, sessionPlace}
 use Rattle.book.specs.Call.{Call, Outcome, refused, Decision}
 use Rattle.book.specs.Book.{Page, one, page, member, bookNext, bookOutcomes, bookAfter}
@@ -18,7 +18,7 @@ use Rattle.book.proofs.Tests.{T→true, leb-le, leb-lt, some≢none}
 use Rattle.book.proofs.Search.{tally}
 use Rattle.book.proofs.Window.{Match}
 use Rattle.book.proofs.Words.{new-length, new-unused, lawful-table}
-use Rattle.book.proofs.Refine.{holds-live, holds-id}
+use Rattle.book.proofs.Refine.{alive, holds-live, holds-id}
 use Rattle.book.proofs.Step.{State, step}
 
 -- ---- a table just made

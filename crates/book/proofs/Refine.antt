@@ -7,8 +7,8 @@ use mathlib.Core.List.{List, [], _∷_}
 use mathlib.Core.Option.{Option, none, some}
 use Prim.Native.Nat.{ℕ, _+_, _≤_, _<_, zero-le}
 use native.Mathlib.Omega.{arith}
-use lib.Dec.{eqb}
-use Rattle.session.specs.Sizes.{capacity, alive}
+use lib.Dec.{eqb, leb}
+use Rattle.session.specs.Sizes.{capacity}
 use Rattle.session.specs.Table.{Record, live, holds}
 use Rattle.book.specs.Book.{Page, one, until, pageAlive, page, living, without}
 use Rattle.book.proofs.Tests.{eqb-true, eqb-eq, eqb-ne, leb-true, leb-le, leb-lt, leb-false, and-true-left, and-true-right, some≢none, some-inj}
@@ -17,6 +17,10 @@ use Rattle.book.proofs.Search.{tally, tally-but}
 use Rattle.book.proofs.Window.{Match}
 
 -- ---- dead stays dead
+
+-- what `live` asks of a record's time, and `pageAlive` of a page's
+abbrev pub alive : (R clock last : ℕ) → Bool
+alive R clock last = leb clock (last + R)
 
 pub alive-before : (R t u last : ℕ) → t ≤ u → alive R u last ≡ true → alive R t last ≡ true
 alive-before R t u last h e = leb-true {m = t} {n = last + R} (omega (arith, leb-le {m = u} {n = last + R} e))

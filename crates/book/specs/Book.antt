@@ -1,13 +1,11 @@
--- The plain book of demand 3: a page for each session, with every packet ID that it accepted. It shares nothing with the table
--- but the sizes. Assumes nothing.
+-- The plain book of demand 3: a page for each session, with every packet ID that it accepted. Its numbers are its own, and it
+-- shares nothing with the table but the type of a caller's address. Assumes nothing.
 use Prim.Native.Nat.{ℕ, _+_, _-_, max}
 use mathlib.Core.Bool.{Bool, false, cond, not, _&&_, _||_}
 use mathlib.Core.List.{List, [], _∷_}
 use mathlib.Core.Option.{Option, none, some}
 use lib.Dec.{leb, ltb, eqb}
 use Rattle.session_record.specs.declared.Peer.{Peer}
-use Rattle.window.specs.Window.{window}
-use Rattle.session.specs.Sizes.{capacity}
 use Rattle.book.specs.Call.{Call, Outcome, refused, Decision, early, reaches, openedOutcome, refusedOutcome}
 
 pub record Page : Type 0 where
@@ -44,7 +42,7 @@ living R clock (q ∷ b) = one (pageAlive R clock q) + living R clock b
 
 -- a new session finds no room where as many pages are alive as may be
 abbrev pub most : ℕ
-most = capacity
+most = 64
 
 abbrev pub crowded : (R clock : ℕ) → List Page → Bool
 crowded R clock b = leb most (living R clock b)
@@ -56,7 +54,7 @@ without id (q ∷ b) = cond (eqb (q .id) id) (without id b) (q ∷ without id b)
 
 -- packet ID p is accepted on a page if it is above h, or if h - p is under 256 and p is not among those accepted
 abbrev pub fresh : Page → ℕ → Bool
-fresh q p = ltb (q .h) p || ltb (q .h - p) window && not (member p (q .accepted))
+fresh q p = ltb (q .h) p || ltb (q .h - p) 256 && not (member p (q .accepted))
 
 -- the page that accepts p
 abbrev pub accept : (clock : ℕ) → Peer → (id p : ℕ) → Page → Page

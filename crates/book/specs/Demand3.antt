@@ -10,8 +10,7 @@ use Prim.Native.Nat.{ℕ, _+_, _-_, _^_, _≤_, _<_}
 use lib.Dec.{T, leb, ltb, eqb}
 use lib.ListN.{length, getD}
 use Rattle.session_record.specs.declared.Peer.{Peer}
-use Rattle.window.specs.Window.{window, bit}
-use Rattle.session.specs.Sizes.{capacity}
+use Rattle.window.specs.Window.{bit}
 use Rattle.session.specs.Table.{Record, recordAt, retention, newTable, holds, sessionPlace}
 use Rattle.book.specs.Call.{Call, noCall, refused, Outcome, Decision, reaches}
 use Rattle.book.specs.Book.{Page, page, member, one, bookOutcomes, bookAfter}
@@ -70,11 +69,11 @@ pub record View : Type 0 where
 -- the marks of a page are its accepted p with h - p under 256
 abbrev pub viewOfPage : Page → View
 viewOfPage q =
-    record { h = q .h; marked = λ p. ltb (q .h - p) window && member p (q .accepted); last = q .last; peer = q .peer }
+    record { h = q .h; marked = λ p. ltb (q .h - p) 256 && member p (q .accepted); last = q .last; peer = q .peer }
 
 abbrev pub viewOfRecord : Record → View
 viewOfRecord r =
-    record { h = r .h; marked = λ p. leb p (r .h) && (ltb (r .h - p) window && bit (r .marks) (r .h - p)); last = r .last; peer = r .peer }
+    record { h = r .h; marked = λ p. leb p (r .h) && (ltb (r .h - p) 256 && bit (r .marks) (r .h - p)); last = r .last; peer = r .peer }
 
 abbrev pub mapOption : {A B : Type 0} → (A → B) → Option A → Option B
 mapOption f none = none
@@ -90,7 +89,7 @@ tableSession t clock id = mapOption (λ i. viewOfRecord (recordAt t i)) (session
 -- no two records are alive for one ID, so that the table has no session beside those of `tableSession`
 abbrev pub OneRecordEach : List ℕ → (clock : ℕ) → Type 0
 OneRecordEach t clock =
-    (i j id : ℕ) → i < capacity → j < capacity → T (holds (retention t) clock id (recordAt t i)) → T (holds (retention t) clock id (recordAt t j)) → i ≡ j
+    (i j id : ℕ) → i < 64 → j < 64 → T (holds (retention t) clock id (recordAt t i)) → T (holds (retention t) clock id (recordAt t j)) → i ≡ j
 
 -- ---- the statements
 

@@ -3,7 +3,7 @@
 use mathlib.Core.Path.{_≡_, refl, sym, ap, ap₂, _∙_, subst}
 use mathlib.Core.Bool.{Bool, true, false, _&&_}
 use mathlib.Core.List.{List}
-use mathlib.Core.Option.{Option}
+use mathlib.Core.Option.{Option, none, some}
 use Prim.Native.Nat.{ℕ, _+_, _-_, _≤_}
 use native.Mathlib.Nat.{zero-add}
 use native.Mathlib.Omega.{arith}
@@ -11,6 +11,7 @@ use lib.Dec.{leb}
 use lib.ListN.{length, getD, drop, replicate, length-replicate}
 use borrow.Author.Tests.{leb-true, leb-false, le-leb, lt-leb, eqb-true, eq-eqb}
 use Rattle.octets.specs.Buffers.{put}
+use Rattle.octets.specs.Numbers.{be}
 use Rattle.octets.proofs.BufferLaws.{length-put, drop-put}
 use Rattle.session_record.specs.declared.Peer.{Peer}
 use Rattle.session.specs.Table.{lawful}
@@ -30,7 +31,7 @@ use Rattle.datagram_read.specs.declared.Header.{Header}
 use Rattle.datagram_read.specs.declared.Opened.the-variants.{Datagram, Refused}
 use Rattle.datagram_read.specs.Opening.{sessionOf, packetOf, timeOf, paddingOf, meant, headerWith, readAddress, lengthLawful, readAnswer, readOut}
 use Rattle.datagram_open.specs.Deciding.{expected, openerOf, plainOf, openAnswer, openOut, openTable}
-use Rattle.demands.specs.Datagrams.{Answered, accepts, refuses, tagGood, Lawful, BeforeTag, unlawful-table, other-key, too-short, too-long, no-room, forged, Stage, before, after, Keeps, Demand1, ValidHeader, Enters, Acceptable, AcceptedExactlyWhen, SealedAccepted, Demand2}
+use Rattle.demands.specs.Datagrams.{Answered, accepts, refuses, tagGood, Lawful, BeforeTag, unlawful-table, other-key, too-short, too-long, no-room, forged, Stage, before, after, Keeps, OpenersKeep, ValidHeader, Enters, ForUs, Acceptable, AcceptedExactlyWhen, SealedAccepted, Demand2}
 use Rattle.demands.proofs.DatagramReadBack.{payload-back}
 use Rattle.demands.proofs.DatagramSealing.{one-target, sealed-opens}
 use Rattle.datagram_read.proofs.ReadLaws.{Reads, Opens, answer-given, opened-out, length-plain, unlawful-out, forged-out, cleared-out}
@@ -237,8 +238,8 @@ module _ (method : ℕ) (key : List ℕ) (client : Option ℕ) (clock : ℕ) (pe
         length-kept = length-kept;
       }
 
-pub demand1 : Demand1
-demand1 method key client clock peer s t out = keeps method key client clock peer s t out
+pub openers-keep : OpenersKeep
+openers-keep method key client clock peer s t out = keeps method key client clock peer s t out
 
 -- ---- demand 2
 
@@ -271,6 +272,15 @@ module _ (side : Side) (clock id packet : ℕ) (plain : List ℕ) (h : Header) w
         address = ap (headerWith id packet (timeOf plain) (paddingOf side plain)) (v .address-found) ∙ ap Datagram (sym (v .says));
       }
 
+-- meant for us, by its test and plainly
+told-ours : (client : Option ℕ) (plain : List ℕ) → meant (expected client) plain ≡ true → ForUs client plain
+told-ours none plain e = tt
+told-ours (some client) plain e = eqb-true (be 8 (drop 9 plain)) client e
+
+ours-told : (client : Option ℕ) (plain : List ℕ) → ForUs client plain → meant (expected client) plain ≡ true
+ours-told none plain u = refl
+ours-told (some client) plain e = eq-eqb (be 8 (drop 9 plain)) client e
+
 module _ (method : ℕ) (key : List ℕ) (client : Option ℕ) (clock : ℕ) (peer : Peer) (s t out : List ℕ) where
   -- a header that was read is accepted where its packet ID enters
   pub enters-accepted : lawful t ≡ true → (h : Header) → readAnswer method key (expected client) clock s out ≡ Datagram h
@@ -301,7 +311,7 @@ module _ (method : ℕ) (key : List ℕ) (client : Option ℕ) (clock : ℕ) (pe
             record {
               authentic = d .authentic;
               header-valid = v;
-              for-us = d .main .ours;
+              for-us = told-ours client (plainOf key s) (d .main .ours);
               time-valid = ap (λ (y : Header). timeValid (y .time) clock) (v .says) ∙ d .main .timely;
               enters = n;
             }
@@ -322,7 +332,8 @@ module _ (method : ℕ) (key : List ℕ) (client : Option ℕ) (clock : ℕ) (pe
           room = le-leb (length s - 32) (length out) (w .room);
           authentic = a .authentic;
           main =
-              header-reads (expected client) clock (sessionOf key s) (packetOf key s) (plainOf key s) h (a .header-valid) (a .for-us) (a .time-valid);
+              header-reads (expected client) clock (sessionOf key s) (packetOf key s) (plainOf key s) h (a .header-valid)
+              (ours-told client (plainOf key s) (a .for-us)) (a .time-valid);
         })) (a .enters)
         .0
 

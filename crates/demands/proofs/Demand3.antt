@@ -1,22 +1,24 @@
--- Demand 3 for the openers of this crate: every list of their calls, from a new table, follows the plain book, and calls of
--- equal clock may be rearranged. One claim about the whole list, for every method and key.
+-- Demand 3 for the openers, for every method and key.
 -- Assumes nothing.
 use mathlib.Core.Path.{_≡_, refl, sym, ap, _∙_}
-use mathlib.Core.Bool.{cond, _&&_}
+use mathlib.Core.Bool.{Bool, true, false, cond, _&&_}
 use mathlib.Core.List.{List}
 use mathlib.Core.Option.{none, some}
 use Prim.Native.Nat.{ℕ, _≤_}
 use native.Mathlib.Omega.{arith}
+use lib.Dec.{leb}
 use lib.ListN.{length}
-use borrow.Author.Tests.{le-leb}
+use borrow.Author.Tests.{le-leb, lt-leb}
 use Rattle.book.specs.Call.{Call, Decision, early, reaches}
-use Rattle.book.specs.Demand3.{Named, FollowsBook, Rearrangement}
+use Rattle.book.specs.Demand3.{Named}
 use Rattle.book.proofs.Demand3 as book
 use Rattle.datagram_read.specs.declared.Header.{Header}
 use Rattle.datagram_read.specs.declared.Opened.{Opened}
 use Rattle.datagram_read.specs.declared.Opened.the-variants.{Datagram, Refused}
-use Rattle.datagram_read.specs.Opening.{sessionOf, readAnswer}
+use Rattle.datagram_read.specs.Opening.{separateOf, sessionOf, readAnswer}
+use Rattle.protocol.specs.Method.{keyFits}
 use Rattle.datagram_open.specs.Deciding.{expected, plainOf, decidedBy, decide, belongs}
+use Rattle.demands.specs.Demand3.{Membership, Demand3}
 use Rattle.datagram_read.proofs.ReadLaws.{answer-tells, opens-long, header-session}
 
 -- 1 where a session is reached, and its ID
@@ -48,6 +50,22 @@ module _ (method : ℕ) (key : List ℕ) where
   unfolding decide
   named c id p header text e = by-answer method key c _ refl _ id p header text e
 
-  -- answers, outputs and alive sessions are the book's; and the same after every rearrangement
-  pub demand3 : FollowsBook (decide method key) × Rearrangement (decide method key) (belongs method key)
-  demand3 = let both = book.demand3 (decide method key) (belongs method key) in (both .0, both .1 named)
+  membership : Membership method key
+  unfolding belongs sessionOf separateOf
+  membership =
+      record {
+        named = λ c fits long i. cond (fits i && le-leb 16 (length (c .datagram)) long i) (some (sessionOf key (c .datagram))) none;
+        too-short = λ c short.
+            ap (λ (b : Bool). cond (keyFits method (length key) && b) (some (sessionOf key (c .datagram))) none) (lt-leb 16 (length (c .datagram)) short)
+            ∙ ap (λ (b : Bool). cond b (some (sessionOf key (c .datagram))) none) (and-false (keyFits method (length key)));
+        no-key = λ c e. ap (λ (b : Bool). cond (b && leb 16 (length (c .datagram))) (some (sessionOf key (c .datagram))) none) e;
+      }
+    where
+      and-false : (b : Bool) → (b && false) ≡ false
+      and-false true = refl
+      and-false false = refl
+
+  pub demand3 : Demand3 method key
+  demand3 =
+      let theory = book.demand3 (decide method key) (belongs method key) in
+      record { follows-book = theory .0; rearranges = theory .1 named; membership = membership }

@@ -2,8 +2,6 @@ pub mod DatagramReadBack
 pub mod DatagramSealing
 pub mod DatagramWays
 pub mod DatagramDemands
-pub mod Demand3
-pub mod Edges
 pub mod StreamReadBack
 pub mod RequestReadBack
 pub mod ResponseReadBack
@@ -15,3 +13,5 @@ pub mod StreamDemands
 pub mod BeyondUnread
 pub mod OrderLaws
 pub mod Orders
+pub mod Demand1
+pub mod Demand3

@@ -2,7 +2,7 @@
 -- Assumes nothing.
 use mathlib.Core.Path.{_≡_, refl, sym, ap, ap₂, _∙_}
 use mathlib.Core.Bool.{Bool, true, false, cond, not, _&&_, _||_}
-use mathlib.Core.List.{List, [], _∷_}
+use mathlib.Core.List.{List, [], _∷_, map}
 use Prim.Native.Nat.{ℕ, _+_, _≤_, _<_}
 use native.Mathlib.Omega.{arith}
 use lib.Dec.{T, eqb, leb, ltb, eqb→eq}
@@ -12,7 +12,20 @@ use Rattle.protocol.specs.Method.{aes128, aes256, methodOf, asks, keyFits, keyI
 use Rattle.datagram_parts.specs.declared.Side.{Side}
 use Rattle.datagram_parts.specs.declared.Side.the-variants.{Client, Server}
 use Rattle.datagram.specs.Sealing.{differs}
+use Rattle.demands.specs.StreamsKeep.{among}
 use Rattle.demands.specs.Orders.{Rule, rule, Said, refuses, gives, first, otherMethod, otherKey, sameIds}
+
+abbrev refusing : {B : Type 0} → Said B → ℕ
+refusing (refuses n adds) = 1
+refusing (gives v) = 0
+
+abbrev numberIn : {B : Type 0} → Said B → ℕ
+numberIn (refuses n adds) = n
+numberIn (gives v) = 0
+
+or-true : (b : Bool) → (b || true) ≡ true
+or-true true = refl
+or-true false = refl
 
 -- ---- one rule
 
@@ -49,6 +62,18 @@ pub split : {B : Type 0} (n : ℕ) (a b : Bool) (rs : List Rule) (v : B) → fir
 unfolding first
 split n true b rs v = refl
 split n false b rs v = refl
+
+-- what refuses is a rule of the list
+pub of-order : {B : Type 0} (rs : List Rule) (v : B) (n adds : ℕ) → first rs v ≡ refuses n adds → among (map (λ (r : Rule). r .number) rs) n ≡ true
+unfolding first
+of-order [] v n adds e = absurd (let z : _≡_ {A = ℕ} 0 1 = ap refusing e in omega arith)
+of-order (r ∷ rs) v n adds e = go (r .when) e (of-order rs v n adds)
+  where
+    go : (b : Bool) → cond b (refuses (r .number) (r .adds)) (first rs v) ≡ refuses n adds
+        → (first rs v ≡ refuses n adds → among (map (λ (q : Rule). q .number) rs) n ≡ true)
+        → (eqb n (r .number) || among (map (λ (q : Rule). q .number) rs) n) ≡ true
+    go true f rest = ap (λ (b : Bool). b || among (map (λ (q : Rule). q .number) rs) n) (eq-eqb n (r .number) (sym (ap numberIn f)))
+    go false f rest = ap (_||_ (eqb n (r .number))) (rest f) ∙ or-true (eqb n (r .number))
 
 -- ---- conditions
 

@@ -8,6 +8,7 @@ use mathlib.Core.Option.{Option, none, some}
 use Prim.Native.Nat.{ℕ, _+_, _-_, _^_, _≤_, _<_}
 use lib.ListN.{length, getD, drop, replicate}
 use Rattle.octets.specs.Buffers.{Octets, put}
+use Rattle.octets.specs.Numbers.{be}
 use Rattle.session_record.specs.declared.Peer.{Peer}
 use Rattle.session.specs.Table.{recordAt, lawful, freshIn, sessionPlace, freePlace}
 use Rattle.book.specs.Call.{Answer, refused, opened}
@@ -27,7 +28,7 @@ use Rattle.datagram_parts.specs.Headers.{typeOf, fixedLength, plaintext}
 use Rattle.datagram_parts.specs.Parts.{maxDatagram}
 use Rattle.datagram.specs.Sealing.{sealAnswer, datagram}
 use Rattle.datagram_read.specs.declared.Header.{Header}
-use Rattle.datagram_read.specs.Opening.{sessionOf, packetOf, bodyAuthentic, timeOf, paddingOf, meant}
+use Rattle.datagram_read.specs.Opening.{sessionOf, packetOf, bodyAuthentic, timeOf, paddingOf}
 use Rattle.datagram_open.specs.Deciding.{expected, plainOf, openerOf, openAnswer, openOut, openTable}
 
 -- ---- answers
@@ -98,8 +99,8 @@ pub record Keeps (method : ℕ) (key : List ℕ) (client : Option ℕ) (clock : 
   pub past-due-kept : drop (length s - 32) (openOut method key client clock peer s t out) ≡ drop (length s - 32) out
   pub length-kept : length (openOut method key client clock peer s t out) ≡ length out
 
-abbrev pub Demand1 : Type 0
-Demand1 =
+abbrev pub OpenersKeep : Type 0
+OpenersKeep =
     (method : ℕ) (key : List ℕ) (client : Option ℕ) (clock : ℕ) (peer : Peer) (s t out : List ℕ) → Keeps method key client clock peer s t out
 
 -- ---- demand 2, of one call
@@ -126,10 +127,15 @@ pub data Enters (t : List ℕ) (clock id packet : ℕ) : Type 0 where
   fresh : (i : ℕ) → sessionPlace t clock id ≡ some i → freshIn (recordAt t i) packet ≡ true → Enters t clock id packet
   begins : (i : ℕ) → sessionPlace t clock id ≡ none → freePlace t clock ≡ some i → Enters t clock id packet
 
+-- a server's call takes any client's datagrams, a client's those whose eight bytes at place 9 are its own session ID
+abbrev pub ForUs : Option ℕ → List ℕ → Type 0
+ForUs none plain = Unit {0}
+ForUs (some client) plain = be 8 (drop 9 plain) ≡ client
+
 pub record Acceptable (key : List ℕ) (client : Option ℕ) (clock : ℕ) (s t : List ℕ) (h : Header) : Type 0 where
   pub authentic : tagGood key s ≡ true
   pub header-valid : ValidHeader (expected client) (sessionOf key s) (packetOf key s) (plainOf key s) h
-  pub for-us : meant (expected client) (plainOf key s) ≡ true
+  pub for-us : ForUs client (plainOf key s)
   pub time-valid : timeValid (h .time) clock ≡ true
   pub enters : Enters t clock (h .session) (h .packet)
 

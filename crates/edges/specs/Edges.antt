@@ -1,7 +1,7 @@
 -- The scope's edges P1 to P12, both sides of each, as one table. A row is an edge's number, a test of the definitions and what
--- it should say; `edges` says that every row's test says so, by computing all of them:
+-- it should say:
 --   P1 to P3    a time is valid up to 30 seconds from the clock, both ways, and 7 past that, also where a sum would wrap;
---   P4, P5      a session is alive up to R past its last time, and at every clock before;
+--   P4, P5      a session is alive up to R past its last time, and at every clock before, in the table and in the book;
 --   P6 to P9    a packet ID is fresh up to 255 under the highest unless it is marked, and else 8;
 --   P10, P11    a name of one byte is an address, an empty name is 5;
 --   P12         entry 53 (hex) of the substitution is ed.
@@ -11,28 +11,27 @@ use mathlib.Core.List.{List, [], _∷_}
 use mathlib.Core.Option.{none}
 use Prim.Native.Nat.{ℕ, _-_, _^_}
 use lib.Dec.{T, eqb}
-use Rattle.octets.specs.Numbers.{be, toBe}
-use Rattle.aes_tables.specs.Field.{xTimes, times, _•_, square, powers, inverse}
-use Rattle.aes_tables.specs.SBox.{bit, fromBits, affine, sBox}
+use lib.ListN.{getD}
+use Rattle.aes_tables.specs.SBox.{sBox}
 use Rattle.protocol.specs.Time.{timeValid}
 use Rattle.protocol.specs.Refusal.{refusalNumber}
 use Rattle.socks5.specs.declared.Target.{Target}
 use Rattle.socks5.specs.declared.Target.the-variants.{V4, V6, Name}
 use Rattle.socks5.specs.declared.Parsed.{Parsed}
 use Rattle.socks5.specs.declared.Parsed.the-variants.{Found, Malformed}
-use Rattle.socks5.specs.Address.{nameAt, parseAt}
+use Rattle.socks5.specs.Address.{parseAt}
 use Rattle.session_record.specs.declared.Peer.{Peer}
-use Rattle.session.specs.Sizes.{alive}
-use Rattle.session.specs.Table.{Record, freshIn, acceptIn, newRecord, newTable, store, live, meet, sessionPlace, freePlace}
+use Rattle.records.specs.Records.{current}
+use Rattle.session.specs.Table.{Record, freshIn, acceptIn, newRecord, newTable, store, live}
 use Rattle.book.specs.Call.{Call, Answer, refused, opened, reaches}
-use Rattle.book.specs.Book.{Page, pageAlive, fresh, accept, newPage, outcomeBy}
+use Rattle.book.specs.Book.{Page, until, pageAlive, fresh, accept, newPage, outcomeBy}
 use Rattle.book.specs.Runs.{tableOutcomeBy}
 use Rattle.book.specs.Demand3.{viewOfPage, viewOfRecord}
 use Rattle.datagram_parts.specs.declared.Side.the-variants.{Client}
-use Rattle.datagram_parts.specs.Headers.{fixedPart, plaintext}
+use Rattle.datagram_parts.specs.Headers.{plaintext}
 use Rattle.datagram_read.specs.declared.Opened.{Opened}
 use Rattle.datagram_read.specs.declared.Opened.the-variants.{Datagram, Refused}
-use Rattle.datagram_read.specs.Opening.{readAddress, readMain}
+use Rattle.datagram_read.specs.Opening.{readMain}
 
 pub record Row : Type 0 where
   pub edge : ℕ
@@ -122,7 +121,7 @@ byRecord r p = answerNumber (tableOutcomeBy (reaches 7 p 0 []) (store (newTable 
 
 -- ---- the table
 
-pub rows : List Row
+unfoldable pub rows : List Row
 rows =
     row 1 (timeValid 970 1000) true
     ∷ row 1 (timeValid 1030 1000) true
@@ -134,13 +133,14 @@ rows =
     ∷ row 2 (eqb (readAt 1000 1031 nameA) 7) true
     ∷ row 3 (timeValid (2 ^ 64 - 1) 0) false
     ∷ row 3 (eqb (readAt 0 (2 ^ 64 - 1) nameA) 7) true
-    ∷ row 4 (alive 60 1060 1000) true
-    ∷ row 4 (alive 60 990 1000) true
+    ∷ row 4 (current 60 1060 1 1000) true
+    ∷ row 4 (current 60 990 1 1000) true
+    ∷ row 4 (eqb (until 60 page300) 1060) true
     ∷ row 4 (pageAlive 60 1060 page300) true
     ∷ row 4 (pageAlive 60 990 page300) true
     ∷ row 4 (live 60 1060 record300) true
     ∷ row 4 (live 60 990 record300) true
-    ∷ row 5 (alive 60 1061 1000) false
+    ∷ row 5 (current 60 1061 1 1000) false
     ∷ row 5 (pageAlive 60 1061 page300) false
     ∷ row 5 (live 60 1061 record300) false
     ∷ row 6 (fresh page300 45) true
@@ -155,10 +155,14 @@ rows =
     ∷ row 7 (eqb (byPage page300 300) 8) true
     ∷ row 7 (eqb (byRecord record300 44) 8) true
     ∷ row 7 (eqb (byRecord record300 300) 8) true
+    ∷ row 8 (eqb (byPage page300 555) 0) true
+    ∷ row 8 (eqb (byRecord record300 555) 0) true
     ∷ row 8 (viewOfPage page555 .marked 300) true
     ∷ row 8 (viewOfRecord record555 .marked 300) true
     ∷ row 8 (fresh page555 300) false
     ∷ row 8 (freshIn record555 300) false
+    ∷ row 9 (eqb (byPage page300 556) 0) true
+    ∷ row 9 (eqb (byRecord record300 556) 0) true
     ∷ row 9 (viewOfPage page556 .marked 300) false
     ∷ row 9 (viewOfRecord record556 .marked 300) false
     ∷ row 9 (fresh page556 300) false
@@ -167,13 +171,16 @@ rows =
     ∷ row 9 (eqb (byRecord record556 300) 8) true
     ∷ row 9 (fresh page556 301) true
     ∷ row 9 (freshIn record556 301) true
+    ∷ row 9 (eqb (byPage page556 301) 0) true
+    ∷ row 9 (eqb (byRecord record556 301) 0) true
     ∷ row 10 (isName (parseAt nameA 0) 2 1 80 5) true
+    ∷ row 10 (eqb (getD nameA 2 0) 0x61) true
     ∷ row 10 (eqb (readAt 1000 1000 nameA) 0) true
     ∷ row 11 (isMalformed (parseAt noName 0)) true
     ∷ row 11 (eqb (readAt 1000 1000 noName) 5) true
     ∷ row 12 (eqb (sBox 0x53) 0xed) true
     ∷ []
 
-pub edges : T (every rows)
-unfolding rows timeValid readMain readAddress plaintext fixedPart toBe be parseAt nameAt meet sessionPlace freePlace xTimes times _•_ square powers inverse bit fromBits affine sBox
-edges = tt
+-- every row's test says what it should
+abbrev pub Edges : Type 0
+Edges = T (every rows)

@@ -1,0 +1,132 @@
+-- Demand 1, of every call.
+-- Assumes nothing.
+use mathlib.Core.Path.{_≡_, refl, sym, ap, _∙_}
+use mathlib.Core.Bool.{Bool, true, false, cond, _&&_}
+use mathlib.Core.List.{List, [], _∷_}
+use Prim.Native.Nat.{ℕ, _+_, _*_, _≤_}
+use native.Mathlib.Nat.{add-zero}
+use native.Mathlib.Omega.{arith}
+use lib.Dec.{eqb}
+use lib.ListN.{length, drop, replicate, length-replicate}
+use borrow.Author.Tests.{eqb-true, eqb-false}
+use Rattle.octets.proofs.BufferLaws.{length-put}
+use Rattle.protocol.specs.declared.Refusal.{Refusal}
+use Rattle.protocol.specs.declared.Refusal.the-variants.{Argument}
+use Rattle.protocol.specs.Refusal.{refusalNumber, wantedBytes}
+use Rattle.session.specs.Table.{recordWords, tableWords, newTable, makeLawful, madeRetention, made}
+use Rattle.session.specs.Sizes.{capacity}
+use Rattle.pool.specs.Pool as pool
+use Rattle.datagram_parts.specs.declared.Side.the-variants.{Server}
+use Rattle.datagram.specs.declared.Sender.{Sender}
+use Rattle.datagram.specs.declared.Begun.{Begun}
+use Rattle.datagram.specs.declared.Begun.the-variants.{Ready, Refused as NotBegun}
+use Rattle.datagram.specs.declared.Sealed.{Sealed}
+use Rattle.datagram.specs.declared.Sealed.the-variants.{Datagram, Refused}
+use Rattle.datagram.specs.Sealing.{begun, sealAnswer, sealNext, datagram, sealOut}
+use Rattle.datagram.proofs.AnswerLaws.{sealable}
+use Rattle.demands.specs.Demand1.{SealAnswered, sealed, refused, SealKeeps, DatagramsSealed, BeginAnswered, begins, refused-12, SessionsBegun, Made, Demand1}
+use Rattle.demands.specs.Orders.{saidSealed, sealOrder, datagramBytes}
+use Rattle.demands.proofs.DatagramDemands.{openers-keep}
+use Rattle.demands.proofs.DatagramSealing.{answers-length, writes-length}
+use Rattle.demands.proofs.OrderLaws.{of-order}
+use Rattle.demands.proofs.Orders.{orders}
+use Rattle.demands.proofs.StreamDemands.{streams-demand1}
+
+-- ---- sealing a datagram
+
+module _ (method : ℕ) (key : List ℕ) (sender : Sender) (time : ℕ) (address : List ℕ) (padding : ℕ) (payload out : List ℕ) where
+  abbrev text : List ℕ
+  text = datagram key sender time address padding payload
+
+  abbrev answer : Sealed
+  answer = sealAnswer method (length key) sender address padding (length payload) (length out)
+
+  refused-as : (a : Sealed) (r : Refusal) → a ≡ Refused r → sealOut a text out ≡ out
+  refused-as a r e = ap (λ (x : Sealed). sealOut x text out) e
+
+  sealed-fits : (n : ℕ) → answer ≡ Datagram n → (length text ≡ n) × (n ≤ length out)
+  sealed-fits n e = (
+    answers-length method key sender time address padding payload out n e,
+    sealable method (length key) sender address padding (length payload) (length out) n e .space,
+  )
+
+  datagram-keeps : SealKeeps sender answer text out
+  datagram-keeps =
+      record {
+        answered = by-order answer refl;
+        refused-writes-nothing = refused-as answer;
+        refused-keeps-session = λ r e.
+            ap (sealNext sender) e
+            ∙ ap (λ (p : ℕ). record { side = sender .side; id = sender .id; packet = p }) (add-zero (sender .packet));
+        sealed-length = sealed-fits;
+        sealed-counts = λ n e. ap (sealNext sender) e;
+        past-length-kept = λ n e.
+            ap (λ (x : Sealed). drop n (sealOut x text out)) e ∙ writes-length method key sender time address padding payload out n e;
+        length-kept = kept answer refl;
+      }
+    where
+      by-order : (a : Sealed) → answer ≡ a → SealAnswered answer
+      by-order (Datagram n) e = sealed n e
+      by-order (Refused r) e =
+          refused r
+          (of-order (sealOrder method (length key) sender address padding (length payload) (length out)) _ (refusalNumber r) (wantedBytes r)
+          (sym (orders .datagram-sealed method (length key) sender address padding (length payload) (length out)) ∙ ap saidSealed e)) e
+
+      kept : (a : Sealed) → answer ≡ a → length (sealOut answer text out) ≡ length out
+      kept (Datagram n) e =
+          let f = sealed-fits n e in
+          ap (λ (x : Sealed). length (sealOut x text out)) e ∙ length-put out 0 text (omega (arith, f .0, f .1))
+      kept (Refused r) e = ap length (refused-as answer r e)
+
+-- ---- beginning
+
+begins-or-12 : (id client : ℕ) → BeginAnswered id client (begun id client)
+begins-or-12 id client = go (eqb id client) refl
+  where
+    answer-by : Bool → Begun
+    answer-by b = cond b (NotBegun Argument) (Ready (record { side = Server client; id = id; packet = 0 }))
+
+    go : (b : Bool) → eqb id client ≡ b → BeginAnswered id client (begun id client)
+    go true e = refused-12 (eqb-true id client e) (ap answer-by e)
+    go false e = begins (eqb-false id client e) (ap answer-by e)
+
+-- ---- making
+
+-- a test of a length that is passed, whatever stands beside it
+and-left : (a b : Bool) → (a && b) ≡ true → a ≡ true
+and-left true b e = refl
+and-left false b e = e
+
+-- words of their own length, or those lent: n words in place of as many
+made-length : (b : Bool) (new t : List ℕ) → (b ≡ true → length new ≡ length t) → length (cond b new t) ≡ length t
+made-length true new t e = e refl
+made-length false new t e = refl
+
+tables-made : Made
+tables-made =
+    record {
+      table-refused = λ R t e. ap (λ (b : Bool). cond b (newTable (madeRetention R)) t) e;
+      table-length = λ R t. made-length (makeLawful R t) (newTable (madeRetention R)) t
+          (λ e. table-words (madeRetention R) ∙ sym (eqb-true (length t) tableWords (and-left (eqb (length t) tableWords) _ e)));
+      pool-refused = λ method t e. ap (λ (b : Bool). cond b (pool.newPool method) t) e;
+      pool-length = λ method t. made-length (pool.makeLawful method t) (pool.newPool method) t
+          (λ e. pool-words method ∙ sym (eqb-true (length t) pool.poolWords (and-left (eqb (length t) pool.poolWords) _ e)));
+    }
+  where
+    table-words : (R : ℕ) → length (newTable R) ≡ tableWords
+    table-words R = omega (arith, length-replicate {A = ℕ} (capacity * recordWords) 0)
+
+    pool-words : (method : ℕ) → length (pool.newPool method) ≡ pool.poolWords
+    pool-words method = omega (arith, length-replicate {A = ℕ} (pool.capacity * pool.recordWords) 0)
+
+-- ---- all calls
+
+pub demand1 : Demand1
+demand1 =
+    record {
+      datagrams-opened = openers-keep;
+      datagrams-sealed = datagram-keeps;
+      sessions-begun = record { clients = λ id. refl; servers = begins-or-12 };
+      tables-and-pools-made = tables-made;
+      streams = streams-demand1;
+    }
