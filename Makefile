@@ -5,10 +5,10 @@ HOST := --locked --manifest-path host/Cargo.toml
 
 .PHONY: run test library quickstart bench fuzz vectors
 
-# A busy morning through the relay, on data of its own: an hour of the simulated clock. ARGS="--minutes 5" for a short one.
+# The soak: 64 clients send through the relay for an hour of the simulated clock. ARGS="--minutes 5" for a short one.
 run: library
 	tools/need cargo=cargo-web
-	$(CARGO) run --release $(HOST) -p morning -- $(ARGS)
+	$(CARGO) run --release $(HOST) -p soak -- $(ARGS)
 
 # The merge gate.
 test:
