@@ -194,7 +194,7 @@ fn is_page(session: &Session, page: &Page) -> bool {
     session.highest_packet == page.highest
         && session.last_time == page.last_time
         && SocketAddr::from(session.peer) == page.peer
-        && session.accepted() as usize == remembered.len()
+        && session.marked_in_window() as usize == remembered.len()
         && remembered
             .iter()
             .all(|&packet_id| session.is_marked(packet_id))
