@@ -9,7 +9,7 @@ pub const USAGE: &str = "\
 usage: bench [--quick] [--out DIR]
 
   --quick    few and short rounds: shows that all works, its figures are rough
-  --out DIR  where table.txt and speed.svg go; target/bench if not given";
+  --out DIR  where speed.txt and speed.svg go; target/bench if not given";
 
 /// Arguments that the program gives to its child.
 pub const CHILD: &str = "--child";
