@@ -239,7 +239,7 @@ static void report(void)
     }
     if (deepest->deepest > LIMIT)
         fail(deepest->name, "more stack than include/relay.h names");
-    printf("stack: %zu bytes at most (%s), of %d that include/relay.h names\n", deepest->deepest,
+    printf("%zu bytes at most (%s), of %d that include/relay.h names\n", deepest->deepest,
            deepest->name, LIMIT);
 }
 

@@ -47,8 +47,18 @@ use contest::Contest;
 use measure::Pace;
 use options::Task;
 
+/// The exit status for arguments that are not understood.
+const MISUSED: u8 = 2;
+
 fn main() -> ExitCode {
-    match Task::of(env::args_os().skip(1)).map_or_else(|error| Err(error.into()), perform) {
+    let task = match Task::of(env::args_os().skip(1)) {
+        Ok(task) => task,
+        Err(message) => {
+            eprintln!("bench: {message}");
+            return ExitCode::from(MISUSED);
+        }
+    };
+    match perform(task) {
         Ok(()) => ExitCode::SUCCESS,
         Err(error) => {
             eprintln!("bench: {error}");

@@ -116,9 +116,9 @@ impl fmt::Display for Refusal {
             Self::Settings => {
                 "a salt of the wrong length, another method's pool, or unlawful words"
             }
-            Self::Length => "too short or too long",
+            Self::Length => "a datagram under 32 or over 65,507 bytes, or a chunk over 65,535",
             Self::Room => "the output buffer is too short",
-            Self::NotAuthentic => "not authentic, or the stream has ended",
+            Self::NotAuthentic => "a wrong tag, or the stream has ended",
             Self::Malformed => "malformed header, address or padding",
             Self::Type => "wrong type byte",
             Self::Time => "timestamp over 30 seconds from the clock",
