@@ -5,10 +5,10 @@ HOST := --locked --manifest-path host/Cargo.toml
 
 .PHONY: run test library quickstart bench fuzz vectors
 
-# A busy morning through the relay, on data of its own: an hour of the simulated clock. ARGS="--minutes 5" for a short one.
+# The soak: 64 clients send through the relay for an hour of the simulated clock. ARGS="--minutes 5" for a short one.
 run: library
 	tools/need cargo=cargo-web
-	$(CARGO) run --release $(HOST) -p morning -- $(ARGS)
+	$(CARGO) run --release $(HOST) -p soak -- $(ARGS)
 
 # The merge gate.
 test:
@@ -26,8 +26,8 @@ quickstart: library
 		-o target/examples/quickstart
 	target/examples/quickstart
 
-# The table of speeds and its plot, in target/bench. ARGS=--quick for a short run. The plot of docs/PERFORMANCE.md is a copy of a
-# full run's: cp target/bench/speed.svg docs/speed.svg
+# The table of speeds and its plot, in target/bench. ARGS=--quick for a short run. docs/PERFORMANCE.md speaks of copies of a full
+# run's: cp target/bench/speed.txt target/bench/speed.svg docs/
 bench:
 	tools/need cc=gcc cargo=cargo-web libcrypto.so=libssl-dev libnettle.so=nettle-dev libbearssl.so=libbearssl-dev
 	rt staticlib bench

@@ -29,10 +29,10 @@ int main(void)
                                            sizeof target, 0, payload, sizeof payload - 1, datagram, sizeof datagram,
                                            answer, RELAY_ANSWER_WORDS);
     if (refused) {
-        printf("not sealed: %" PRIu64 "\n", refused);
+        printf("not sealed: %s (%" PRIu64 ")\n", relay_refusal_name(refused), refused);
         return 1;
     }
-    size_t length = (size_t)answer[RELAY_SEALED_LENGTH];
+    size_t length = (size_t)answer[RELAY_AT_SEALED_LENGTH];
     printf("sealed %zu bytes\n", length);
 
     /* The server opens it, and refuses the same datagram the second time. */
@@ -40,10 +40,10 @@ int main(void)
         refused = relay_datagram_open_server(RELAY_AES_128_GCM, key, sizeof key, now, 0, 0, 4000, datagram, length, table,
                                              RELAY_TABLE_WORDS, out, sizeof out, answer, RELAY_ANSWER_WORDS);
         if (refused)
-            printf("refused: %" PRIu64 "\n", refused);
+            printf("refused: %s (%" PRIu64 ")\n", relay_refusal_name(refused), refused);
         else
-            printf("opened: packet %" PRIu64 ", payload \"%.*s\"\n", answer[RELAY_PACKET_ID],
-                   (int)(length - 32 - answer[RELAY_PAYLOAD]), (const char *)out + answer[RELAY_PAYLOAD]);
+            printf("opened: packet %" PRIu64 ", payload \"%.*s\"\n", answer[RELAY_AT_PACKET_ID],
+                   (int)(length - 32 - answer[RELAY_AT_PAYLOAD]), (const char *)out + answer[RELAY_AT_PAYLOAD]);
     }
-    return refused == RELAY_REPLAY ? 0 : 1;
+    return refused == RELAY_REFUSED_REPLAY ? 0 : 1;
 }

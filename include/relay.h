@@ -14,20 +14,20 @@
  *   Every function returns RELAY_OK or the number of one refusal. Values go
  *   into the lent `answer`, which has RELAY_ANSWER_WORDS words; a function
  *   with fewer values writes the first ones and leaves the rest. A refusal
- *   leaves `answer` as it was, but RELAY_MORE writes the number of bytes
- *   wanted in all to answer[0]. Where several refusals would fit, the first
- *   in the order given at the function is returned.
+ *   leaves `answer` as it was, but RELAY_REFUSED_MORE writes the number of
+ *   bytes wanted in all to answer[RELAY_AT_WANTED]. Where several refusals
+ *   would fit, the first in the order given at the function is returned.
  *
  * WHAT IS LENT
  *   A buffer is a pointer and a length: in bytes for uint8_t, in words for
  *   uint64_t. A length of 0 may come with any pointer, NULL too. Buffers that
  *   one call writes must not overlap any other buffer of the call. Keys have
- *   16 bytes (method 1) or 32 (method 2), and so have salts. RELAY_SETTINGS
- *   is: a method that there is not; a key, salt, table, pool, session, stream
- *   or answer of another length than its own; a table whose retention is not
- *   60 to 3,600; a pool of another method; a session whose side is neither 0
- *   nor 1; a stream at another turn than the call's, or with a length above
- *   65,535 at a payload. Nothing is written then.
+ *   16 bytes (method 1) or 32 (method 2), and so have salts.
+ *   RELAY_REFUSED_SETTINGS is: a method that there is not; a key, salt, table,
+ *   pool, session, stream or answer of another length than its own; a table
+ *   whose retention is not 60 to 3,600; a pool of another method; a session
+ *   whose side is neither 0 nor 1; a stream at another turn than the call's,
+ *   or with a length above 65,535 at a payload. Nothing is written then.
  *
  * WHAT A REFUSAL WRITES
  *   No refusal changes a table, a pool or a sending session. A refusal before
@@ -39,6 +39,12 @@
  *   There is no global state. Calls that lend different memory may run at the
  *   same time; a table, a pool, a session or a stream serves one call at a
  *   time.
+ *
+ * STACK
+ *   A call takes up to 8,664 bytes of the caller's stack, its arguments
+ *   included: opening a datagram. tests/stack.c measured it on x86-64, by the
+ *   deepest byte that a call changes of a painted stack. There is no recursion.
+ *   Allow 16 KiB.
  *
  * NOT CONSTANT TIME
  *   AES and GHASH look up tables by secret bytes. Do not share the processor
@@ -54,13 +60,20 @@
 extern "C" {
 #endif
 
+/* ---- version */
+
+#define RELAY_VERSION "0.1.0"
+#define RELAY_VERSION_MAJOR 0
+#define RELAY_VERSION_MINOR 1
+#define RELAY_VERSION_PATCH 0
+
 /* ---- sizes, in words but for the last two */
 
-#define RELAY_TABLE_WORDS 705   /* a session table: 64 sessions */
-#define RELAY_POOL_WORDS 1537   /* a salt pool: 256 salts */
-#define RELAY_SESSION_WORDS 4   /* a sending session */
-#define RELAY_STREAM_WORDS 8    /* one direction of a stream */
-#define RELAY_ANSWER_WORDS 9    /* an answer */
+#define RELAY_TABLE_WORDS 705    /* a session table: 64 sessions */
+#define RELAY_POOL_WORDS 1537    /* a salt pool: 256 salts */
+#define RELAY_SESSION_WORDS 4    /* a sending session */
+#define RELAY_STREAM_WORDS 8     /* one direction of a stream */
+#define RELAY_ANSWER_WORDS 9     /* an answer */
 #define RELAY_MAX_DATAGRAM 65507 /* bytes */
 #define RELAY_MAX_CHUNK 65535    /* bytes */
 
@@ -72,45 +85,85 @@ extern "C" {
 /* ---- what a function returns */
 
 #define RELAY_OK 0
-#define RELAY_SETTINGS 1      /* method, or what was lent has a wrong length or an unlawful word */
-#define RELAY_LENGTH 2        /* datagram under 32 or over 65,507 bytes, chunk over 65,535 */
-#define RELAY_ROOM 3          /* `out` is shorter than the bytes due */
-#define RELAY_NOT_AUTHENTIC 4 /* a tag is wrong, or the stream has ended */
-#define RELAY_MALFORMED 5     /* header too short, bad address or padding */
-#define RELAY_TYPE 6          /* wrong type byte */
-#define RELAY_TIME 7          /* timestamp and clock differ by over 30 seconds */
-#define RELAY_REPLAY 8        /* packet ID not fresh, or salt seen before */
-#define RELAY_FULL 9          /* new session and 64 alive, or new salt and 256 kept */
-#define RELAY_MORE 10         /* bytes missing: answer[0] is the number wanted in all */
-#define RELAY_COUNTER 11      /* packet IDs or a stream's counter used up */
-#define RELAY_ARGUMENT 12     /* sealing: address, padding or session IDs unlawful */
-#define RELAY_BINDING 13      /* meant for another client, or answers another request */
+#define RELAY_REFUSED_SETTINGS 1      /* method; length or words of what was lent */
+#define RELAY_REFUSED_LENGTH 2        /* datagram not 32 to 65,507 bytes, chunk over 65,535 */
+#define RELAY_REFUSED_ROOM 3          /* `out` is shorter than the bytes due */
+#define RELAY_REFUSED_NOT_AUTHENTIC 4 /* a tag is wrong, or the stream has ended */
+#define RELAY_REFUSED_MALFORMED 5     /* header too short, bad address or padding */
+#define RELAY_REFUSED_TYPE 6          /* wrong type byte */
+#define RELAY_REFUSED_TIME 7          /* timestamp and clock differ by over 30 seconds */
+#define RELAY_REFUSED_REPLAY 8        /* packet ID not fresh, or salt seen before */
+#define RELAY_REFUSED_FULL 9          /* new session and 64 alive, or new salt and 256 kept */
+#define RELAY_REFUSED_MORE 10         /* bytes missing: answer[RELAY_AT_WANTED] are wanted in all */
+#define RELAY_REFUSED_COUNTER 11      /* packet IDs or a stream's counter used up */
+#define RELAY_REFUSED_ARGUMENT 12     /* sealing: address, padding or session IDs unlawful */
+#define RELAY_REFUSED_BINDING 13      /* meant for another client, or answers another request */
+
+/* The name of what a function returned, for a log. */
+static inline const char *relay_refusal_name(uint64_t number)
+{
+    switch (number) {
+    case RELAY_OK:
+        return "ok";
+    case RELAY_REFUSED_SETTINGS:
+        return "settings";
+    case RELAY_REFUSED_LENGTH:
+        return "length";
+    case RELAY_REFUSED_ROOM:
+        return "room";
+    case RELAY_REFUSED_NOT_AUTHENTIC:
+        return "not authentic";
+    case RELAY_REFUSED_MALFORMED:
+        return "malformed";
+    case RELAY_REFUSED_TYPE:
+        return "type";
+    case RELAY_REFUSED_TIME:
+        return "time";
+    case RELAY_REFUSED_REPLAY:
+        return "replay";
+    case RELAY_REFUSED_FULL:
+        return "full";
+    case RELAY_REFUSED_MORE:
+        return "more";
+    case RELAY_REFUSED_COUNTER:
+        return "counter";
+    case RELAY_REFUSED_ARGUMENT:
+        return "argument";
+    case RELAY_REFUSED_BINDING:
+        return "binding";
+    default:
+        return "unknown";
+    }
+}
 
 /* ---- places in `answer` */
 
 /* an opened datagram */
-#define RELAY_KIND 0           /* of the target: 1 IPv4, 3 a name, 4 IPv6 */
-#define RELAY_FIRST 1          /* IPv4 number, first 8 bytes of IPv6, place of the name in `out` */
-#define RELAY_SECOND 2         /* 0, last 8 bytes of IPv6, length of the name */
-#define RELAY_PORT 3
-#define RELAY_SESSION_ID 4
-#define RELAY_PACKET_ID 5
-#define RELAY_TIMESTAMP 6
-#define RELAY_PADDING 7
-#define RELAY_PAYLOAD 8        /* place of the payload in `out`; it ends at the datagram's length less 32 */
+#define RELAY_AT_KIND 0       /* of the target: 1 IPv4, 3 a name, 4 IPv6 */
+#define RELAY_AT_FIRST 1      /* IPv4 number, first 8 bytes of IPv6, place of the name in `out` */
+#define RELAY_AT_SECOND 2     /* 0, last 8 bytes of IPv6, length of the name */
+#define RELAY_AT_PORT 3       /* of the target */
+#define RELAY_AT_SESSION_ID 4 /* the sender's */
+#define RELAY_AT_PACKET_ID 5
+#define RELAY_AT_TIMESTAMP 6 /* the sender's clock */
+#define RELAY_AT_PADDING 7   /* bytes of it */
+#define RELAY_AT_PAYLOAD 8   /* place in `out`; it ends at the datagram's length less 32 */
 
 /* an opened request head: kind, first, second and port as above, and then */
-#define RELAY_HEAD_PADDING 4
-#define RELAY_HEAD_PAYLOAD 5   /* place of the first payload in `out` */
-#define RELAY_HEAD_USED 6      /* bytes used: the whole head */
-#define RELAY_HEAD_LENGTH 7    /* bytes written to `out`, where the first payload ends */
+#define RELAY_AT_HEAD_PADDING 4 /* bytes of it */
+#define RELAY_AT_HEAD_PAYLOAD 5 /* place of the first payload in `out` */
+#define RELAY_AT_HEAD_USED 6    /* bytes used: the whole head */
+#define RELAY_AT_HEAD_LENGTH 7  /* bytes written to `out`, where the first payload ends */
 
 /* an opened response head, or one step of a stream */
-#define RELAY_USED 0           /* bytes used */
-#define RELAY_CHUNK_LENGTH 1   /* length of the payload that is next, or was opened */
+#define RELAY_AT_USED 0         /* bytes used */
+#define RELAY_AT_CHUNK_LENGTH 1 /* length of the payload that is next, or was opened */
 
 /* anything sealed */
-#define RELAY_SEALED_LENGTH 0  /* bytes written to `out` */
+#define RELAY_AT_SEALED_LENGTH 0 /* bytes written to `out` */
+
+/* RELAY_REFUSED_MORE */
+#define RELAY_AT_WANTED 0 /* bytes wanted in all, from the first one of the call */
 
 /* ---- words of a session table: the retention, then 64 records of 11 words */
 
@@ -125,16 +178,16 @@ extern "C" {
 #define RELAY_RECORD_SECOND 9
 #define RELAY_RECORD_PORT 10   /* its low 16 bits */
 
-/* ---- words of a sending session: side (0 a client's, 1 a server's), own ID, the client's ID, next packet ID */
+/* ---- words of a sending session */
 
-#define RELAY_SESSION_SIDE 0
+#define RELAY_SESSION_SIDE 0      /* 0 a client's, 1 a server's */
 #define RELAY_SESSION_OWN_ID 1
-#define RELAY_SESSION_CLIENT_ID 2
-#define RELAY_SESSION_NEXT 3
+#define RELAY_SESSION_CLIENT_ID 2 /* a client's session: 0 */
+#define RELAY_SESSION_NEXT 3      /* next packet ID */
 
 /* ---- words of a stream; the last four are secret */
 
-#define RELAY_TURN 0           /* what the stream does next: */
+#define RELAY_STREAM_TURN 0    /* what the stream does next: */
 #define RELAY_TURN_ENDED 0     /*   nothing: a tag was wrong */
 #define RELAY_TURN_LENGTH 1    /*   opens a length */
 #define RELAY_TURN_PAYLOAD 2   /*   opens a payload */
@@ -144,7 +197,8 @@ extern "C" {
 #define RELAY_STREAM_LENGTH 3  /* of the payload that is next; else 0 */
 #define RELAY_STREAM_SUBKEY 4  /* 4 words, bytes big-endian; method 1 has zeros in the last two */
 
-/* ---- words of a salt pool: the method, then 256 records of 6 words: in use (not 0), time, salt in 4 words, big-endian */
+/* ---- words of a salt pool: the method, then 256 records of 6 words, which are in use (not 0), time,
+ * and the salt in 4 words, big-endian */
 
 /* ---- session tables */
 
@@ -164,7 +218,8 @@ uint64_t relay_table_new(uint64_t retention, uint64_t *table, size_t table_len);
 /*
  * Begins a client's sending session.
  *
- * id       its session ID: 8 random bytes as a number, new for each session
+ * id       its session ID: 8 random bytes as a number, new for each session; see
+ *          the warning at relay_session_begin_server
  * session  RELAY_SESSION_WORDS words: 0, the ID, 0, next packet ID (0)
  *
  * Refusals: 1 (length), and nothing is written.
@@ -174,9 +229,17 @@ uint64_t relay_session_begin_client(uint64_t id, uint64_t *session, size_t sessi
 /*
  * Begins a server's sending session, in reply to a client's session.
  *
- * id       its own session ID, which must differ from the client's
+ * id       its own session ID: 8 random bytes as a number, new for each session
  * client   the client's session ID
  * session  RELAY_SESSION_WORDS words: 1, the ID, the client's ID, next packet ID (0)
+ *
+ * WARNING: the ID must differ from every other session ID under the key, those
+ * of all clients included. A subkey comes from key and session ID, and nonces
+ * from session ID and packet ID: two sessions of one ID use the same subkey and
+ * nonces for different texts, which lets others read and forge both. The
+ * function compares the ID with the client's alone; a host that would not leave
+ * the rest to chance compares it with the IDs in its table (RELAY_RECORD_ID)
+ * and with those that it began itself.
  *
  * Refusals: 1 (length), 12 (equal IDs), and nothing is written.
  */
@@ -196,7 +259,7 @@ uint64_t relay_session_begin_server(uint64_t id, uint64_t client, uint64_t *sess
  * payload  may be empty
  * out      sealed length bytes are written: payload, address and padding and
  *          43 bytes more from a client, 51 from a server
- * answer   [0] the sealed length
+ * answer   RELAY_AT_SEALED_LENGTH
  *
  * Refusals, in this order: 1, 12 (address; a server's ID equal to its
  * client's), 11 (packet ID 2^64 - 1), 2 (over 65,507 bytes), 3. A refusal
@@ -217,7 +280,7 @@ uint64_t relay_datagram_seal(uint64_t method, const uint8_t *key, size_t key_len
  * datagram               32 to 65,507 bytes
  * table                  a session table; changed only by an accepted datagram
  * out                    room for the datagram's length less 32: the plaintext
- * answer                 9 words: RELAY_KIND to RELAY_PAYLOAD
+ * answer                 RELAY_AT_KIND to RELAY_AT_PAYLOAD
  *
  * Refusals, in this order: 1, 2, 3, 4, 5 (plaintext under 11 bytes), 6, 7,
  * 5 (padding, address), 8, 9. 1 to 4 leave `out` as it was, the others zero
@@ -268,7 +331,7 @@ uint64_t relay_pool_new(uint64_t method, uint64_t *pool, size_t pool_len);
  * payload  the first payload, may be empty
  * out      salt, 27 bytes, and address, padding and payload with 18 bytes more
  * stream   RELAY_STREAM_WORDS words, all of them written: a stream that seals
- * answer   [0] the sealed length
+ * answer   RELAY_AT_SEALED_LENGTH
  *
  * Refusals, in this order: 1, 12 (address, padding), 2 (address, padding and
  * payload over 65,533 bytes), 3. A refusal writes nothing.
@@ -288,8 +351,8 @@ uint64_t relay_stream_seal_request(uint64_t method, const uint8_t *key, size_t k
  * out     room for the variable header: address, padding and first payload
  * stream  RELAY_STREAM_WORDS words, written when the head is accepted: a
  *         stream that opens, at a length
- * answer  8 words: RELAY_KIND to RELAY_PORT, RELAY_HEAD_PADDING to RELAY_HEAD_LENGTH;
- *         RELAY_MORE: [0] the number of bytes wanted in all
+ * answer  RELAY_AT_KIND to RELAY_AT_PORT, RELAY_AT_HEAD_PADDING to
+ *         RELAY_AT_HEAD_LENGTH; with RELAY_REFUSED_MORE, RELAY_AT_WANTED
  *
  * Refusals, in this order: 1, 10 (fixed header), 4, 6, 7, 8, 9, 10 (variable
  * header), 3, 4, 5. Only the last 5 touches `out`: it zeroes the variable
@@ -309,7 +372,7 @@ uint64_t relay_stream_open_request(uint64_t method, const uint8_t *key, size_t k
  * request_salt  the first bytes of the request
  * out           both salts, 43 bytes, and the payload with 16 bytes more
  * stream        RELAY_STREAM_WORDS words, all of them written: a stream that seals
- * answer        [0] the sealed length
+ * answer        RELAY_AT_SEALED_LENGTH
  *
  * Refusals, in this order: 1, 2, 3. A refusal writes nothing.
  */
@@ -328,8 +391,8 @@ uint64_t relay_stream_seal_response(uint64_t method, const uint8_t *key, size_t 
  * bytes         what has come in so far; bytes behind the head are not read
  * stream        RELAY_STREAM_WORDS words, written when the head is accepted: a
  *               stream that opens, at a payload
- * answer        [0] bytes used, [1] length of the first payload;
- *               RELAY_MORE: [0] the number of bytes wanted in all
+ * answer        RELAY_AT_USED, RELAY_AT_CHUNK_LENGTH (of the first payload);
+ *               with RELAY_REFUSED_MORE, RELAY_AT_WANTED
  *
  * Refusals, in this order: 1, 10, 4, 6, 7, 13.
  */
@@ -347,7 +410,7 @@ uint64_t relay_stream_open_response(uint64_t method, const uint8_t *key, size_t 
  * stream   one that seals; two counters further behind the call
  * payload  0 to 65,535 bytes
  * out      the payload with 34 bytes more
- * answer   [0] the sealed length
+ * answer   RELAY_AT_SEALED_LENGTH
  *
  * Refusals, in this order: 1 (lengths, method, a stream at another turn), 4 (a
  * stream that has ended), 11, 2, 3. A refusal writes nothing.
@@ -362,12 +425,12 @@ uint64_t relay_stream_seal_chunk(uint64_t *stream, size_t stream_len, const uint
  * stream  one that opens; one counter further behind an accepted piece
  * bytes   what has come in; bytes behind the piece are not read
  * out     at a payload: room for it, and it is written to the front
- * answer  [0] bytes used, [1] the length that was read, or of the payload;
- *         RELAY_MORE: [0] the number of bytes wanted in all
+ * answer  RELAY_AT_USED, RELAY_AT_CHUNK_LENGTH (the length that was read, or of
+ *         the payload); with RELAY_REFUSED_MORE, RELAY_AT_WANTED
  *
  * Refusals, in this order: 1 (lengths, method, a stream at another turn), 4 (a
  * stream that has ended), 11, 10, 3, 4. They write nothing to `out`. 4 ends
- * the stream: it writes 0 to stream[0]. The others leave the stream as it was,
+ * the stream: it writes RELAY_TURN_ENDED. The others leave the stream as it was,
  * so the same call can be made again with more bytes or more room.
  */
 uint64_t relay_stream_open_chunk(uint64_t *stream, size_t stream_len, const uint8_t *bytes,

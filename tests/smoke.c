@@ -39,8 +39,8 @@ static void check(int holds, const char *what)
 static void check_number(uint64_t number, uint64_t expected, const char *what)
 {
     if (number != expected) {
-        fprintf(stderr, "smoke test failed: %s: %llu and not %llu\n", what,
-                (unsigned long long)number, (unsigned long long)expected);
+        fprintf(stderr, "smoke test failed: %s: %s and not %s\n", what, relay_refusal_name(number),
+                relay_refusal_name(expected));
         exit(1);
     }
 }
@@ -65,13 +65,13 @@ static int all(const uint8_t *bytes, size_t len, uint8_t value)
 static size_t seal(uint64_t *session, const char *payload, uint8_t *out, size_t room)
 {
     uint64_t answer[RELAY_ANSWER_WORDS];
-    uint64_t packet = session[3];
+    uint64_t packet = session[RELAY_SESSION_NEXT];
     check_number(relay_datagram_seal(METHOD, KEY, sizeof KEY, session, RELAY_SESSION_WORDS, CLOCK,
                                      ADDRESS, ADDRESS_LEN, 3, text(payload), strlen(payload), out,
                                      room, answer, RELAY_ANSWER_WORDS),
                  RELAY_OK, "sealing a datagram");
-    check(session[3] == packet + 1, "the next packet ID");
-    return (size_t)answer[RELAY_SEALED_LENGTH];
+    check(session[RELAY_SESSION_NEXT] == packet + 1, "the next packet ID");
+    return (size_t)answer[RELAY_AT_SEALED_LENGTH];
 }
 
 /* Opens for the server; the caller's address is the host's own numbering. */
@@ -87,12 +87,13 @@ static uint64_t open_server(uint64_t clock, const uint8_t *datagram, size_t len,
 static void check_header(const uint64_t *answer, const uint8_t *out, size_t due, uint64_t id,
                          const char *payload)
 {
-    check(answer[RELAY_KIND] == 3 && answer[RELAY_SECOND] == 11, "a name of 11 bytes");
-    check(memcmp(out + answer[RELAY_FIRST], "example.com", 11) == 0, "the name in its place");
-    check(answer[RELAY_PORT] == 443 && answer[RELAY_PADDING] == 3, "port and padding");
-    check(answer[RELAY_SESSION_ID] == id && answer[RELAY_PACKET_ID] == 0, "session and packet");
-    check(answer[RELAY_TIMESTAMP] == CLOCK, "the time");
-    size_t place = (size_t)answer[RELAY_PAYLOAD];
+    check(answer[RELAY_AT_KIND] == 3 && answer[RELAY_AT_SECOND] == 11, "a name of 11 bytes");
+    check(memcmp(out + answer[RELAY_AT_FIRST], "example.com", 11) == 0, "the name in its place");
+    check(answer[RELAY_AT_PORT] == 443 && answer[RELAY_AT_PADDING] == 3, "port and padding");
+    check(answer[RELAY_AT_SESSION_ID] == id && answer[RELAY_AT_PACKET_ID] == 0,
+          "session and packet");
+    check(answer[RELAY_AT_TIMESTAMP] == CLOCK, "the time");
+    size_t place = (size_t)answer[RELAY_AT_PAYLOAD];
     check(due - place == strlen(payload) && memcmp(out + place, payload, due - place) == 0,
           "the payload");
 }
@@ -110,18 +111,18 @@ static void refused_datagrams(uint8_t *datagram, size_t len, uint64_t *table)
     /* A forgery: the tag is wrong, so nothing is written at all. */
     datagram[len - 1] ^= 1;
     check_number(open_server(CLOCK, datagram, len, table, out, sizeof out, answer),
-                 RELAY_NOT_AUTHENTIC, "a forged datagram");
+                 RELAY_REFUSED_NOT_AUTHENTIC, "a forged datagram");
     check(all(out, sizeof out, 0xa5), "a forgery leaves the buffer as it was");
     datagram[len - 1] ^= 1;
 
     /* One byte of room too few. */
-    check_number(open_server(CLOCK, datagram, len, table, out, due - 1, answer), RELAY_ROOM,
+    check_number(open_server(CLOCK, datagram, len, table, out, due - 1, answer), RELAY_REFUSED_ROOM,
                  "too little room");
     check(all(out, sizeof out, 0xa5), "and so does too little room");
 
     /* Too late: the tag is good, and the plaintext's bytes are set to zero. */
-    check_number(open_server(CLOCK + 31, datagram, len, table, out, sizeof out, answer), RELAY_TIME,
-                 "a datagram that is 31 seconds old");
+    check_number(open_server(CLOCK + 31, datagram, len, table, out, sizeof out, answer),
+                 RELAY_REFUSED_TIME, "a datagram that is 31 seconds old");
     check(all(out, due, 0) && all(out + due, sizeof out - due, 0xa5), "exactly its bytes are zero");
     check(memcmp(before, table, sizeof before) == 0, "refusals leave the table as it was");
 }
@@ -144,8 +145,8 @@ static void client_to_server(void)
     check_number(open_server(CLOCK, datagram, len, table, out, len - 32, answer), RELAY_OK,
                  "opening a client's datagram");
     check_header(answer, out, len - 32, CLIENT_ID, "ping");
-    check_number(open_server(CLOCK, datagram, len, table, out, len - 32, answer), RELAY_REPLAY,
-                 "the same datagram again");
+    check_number(open_server(CLOCK, datagram, len, table, out, len - 32, answer),
+                 RELAY_REFUSED_REPLAY, "the same datagram again");
     printf("client to server: %zu bytes opened; forged, late and replayed ones refused\n", len);
 }
 
@@ -158,14 +159,14 @@ static void server_to_client(void)
     uint8_t out[200];
 
     check_number(relay_session_begin_server(CLIENT_ID, CLIENT_ID, session, RELAY_SESSION_WORDS),
-                 RELAY_ARGUMENT, "a server's session of its client's ID");
+                 RELAY_REFUSED_ARGUMENT, "a server's session of its client's ID");
     check_number(relay_session_begin_server(SERVER_ID, CLIENT_ID, session, RELAY_SESSION_WORDS),
                  RELAY_OK, "beginning a server's session");
     relay_table_new(60, table, RELAY_TABLE_WORDS);
     size_t len = seal(session, "pong", datagram, sizeof datagram);
 
     for (uint64_t client = CLIENT_ID - 1; client <= CLIENT_ID; client++) {
-        uint64_t expected = client == CLIENT_ID ? RELAY_OK : RELAY_BINDING;
+        uint64_t expected = client == CLIENT_ID ? RELAY_OK : RELAY_REFUSED_BINDING;
         check_number(relay_datagram_open_client(METHOD, KEY, sizeof KEY, CLOCK, client, 10, 20, 30,
                                                 datagram, len, table, RELAY_TABLE_WORDS, out,
                                                 sizeof out, answer, RELAY_ANSWER_WORDS),
@@ -185,14 +186,14 @@ static size_t open_chunk(uint64_t *stream, const uint8_t *bytes, size_t len, con
     uint8_t out[100];
     size_t used = 0;
     for (int piece = 0; piece < 2; piece++) {
-        if (piece == 0 && stream[RELAY_TURN] == RELAY_TURN_PAYLOAD)
+        if (piece == 0 && stream[RELAY_STREAM_TURN] == RELAY_TURN_PAYLOAD)
             continue; /* behind a response's head a payload is next */
         check_number(relay_stream_open_chunk(stream, RELAY_STREAM_WORDS, bytes + used, len - used,
                                              out, sizeof out, answer, RELAY_ANSWER_WORDS),
                      RELAY_OK, "opening a chunk");
-        used += (size_t)answer[RELAY_USED];
+        used += (size_t)answer[RELAY_AT_USED];
     }
-    check(answer[RELAY_CHUNK_LENGTH] == strlen(payload) &&
+    check(answer[RELAY_AT_CHUNK_LENGTH] == strlen(payload) &&
               memcmp(out, payload, strlen(payload)) == 0,
           "a chunk's payload");
     return used;
@@ -204,7 +205,7 @@ static size_t seal_chunk(uint64_t *stream, const char *payload, uint8_t *out, si
     check_number(relay_stream_seal_chunk(stream, RELAY_STREAM_WORDS, text(payload), strlen(payload),
                                          out, room, answer, RELAY_ANSWER_WORDS),
                  RELAY_OK, "sealing a chunk");
-    return (size_t)answer[RELAY_SEALED_LENGTH];
+    return (size_t)answer[RELAY_AT_SEALED_LENGTH];
 }
 
 static uint64_t open_request(const uint8_t *bytes, size_t len, uint64_t *pool, uint64_t *stream,
@@ -224,7 +225,7 @@ static size_t seal_request(uint8_t *bytes, size_t room, size_t *len)
                                            ADDRESS, ADDRESS_LEN, 0, text("GET"), 3, bytes, room,
                                            stream, RELAY_STREAM_WORDS, answer, RELAY_ANSWER_WORDS),
                  RELAY_OK, "sealing a request's head");
-    size_t head = (size_t)answer[RELAY_SEALED_LENGTH];
+    size_t head = (size_t)answer[RELAY_AT_SEALED_LENGTH];
     *len = head + seal_chunk(stream, "first", bytes + head, room - head);
     *len += seal_chunk(stream, "second", bytes + *len, room - *len);
     return head;
@@ -237,17 +238,17 @@ static void open_head(const uint8_t *bytes, size_t len, size_t head, uint64_t *p
 {
     uint64_t answer[RELAY_ANSWER_WORDS];
     uint8_t out[100];
-    check_number(open_request(bytes, 10, pool, stream, answer, out, sizeof out), RELAY_MORE,
+    check_number(open_request(bytes, 10, pool, stream, answer, out, sizeof out), RELAY_REFUSED_MORE,
                  "ten bytes");
-    check(answer[0] == 16 + 11 + 16, "salt, fixed header and tag are wanted");
-    check_number(open_request(bytes, 43, pool, stream, answer, out, sizeof out), RELAY_MORE,
+    check(answer[RELAY_AT_WANTED] == 16 + 11 + 16, "salt, fixed header and tag are wanted");
+    check_number(open_request(bytes, 43, pool, stream, answer, out, sizeof out), RELAY_REFUSED_MORE,
                  "the fixed part");
-    check(answer[0] == head, "the whole head is wanted");
+    check(answer[RELAY_AT_WANTED] == head, "the whole head is wanted");
     check_number(open_request(bytes, len, pool, stream, answer, out, sizeof out), RELAY_OK,
                  "opening a request's head");
-    check(answer[RELAY_PORT] == 443 && answer[RELAY_HEAD_USED] == head, "what the head says");
-    check(memcmp(out + answer[RELAY_HEAD_PAYLOAD], "GET", 3) == 0 &&
-              answer[RELAY_HEAD_LENGTH] == answer[RELAY_HEAD_PAYLOAD] + 3,
+    check(answer[RELAY_AT_PORT] == 443 && answer[RELAY_AT_HEAD_USED] == head, "what the head says");
+    check(memcmp(out + answer[RELAY_AT_HEAD_PAYLOAD], "GET", 3) == 0 &&
+              answer[RELAY_AT_HEAD_LENGTH] == answer[RELAY_AT_HEAD_PAYLOAD] + 3,
           "the first payload");
 }
 
@@ -272,10 +273,10 @@ static void request(void)
     for (int turn = 0; turn < 2; turn++)
         check_number(relay_stream_open_chunk(stream, RELAY_STREAM_WORDS, bytes, len, out,
                                              sizeof out, answer, RELAY_ANSWER_WORDS),
-                     RELAY_NOT_AUTHENTIC, "a chunk that is none");
-    check(stream[RELAY_TURN] == RELAY_TURN_ENDED, "the stream has ended");
-    check_number(open_request(bytes, len, pool, stream, answer, out, sizeof out), RELAY_REPLAY,
-                 "the same head again");
+                     RELAY_REFUSED_NOT_AUTHENTIC, "a chunk that is none");
+    check(stream[RELAY_STREAM_TURN] == RELAY_TURN_ENDED, "the stream has ended");
+    check_number(open_request(bytes, len, pool, stream, answer, out, sizeof out),
+                 RELAY_REFUSED_REPLAY, "the same head again");
     printf("request: head and 2 chunks, %zu bytes; replayed head and forged chunk refused\n", len);
 }
 
@@ -291,24 +292,41 @@ static void response(void)
                                             sizeof bytes, sender, RELAY_STREAM_WORDS, answer,
                                             RELAY_ANSWER_WORDS),
                  RELAY_OK, "sealing a response's head");
-    size_t len = (size_t)answer[RELAY_SEALED_LENGTH];
+    size_t len = (size_t)answer[RELAY_AT_SEALED_LENGTH];
     len += seal_chunk(sender, "body", bytes + len, sizeof bytes - len);
 
     /* It answers this request, and no other. */
     check_number(relay_stream_open_response(METHOD, KEY, sizeof KEY, CLOCK, OTHER_SALT,
                                             sizeof OTHER_SALT, bytes, len, receiver,
                                             RELAY_STREAM_WORDS, answer, RELAY_ANSWER_WORDS),
-                 RELAY_BINDING, "a response to another request");
+                 RELAY_REFUSED_BINDING, "a response to another request");
     check_number(relay_stream_open_response(METHOD, KEY, sizeof KEY, CLOCK, SALT, sizeof SALT,
                                             bytes, len, receiver, RELAY_STREAM_WORDS, answer,
                                             RELAY_ANSWER_WORDS),
                  RELAY_OK, "opening a response's head");
-    size_t at = (size_t)answer[RELAY_USED];
-    check(answer[RELAY_CHUNK_LENGTH] == 3, "the first payload's length");
+    size_t at = (size_t)answer[RELAY_AT_USED];
+    check(answer[RELAY_AT_CHUNK_LENGTH] == 3, "the first payload's length");
     at += open_chunk(receiver, bytes + at, len - at, "200");
     at += open_chunk(receiver, bytes + at, len - at, "body");
     check(at == len, "all bytes are used");
     printf("response: head and 1 chunk, %zu bytes; refused for another request\n", len);
+}
+
+/* ---- names and version */
+
+static void names(void)
+{
+    char version[32];
+    snprintf(version, sizeof version, "%d.%d.%d", RELAY_VERSION_MAJOR, RELAY_VERSION_MINOR,
+             RELAY_VERSION_PATCH);
+    check(strcmp(version, RELAY_VERSION) == 0, "the version's numbers");
+    check(strcmp(relay_refusal_name(RELAY_OK), "ok") == 0, "what is no refusal");
+    check(strcmp(relay_refusal_name(RELAY_REFUSED_REPLAY), "replay") == 0, "a refusal's name");
+    check(strcmp(relay_refusal_name(14), "unknown") == 0, "no refusal's number");
+    for (uint64_t a = 0; a < 14; a++)
+        for (uint64_t b = a + 1; b <= 14; b++)
+            check(strcmp(relay_refusal_name(a), relay_refusal_name(b)) != 0, "names that differ");
+    printf("version %s: 13 refusals, each with its name\n", RELAY_VERSION);
 }
 
 /* ---- wrong lengths */
@@ -317,14 +335,17 @@ static void wrong_lengths(void)
 {
     uint64_t words[RELAY_POOL_WORDS + 1];
     memset(words, 0x5a, sizeof words);
-    check_number(relay_table_new(60, words, RELAY_TABLE_WORDS - 1), RELAY_SETTINGS, "a table");
-    check_number(relay_table_new(59, words, RELAY_TABLE_WORDS), RELAY_SETTINGS, "a retention");
-    check_number(relay_pool_new(METHOD, words, RELAY_POOL_WORDS + 1), RELAY_SETTINGS, "a pool");
-    check_number(relay_pool_new(3, words, RELAY_POOL_WORDS), RELAY_SETTINGS, "a method");
-    check_number(relay_session_begin_client(1, NULL, 0), RELAY_SETTINGS, "no session");
+    check_number(relay_table_new(60, words, RELAY_TABLE_WORDS - 1), RELAY_REFUSED_SETTINGS,
+                 "a table");
+    check_number(relay_table_new(59, words, RELAY_TABLE_WORDS), RELAY_REFUSED_SETTINGS,
+                 "a retention");
+    check_number(relay_pool_new(METHOD, words, RELAY_POOL_WORDS + 1), RELAY_REFUSED_SETTINGS,
+                 "a pool");
+    check_number(relay_pool_new(3, words, RELAY_POOL_WORDS), RELAY_REFUSED_SETTINGS, "a method");
+    check_number(relay_session_begin_client(1, NULL, 0), RELAY_REFUSED_SETTINGS, "no session");
     check_number(relay_stream_seal_chunk(words, RELAY_STREAM_WORDS, NULL, 0, NULL, 0, words + 9,
                                          RELAY_ANSWER_WORDS - 1),
-                 RELAY_SETTINGS, "an answer of 8 words");
+                 RELAY_REFUSED_SETTINGS, "an answer of 8 words");
     check(all((const uint8_t *)words, sizeof words, 0x5a), "nothing is written");
     printf("wrong lengths: refused, and nothing is written\n");
 }
@@ -336,6 +357,7 @@ int main(void)
     request();
     response();
     wrong_lengths();
+    names();
     printf("smoke test passed\n");
     return 0;
 }

@@ -165,7 +165,7 @@ static void set_state(struct expectation *e, uint64_t a, uint64_t b, uint64_t c,
 static uint64_t expect_begun(const struct call *c, struct expectation *e)
 {
     if (c->function == BEGIN_SERVER && c->id == c->client)
-        return RELAY_ARGUMENT;
+        return RELAY_REFUSED_ARGUMENT;
     int server = c->function == BEGIN_SERVER;
     set_state(e, (uint64_t)server, c->id, server ? c->client : 0, 0, NULL);
     return RELAY_OK;
@@ -184,12 +184,12 @@ static uint64_t expect_size(const struct call *c, struct expectation *e, size_t 
                             size_t around)
 {
     if (len > limit)
-        return RELAY_LENGTH;
+        return RELAY_REFUSED_LENGTH;
     if (len + around > len_of(c, OUT))
-        return RELAY_ROOM;
+        return RELAY_REFUSED_ROOM;
     e->due = len + around;
     e->text = sealed;
-    e->words[RELAY_SEALED_LENGTH] = e->due;
+    e->words[RELAY_AT_SEALED_LENGTH] = e->due;
     e->words_len = 1;
     return RELAY_OK;
 }
@@ -198,11 +198,11 @@ static uint64_t expect_datagram(const struct call *c, struct expectation *e)
 {
     const uint64_t *w = words_of(c, SESSION);
     if (!one_address(c) || (w[0] == 1 && w[1] == w[2]))
-        return RELAY_ARGUMENT;
+        return RELAY_REFUSED_ARGUMENT;
     if (w[3] == UINT64_MAX)
-        return RELAY_COUNTER;
+        return RELAY_REFUSED_COUNTER;
     if (c->padding > RELAY_MAX_DATAGRAM)
-        return RELAY_LENGTH;
+        return RELAY_REFUSED_LENGTH;
     size_t len = (w[0] == 1 ? 51 : 43) + c->padding + len_of(c, ADDRESS) + len_of(c, PAYLOAD);
     uint64_t number = expect_size(c, e, len, RELAY_MAX_DATAGRAM, 0);
     if (number != RELAY_OK)
@@ -238,7 +238,7 @@ static uint64_t expect_sealed_request(const struct call *c, struct expectation *
 {
     int said = c->padding > 0 || len_of(c, PAYLOAD) > 0;
     if (!one_address(c) || c->padding > MAX_PADDING || !said)
-        return RELAY_ARGUMENT;
+        return RELAY_REFUSED_ARGUMENT;
     size_t len = len_of(c, ADDRESS) + 2 + c->padding + len_of(c, PAYLOAD);
     size_t around = key_length(c->method) + 11 + 2 * TAG_LEN;
     uint64_t number = expect_size(c, e, len, RELAY_MAX_CHUNK, around);
@@ -276,9 +276,9 @@ static uint64_t expect_sealed_chunk(const struct call *c, struct expectation *e)
 {
     const uint64_t *w = words_of(c, STREAM);
     if (w[0] == RELAY_TURN_ENDED)
-        return RELAY_NOT_AUTHENTIC;
+        return RELAY_REFUSED_NOT_AUTHENTIC;
     if (w[2] >= UINT64_MAX - 1)
-        return RELAY_COUNTER;
+        return RELAY_REFUSED_COUNTER;
     uint64_t number = expect_size(c, e, len_of(c, PAYLOAD), RELAY_MAX_CHUNK, 2 + 2 * TAG_LEN);
     if (number != RELAY_OK)
         return number;
@@ -299,22 +299,22 @@ static uint64_t expect_header(const struct call *c, struct expectation *e)
 {
     size_t bound = c->function == OPEN_CLIENT ? 8 : 0, fixed = 11 + bound;
     if (e->due < fixed)
-        return RELAY_MALFORMED;
+        return RELAY_REFUSED_MALFORMED;
     uint64_t time = get_number(opened + 1, 8);
     if (opened[0] != (bound ? 1 : 0))
-        return RELAY_TYPE;
+        return RELAY_REFUSED_TYPE;
     if (!within(c->clock, time, TIME_LIMIT) || !within(time, c->clock, TIME_LIMIT))
-        return RELAY_TIME;
+        return RELAY_REFUSED_TIME;
     if (bound && get_number(opened + 9, 8) != c->client)
-        return RELAY_BINDING;
+        return RELAY_REFUSED_BINDING;
     size_t padding = (size_t)get_number(opened + fixed - 2, 2), place = fixed + padding;
     size_t address = place < e->due ? address_length(opened + place, e->due - place) : 0;
     if (address == 0)
-        return RELAY_MALFORMED;
+        return RELAY_REFUSED_MALFORMED;
     address_words(opened, place, address, e->words);
-    e->words[RELAY_TIMESTAMP] = time;
-    e->words[RELAY_PADDING] = padding;
-    e->words[RELAY_PAYLOAD] = place + address;
+    e->words[RELAY_AT_TIMESTAMP] = time;
+    e->words[RELAY_AT_PADDING] = padding;
+    e->words[RELAY_AT_PAYLOAD] = place + address;
     return RELAY_OK;
 }
 
@@ -364,15 +364,15 @@ static void accept_packet(uint64_t *next, const uint64_t *record, uint64_t packe
 
 static uint64_t expect_admitted(const struct call *c, struct expectation *e)
 {
-    uint64_t id = e->words[RELAY_SESSION_ID], packet = e->words[RELAY_PACKET_ID];
+    uint64_t id = e->words[RELAY_AT_SESSION_ID], packet = e->words[RELAY_AT_PACKET_ID];
     int known, place = find_record(words_of(c, TABLE), c->clock, id, &known);
     if (place < 0)
-        return RELAY_FULL;
+        return RELAY_REFUSED_FULL;
     e->record_at = 1 + RECORD_WORDS * (size_t)place;
     const uint64_t *record = words_of(c, TABLE) + e->record_at;
     uint64_t empty[RECORD_WORDS] = {1, id, packet, c->clock};
     if (known && !fresh(record, packet))
-        return RELAY_REPLAY;
+        return RELAY_REFUSED_REPLAY;
     accept_packet(e->record, known ? record : empty, packet, c->clock);
     e->record[8] = c->first;
     e->record[9] = c->second;
@@ -387,17 +387,17 @@ static uint64_t expect_opened(const struct call *c, struct expectation *e)
     const uint8_t *datagram = bytes_of(c, INPUT), *key = bytes_of(c, KEY);
     uint8_t header[SEPARATE_LEN], subkey[32];
     if (len < MIN_DATAGRAM || len > RELAY_MAX_DATAGRAM)
-        return RELAY_LENGTH;
+        return RELAY_REFUSED_LENGTH;
     if (len_of(c, OUT) < len - MIN_DATAGRAM)
-        return RELAY_ROOM;
+        return RELAY_REFUSED_ROOM;
     block_decrypt(key, key_len, datagram, header);
     derive_subkey(key, key_len, header, 8, subkey);
     if (!gcm_open(subkey, key_len, header + 4, datagram + SEPARATE_LEN, len - SEPARATE_LEN, opened))
-        return RELAY_NOT_AUTHENTIC;
+        return RELAY_REFUSED_NOT_AUTHENTIC;
     e->due = len - MIN_DATAGRAM;
     uint64_t number = expect_header(c, e);
-    e->words[RELAY_SESSION_ID] = get_number(header, 8);
-    e->words[RELAY_PACKET_ID] = get_number(header + 8, 8);
+    e->words[RELAY_AT_SESSION_ID] = get_number(header, 8);
+    e->words[RELAY_AT_PACKET_ID] = get_number(header + 8, 8);
     if (number == RELAY_OK)
         number = expect_admitted(c, e);
     if (number == RELAY_OK) {
@@ -413,7 +413,7 @@ static uint64_t wants(struct expectation *e, size_t wanted)
 {
     e->words[0] = wanted;
     e->words_len = 1;
-    return RELAY_MORE;
+    return RELAY_REFUSED_MORE;
 }
 
 static int piece_opens(const uint8_t *subkey, size_t key_len, uint64_t counter,
@@ -434,12 +434,12 @@ static uint64_t expect_fixed(const struct call *c, struct expectation *e, size_t
     const uint8_t *bytes = bytes_of(c, INPUT);
     derive_subkey(bytes_of(c, KEY), salt, bytes, salt, subkey);
     if (!piece_opens(subkey, salt, 0, bytes + salt, fixed + TAG_LEN))
-        return RELAY_NOT_AUTHENTIC;
+        return RELAY_REFUSED_NOT_AUTHENTIC;
     uint64_t time = get_number(opened + 1, 8);
     if (opened[0] != type)
-        return RELAY_TYPE;
+        return RELAY_REFUSED_TYPE;
     if (!within(c->clock, time, TIME_LIMIT) || !within(time, c->clock, TIME_LIMIT))
-        return RELAY_TIME;
+        return RELAY_REFUSED_TIME;
     return RELAY_OK;
 }
 
@@ -455,11 +455,11 @@ static uint64_t expect_stored(const struct call *c, struct expectation *e)
     for (size_t at = 1; at < RELAY_POOL_WORDS; at += SALT_WORDS) {
         int kept = pool[at] != 0 && within(c->clock, pool[at + 1], KEPT);
         if (kept && memcmp(pool + at + 2, record + 2, salt) == 0)
-            return RELAY_REPLAY;
+            return RELAY_REFUSED_REPLAY;
         if (!kept && e->record_at == 0)
             e->record_at = at;
     }
-    return e->record_at == 0 ? RELAY_FULL : RELAY_OK;
+    return e->record_at == 0 ? RELAY_REFUSED_FULL : RELAY_OK;
 }
 
 /* Refusal 5 of a variable header, and what it says. */
@@ -467,16 +467,16 @@ static uint64_t expect_variable(struct expectation *e, size_t used)
 {
     size_t address = address_length(opened, e->due);
     if (address == 0 || e->due - address < 2)
-        return RELAY_MALFORMED;
+        return RELAY_REFUSED_MALFORMED;
     size_t padding = (size_t)get_number(opened + address, 2), place = address + 2 + padding;
     int said = padding > 0 || place < e->due;
     if (padding > MAX_PADDING || place > e->due || !said)
-        return RELAY_MALFORMED;
+        return RELAY_REFUSED_MALFORMED;
     address_words(opened, 0, address, e->words);
-    e->words[RELAY_HEAD_PADDING] = padding;
-    e->words[RELAY_HEAD_PAYLOAD] = place;
-    e->words[RELAY_HEAD_USED] = used;
-    e->words[RELAY_HEAD_LENGTH] = e->due;
+    e->words[RELAY_AT_HEAD_PADDING] = padding;
+    e->words[RELAY_AT_HEAD_PAYLOAD] = place;
+    e->words[RELAY_AT_HEAD_USED] = used;
+    e->words[RELAY_AT_HEAD_LENGTH] = e->due;
     e->words_len = 8;
     e->text = opened;
     e->record_len = SALT_WORDS;
@@ -497,9 +497,9 @@ static uint64_t expect_request(const struct call *c, struct expectation *e)
     if (len_of(c, INPUT) < fixed + length + TAG_LEN)
         return wants(e, fixed + length + TAG_LEN);
     if (len_of(c, OUT) < length)
-        return RELAY_ROOM;
+        return RELAY_REFUSED_ROOM;
     if (!piece_opens(subkey, salt, 1, bytes_of(c, INPUT) + fixed, length + TAG_LEN))
-        return RELAY_NOT_AUTHENTIC;
+        return RELAY_REFUSED_NOT_AUTHENTIC;
     e->due = length;
     subkey_words(c, bytes_of(c, INPUT), words);
     set_state(e, RELAY_TURN_LENGTH, c->method, 2, 0, words);
@@ -514,12 +514,12 @@ static uint64_t expect_response(const struct call *c, struct expectation *e)
     if (number != RELAY_OK)
         return number;
     if (memcmp(opened + 9, bytes_of(c, REQUEST_SALT), salt) != 0)
-        return RELAY_BINDING;
+        return RELAY_REFUSED_BINDING;
     uint64_t length = get_number(opened + fixed - 2, 2);
     subkey_words(c, bytes_of(c, INPUT), words);
     set_state(e, RELAY_TURN_PAYLOAD, c->method, 1, length, words);
-    e->words[RELAY_USED] = salt + fixed + TAG_LEN;
-    e->words[RELAY_CHUNK_LENGTH] = length;
+    e->words[RELAY_AT_USED] = salt + fixed + TAG_LEN;
+    e->words[RELAY_AT_CHUNK_LENGTH] = length;
     e->words_len = 2;
     return RELAY_OK;
 }
@@ -531,21 +531,21 @@ static uint64_t expect_opened_chunk(const struct call *c, struct expectation *e)
     size_t len = payload ? (size_t)w[3] : 2;
     uint8_t subkey[32];
     if (w[0] == RELAY_TURN_ENDED)
-        return RELAY_NOT_AUTHENTIC;
+        return RELAY_REFUSED_NOT_AUTHENTIC;
     if (w[2] == UINT64_MAX)
-        return RELAY_COUNTER;
+        return RELAY_REFUSED_COUNTER;
     if (len_of(c, INPUT) < len + TAG_LEN)
         return wants(e, len + TAG_LEN);
     if (payload && len_of(c, OUT) < len)
-        return RELAY_ROOM;
+        return RELAY_REFUSED_ROOM;
     stream_subkey(w, subkey);
     if (!piece_opens(subkey, key_length(w[1]), w[2], bytes_of(c, INPUT), len + TAG_LEN))
-        return RELAY_NOT_AUTHENTIC;
+        return RELAY_REFUSED_NOT_AUTHENTIC;
     uint64_t length = payload ? len : get_number(opened, 2);
     uint64_t turn = payload ? RELAY_TURN_LENGTH : RELAY_TURN_PAYLOAD;
     set_state(e, turn, w[1], w[2] + 1, payload ? 0 : length, w + 4);
-    e->words[RELAY_USED] = len + TAG_LEN;
-    e->words[RELAY_CHUNK_LENGTH] = length;
+    e->words[RELAY_AT_USED] = len + TAG_LEN;
+    e->words[RELAY_AT_CHUNK_LENGTH] = length;
     e->words_len = 2;
     e->due = payload ? len : 0;
     e->text = opened;
@@ -566,7 +566,7 @@ struct expectation expect(const struct call *call)
     };
     struct expectation e = {0};
     if (!lawful(call))
-        e.number = RELAY_SETTINGS;
+        e.number = RELAY_REFUSED_SETTINGS;
     else if (rules[call->function] != NULL)
         e.number = rules[call->function](call, &e);
     return e;

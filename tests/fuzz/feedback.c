@@ -47,8 +47,8 @@ void feedback(const struct call *call, const struct left *left)
     if (left->number != RELAY_OK)
         return;
     if (f == OPEN_SERVER || f == OPEN_CLIENT) {
-        feature(HEADERS, answer[RELAY_KIND] * 8 + magnitude(answer[RELAY_PADDING]) / 2);
-        feature(PACKETS, magnitude(answer[RELAY_PACKET_ID]));
+        feature(HEADERS, answer[RELAY_AT_KIND] * 8 + magnitude(answer[RELAY_AT_PADDING]) / 2);
+        feature(PACKETS, magnitude(answer[RELAY_AT_PACKET_ID]));
         changed_words(call, left, TABLE);
     }
     if (f == OPEN_REQUEST)

@@ -8,7 +8,7 @@
 
 static void must_be_replay(const struct call *call)
 {
-    must_run(call, RELAY_REPLAY, "accepted twice at the same clock");
+    must_run(call, RELAY_REFUSED_REPLAY, "accepted twice at the same clock");
 }
 
 void open_datagram(const struct step *step)
@@ -40,7 +40,7 @@ void open_request(const struct step *step)
     struct left left = run(&call);
     if (left.number != RELAY_OK)
         return;
-    line->read = (size_t)answer_of(&left, RELAY_HEAD_USED);
+    line->read = (size_t)answer_of(&left, RELAY_AT_HEAD_USED);
     must_be_replay(&call);
 }
 
@@ -53,7 +53,7 @@ void open_response(const struct step *step)
     spoil(&call, step);
     struct left left = run(&call);
     if (left.number == RELAY_OK)
-        line->read = (size_t)answer_of(&left, RELAY_USED);
+        line->read = (size_t)answer_of(&left, RELAY_AT_USED);
 }
 
 void open_chunk(const struct step *step)
@@ -62,9 +62,10 @@ void open_chunk(const struct step *step)
     struct call call = new_call(step);
     const uint64_t *stream = call.buffers[STREAM].data;
     lend_to(&call, INPUT, line->bytes + line->read, line->len - line->read);
-    give_room(&call, step, stream[RELAY_TURN] == RELAY_TURN_PAYLOAD ? stream[3] & 0x1ffff : 0);
+    give_room(&call, step,
+              stream[RELAY_STREAM_TURN] == RELAY_TURN_PAYLOAD ? stream[3] & 0x1ffff : 0);
     spoil(&call, step);
     struct left left = run(&call);
     if (left.number == RELAY_OK)
-        line->read += (size_t)answer_of(&left, RELAY_USED);
+        line->read += (size_t)answer_of(&left, RELAY_AT_USED);
 }

@@ -70,7 +70,7 @@ static void check_state(const struct call *call, const struct left *left, enum b
 {
     const struct lent *state = &left->lent[b];
     size_t written = e->state_len * sizeof(uint64_t);
-    if (call->function == OPEN_CHUNK && e->number == RELAY_NOT_AUTHENTIC) {
+    if (call->function == OPEN_CHUNK && e->number == RELAY_REFUSED_NOT_AUTHENTIC) {
         promise(zero(state->ours, sizeof(uint64_t)), "a wrong tag did not end the stream");
         written = sizeof(uint64_t);
     } else if (e->number != RELAY_OK) {
@@ -128,9 +128,9 @@ static void check_buffers(const struct call *call, const struct left *left)
 static size_t readable(const struct call *call, const struct expectation *e)
 {
     if (e->number == RELAY_OK && call->function == OPEN_REQUEST)
-        return (size_t)e->words[RELAY_HEAD_USED];
+        return (size_t)e->words[RELAY_AT_HEAD_USED];
     if (e->number == RELAY_OK && (call->function == OPEN_RESPONSE || call->function == OPEN_CHUNK))
-        return (size_t)e->words[RELAY_USED];
+        return (size_t)e->words[RELAY_AT_USED];
     return call->buffers[INPUT].len;
 }
 

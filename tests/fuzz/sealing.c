@@ -49,7 +49,7 @@ static void datagram_back(const struct call *sealing, const struct message *mess
     call.client = session[2];
     lend_to(&call, INPUT, message->bytes, message->len);
     call.buffers[OUT].len = message->len - 32;
-    must_open(&call, payload_of(sealing), RELAY_PAYLOAD);
+    must_open(&call, payload_of(sealing), RELAY_AT_PAYLOAD);
 }
 
 static void request_back(const struct call *sealing, const struct message *line)
@@ -62,7 +62,7 @@ static void request_back(const struct call *sealing, const struct message *line)
     call.function = OPEN_REQUEST;
     lend_to(&call, STREAM, stream, RELAY_STREAM_WORDS);
     lend_to(&call, INPUT, line->bytes, line->len);
-    must_open(&call, payload_of(sealing), RELAY_HEAD_PAYLOAD);
+    must_open(&call, payload_of(sealing), RELAY_AT_HEAD_PAYLOAD);
 }
 
 static void response_back(const struct call *sealing, const struct message *line)
@@ -73,7 +73,7 @@ static void response_back(const struct call *sealing, const struct message *line
     lend_to(&call, STREAM, stream, RELAY_STREAM_WORDS);
     lend_to(&call, INPUT, line->bytes, line->len);
     struct left left = must_run(&call, RELAY_OK, "a response that was sealed does not open");
-    size_t used = (size_t)answer_of(&left, RELAY_USED);
+    size_t used = (size_t)answer_of(&left, RELAY_AT_USED);
     call.function = OPEN_CHUNK;
     lend_to(&call, INPUT, line->bytes + used, line->len - used);
     must_open(&call, payload_of(sealing), 0);
@@ -84,7 +84,7 @@ static void chunk_back(const struct call *sealing, const uint64_t *before, struc
     static uint64_t stream[RELAY_STREAM_WORDS];
     struct call call = *sealing;
     memcpy(stream, before, sizeof stream);
-    stream[RELAY_TURN] = RELAY_TURN_LENGTH;
+    stream[RELAY_STREAM_TURN] = RELAY_TURN_LENGTH;
     call.function = OPEN_CHUNK;
     lend_to(&call, STREAM, stream, RELAY_STREAM_WORDS);
     lend_to(&call, INPUT, sealed.bytes, sealed.len);
@@ -97,7 +97,7 @@ static void chunk_back(const struct call *sealing, const uint64_t *before, struc
 
 static void store(struct message *message, const struct left *left)
 {
-    message->len = (size_t)answer_of(left, RELAY_SEALED_LENGTH);
+    message->len = (size_t)answer_of(left, RELAY_AT_SEALED_LENGTH);
     message->read = 0;
     memcpy(message->bytes, left->lent[OUT].ours, message->len);
 }
@@ -160,7 +160,7 @@ void seal_chunk(const struct step *step)
     struct left left = run(&call);
     if (left.number != RELAY_OK)
         return;
-    struct span sealed = {copy, (size_t)answer_of(&left, RELAY_SEALED_LENGTH)};
+    struct span sealed = {copy, (size_t)answer_of(&left, RELAY_AT_SEALED_LENGTH)};
     memcpy(copy, left.lent[OUT].ours, sealed.len);
     append(line_of(step), sealed);
     chunk_back(&call, before, sealed);

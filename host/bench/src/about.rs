@@ -18,7 +18,9 @@ pub struct About {
     pub nettle: String,
     /// How many cases were compared.
     pub compared: usize,
+    /// Rounds, and the batches in each.
     pub rounds: usize,
+    pub batches: usize,
 }
 
 /// Whom ours is measured against.
@@ -27,6 +29,8 @@ Against  OpenSSL, nettle and BearSSL alone for GCM bodies, chunks, AES, and GHAS
          additional data, which is one AES block more
          with plain Rust around them for whole datagrams: headers, addresses, subkey (BLAKE3), sessions and windows
          plain Rust for subkeys; the key of their context is computed before the calls";
+
+const CALLS: &str = "         buffers are warm; keys are expanded and subkeys derived at each call";
 
 const RATIO: &str = "\
 Ratio    of speeds in the same round to the best other's, median (quartiles): above 1 ours is the faster";
@@ -57,11 +61,13 @@ impl About {
                 self.compared
             ),
             format!(
-                "Speed    MB/s ({} bytes), median of {} interleaved rounds (quartiles of ours); \
-                 warm buffers; keys are expanded and subkeys derived at each call",
+                "Speed    MB/s ({} bytes) of the fastest of {} batches of calls in a round; median of {} interleaved rounds \
+                 (quartiles of ours)",
                 grouped(1_000_000),
+                self.batches,
                 self.rounds
             ),
+            CALLS.to_string(),
             RATIO.to_string(),
         ]
     }

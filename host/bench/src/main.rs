@@ -31,14 +31,15 @@ mod room;
 mod rows;
 #[cfg(test)]
 mod samples;
+mod spread;
 mod standing;
 mod table;
 mod worst;
 
 use std::env;
 use std::error::Error;
-use std::fs;
-use std::path::Path;
+use std::fs::{self, OpenOptions};
+use std::path::{Path, PathBuf};
 use std::process::ExitCode;
 
 use about::About;
@@ -46,8 +47,18 @@ use contest::Contest;
 use measure::Pace;
 use options::Task;
 
+/// The exit status for arguments that are not understood.
+const MISUSED: u8 = 2;
+
 fn main() -> ExitCode {
-    match Task::of(env::args_os().skip(1)).map_or_else(|error| Err(error.into()), perform) {
+    let task = match Task::of(env::args_os().skip(1)) {
+        Ok(task) => task,
+        Err(message) => {
+            eprintln!("bench: {message}");
+            return ExitCode::from(MISUSED);
+        }
+    };
+    match perform(task) {
         Ok(()) => ExitCode::SUCCESS,
         Err(error) => {
             eprintln!("bench: {error}");
@@ -67,7 +78,20 @@ fn perform(task: Task) -> Result<(), Box<dyn Error>> {
     }
 }
 
+/// Where the results go, table and plot. That they can be written is seen before a run.
+fn outputs(out: &Path) -> Result<[PathBuf; 2], String> {
+    fs::create_dir_all(out).map_err(|error| format!("no folder {}: {error}", out.display()))?;
+    let paths = ["speed.txt", "speed.svg"].map(|name| out.join(name));
+    for path in &paths {
+        // Appending nothing leaves an earlier run's results.
+        let opened = OpenOptions::new().append(true).create(true).open(path);
+        opened.map_err(|error| format!("{} cannot be written: {error}", path.display()))?;
+    }
+    Ok(paths)
+}
+
 fn run(pace: Pace, out: &Path) -> Result<(), Box<dyn Error>> {
+    let [table_path, plot_path] = outputs(out)?;
     for name in [openssl::CAPABILITIES, nettle::CAPABILITIES] {
         if env::var_os(name).is_some() {
             return Err(format!(
@@ -86,18 +110,13 @@ fn run(pace: Pace, out: &Path) -> Result<(), Box<dyn Error>> {
         nettle: nettle::version(),
         compared: contest.compare()?,
         rounds: pace.rounds,
+        batches: pace.batches,
     };
     let lines = contest.measure()?;
     let table = table::text(&about, &lines);
     print!("{table}");
-    fs::create_dir_all(out)?;
-    for (name, content) in [
-        ("table.txt", table),
-        ("speed.svg", plot::draw(&about, &lines)),
-    ] {
-        let path = out.join(name);
-        fs::write(&path, content)
-            .map_err(|error| format!("{} cannot be written: {error}", path.display()))?;
+    for (path, content) in [(table_path, table), (plot_path, plot::draw(&about, &lines))] {
+        fs::write(&path, content)?;
         println!("Written: {}", path.display());
     }
     Ok(())

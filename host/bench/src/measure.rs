@@ -1,5 +1,6 @@
 //! Runs and times contestants in this process.
 
+use std::collections::HashMap;
 use std::io;
 use std::time::{Duration, Instant};
 
@@ -10,20 +11,26 @@ use crate::rows::{self, Row, Work};
 pub struct Pace {
     /// One more than a multiple of four, so that the quartiles are samples.
     pub rounds: usize,
-    /// The shortest batch of calls that counts as a sample.
+    /// How many batches of calls a round times, the least of which is its sample.
+    pub batches: usize,
+    /// The shortest time of a batch: the clock must be fine enough for it, and it is short
+    /// beside what the system lets a process run for, so that most batches are not
+    /// interrupted.
     batch: Duration,
 }
 
 impl Pace {
     pub const FULL: Pace = Pace {
         rounds: 21,
-        batch: Duration::from_millis(2),
+        batches: 7,
+        batch: Duration::from_micros(500),
     };
 
     /// Shows that the program works; its figures are rough.
     pub const QUICK: Pace = Pace {
         rounds: 5,
-        batch: Duration::from_micros(200),
+        batches: 3,
+        batch: Duration::from_micros(100),
     };
 }
 
@@ -39,9 +46,11 @@ pub trait Runner {
 /// This process.
 pub struct Here<'a> {
     rows: &'a [Row],
-    batch: Duration,
+    pace: Pace,
     /// Shared by all contestants, as long as the longest that a row asks for.
     buffer: Vec<u8>,
+    /// How many calls a batch has, by row and contestant: found out once.
+    calls: HashMap<(usize, usize), u32>,
 }
 
 impl<'a> Here<'a> {
@@ -49,8 +58,9 @@ impl<'a> Here<'a> {
         let longest = rows.iter().map(|row| row.buffer).max().unwrap_or(0);
         Self {
             rows,
-            batch: pace.batch,
+            pace,
             buffer: vec![0; longest],
+            calls: HashMap::new(),
         }
     }
 
@@ -73,25 +83,85 @@ impl Runner for Here<'_> {
     }
 
     fn nanoseconds(&mut self, row: usize, contestant: usize) -> io::Result<f64> {
-        let batch = self.batch;
+        let (pace, known) = (self.pace, self.calls.get(&(row, contestant)).copied());
         let (work, input, buffer) = self.find(row, contestant)?;
-        Ok(nanoseconds_per_call(batch, || work(input, buffer)))
+        let mut call = || work(input, buffer);
+        let calls = known.unwrap_or_else(|| calls_of_a_batch(pace, &mut call));
+        let least = least_time(pace.batches, calls, &mut call);
+        self.calls.insert((row, contestant), calls);
+        Ok(least.as_nanos() as f64 / f64::from(calls))
     }
 }
 
-/// Batches double until one is long enough for the clock; the shorter ones warm
-/// the caches after another contestant or process had them.
-fn nanoseconds_per_call(batch: Duration, mut call: impl FnMut()) -> f64 {
-    let mut calls = 1_u32;
-    loop {
+/// Doubled until even the least time of such batches is long enough: one that was
+/// interrupted seems long, and the least of several seldom was.
+fn calls_of_a_batch(pace: Pace, call: &mut impl FnMut()) -> u32 {
+    let mut calls = 1;
+    while least_time(pace.batches, calls, call) < pace.batch {
+        calls *= 2;
+    }
+    calls
+}
+
+/// The least time of several batches. Whatever else the machine does adds to a batch's
+/// time and takes nothing from it. The first batch warms the caches after another
+/// contestant or process had them.
+fn least_time(batches: usize, calls: u32, call: &mut impl FnMut()) -> Duration {
+    let times = (0..batches).map(|_| {
         let start = Instant::now();
         for _ in 0..calls {
             call();
         }
-        let elapsed = start.elapsed();
-        if elapsed >= batch {
-            return elapsed.as_nanos() as f64 / f64::from(calls);
+        start.elapsed()
+    });
+    times.min().expect("a pace has batches")
+}
+
+#[cfg(test)]
+mod tests {
+    use std::thread;
+    use std::time::{Duration, Instant};
+
+    use super::{calls_of_a_batch, least_time, Pace};
+
+    const PACE: Pace = Pace {
+        rounds: 1,
+        batches: 3,
+        batch: Duration::from_millis(50),
+    };
+
+    /// Longer than a busy machine keeps a process waiting.
+    const INTERRUPTION: Duration = Duration::from_millis(200);
+
+    fn spin(time: Duration) {
+        let start = Instant::now();
+        while start.elapsed() < time {}
+    }
+
+    /// A function whose calls of these numbers take much longer.
+    fn interrupted_in(calls: &'static [u32]) -> impl FnMut() {
+        let mut number = 0;
+        move || {
+            spin(Duration::from_micros(100));
+            if calls.contains(&number) {
+                thread::sleep(INTERRUPTION);
+            }
+            number += 1;
         }
-        calls *= 2;
+    }
+
+    #[test]
+    fn an_interrupted_batch_is_no_sample() {
+        let mut call = interrupted_in(&[0]);
+        let least = least_time(PACE.batches, 10, &mut call);
+        assert!(least >= Duration::from_millis(1), "{least:?}");
+        assert!(least < INTERRUPTION, "{least:?}");
+    }
+
+    /// One of the three batches of one call, and of two, is interrupted.
+    #[test]
+    fn an_interrupted_batch_is_not_long_enough() {
+        let calls = calls_of_a_batch(PACE, &mut interrupted_in(&[1, 4]));
+        assert!(calls > 2, "{calls}");
     }
 }

@@ -9,7 +9,7 @@ pub const USAGE: &str = "\
 usage: bench [--quick] [--out DIR]
 
   --quick    few and short rounds: shows that all works, its figures are rough
-  --out DIR  where table.txt and speed.svg go; target/bench if not given";
+  --out DIR  where speed.txt and speed.svg go; target/bench if not given";
 
 /// Arguments that the program gives to its child.
 pub const CHILD: &str = "--child";
@@ -39,7 +39,7 @@ impl Task {
         while let Some(argument) = arguments.next() {
             match argument.to_str() {
                 Some(QUICK) => pace = Pace::QUICK,
-                Some(OUT) => out = arguments.next().ok_or("--out needs a folder")?.into(),
+                Some(OUT) => out = folder(arguments.next())?,
                 Some(CHILD) => child = true,
                 Some("--help") => return Ok(Task::Help),
                 _ => return Err(format!("unknown argument {argument:?}\n{USAGE}")),
@@ -50,6 +50,15 @@ impl Task {
         } else {
             Task::Run { pace, out }
         })
+    }
+}
+
+/// What stands behind `--out`.
+fn folder(argument: Option<OsString>) -> Result<PathBuf, String> {
+    let is_folder = |argument: &OsString| !argument.as_encoded_bytes().starts_with(b"-");
+    match argument.filter(is_folder) {
+        Some(folder) => Ok(folder.into()),
+        None => Err(format!("--out wants a folder\n{USAGE}")),
     }
 }
 
@@ -79,6 +88,7 @@ mod tests {
     #[test]
     fn others_are_refused() {
         assert!(of(&["--out"]).is_err());
+        assert!(of(&["--out", "--quick"]).is_err());
         assert!(of(&["quick"]).is_err());
     }
 }

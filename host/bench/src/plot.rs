@@ -70,11 +70,12 @@ pub fn draw(about: &About, lines: &[Line]) -> String {
 fn head(svg: &mut Svg, about: &About) {
     svg.text((MARGIN, 38.0), TITLE, Font::new(22, DARK).bold());
     let run = format!(
-        "{}, {}, {}, one thread. Median of {} interleaved rounds, whiskers from quartile to quartile.",
+        "{}, {}, {}, one thread. Median of {} interleaved rounds of {} batches, whiskers from quartile to quartile.",
         about.cpu,
         about.openssl_number(),
         about.nettle,
-        about.rounds
+        about.rounds,
+        about.batches
     );
     svg.text((MARGIN, 62.0), &run, Font::new(13, GREY));
     let scales = format!(

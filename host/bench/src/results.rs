@@ -23,6 +23,11 @@ impl Summary {
             upper: sorted[last * 3 / 4],
         })
     }
+
+    /// From quartile to quartile, as a part of the median.
+    pub fn spread(self) -> f64 {
+        (self.upper - self.lower) / self.median
+    }
 }
 
 /// A row of the table, for each column what it came to.
@@ -95,6 +100,7 @@ mod tests {
         assert_eq!(Summary::of(&[]), None);
         let one = Summary::of(&[7.0]).expect("there is a sample");
         assert_eq!((one.lower, one.median, one.upper), (7.0, 7.0, 7.0));
+        assert_eq!((summary.spread(), one.spread()), (2.0 / 3.0, 0.0));
     }
 
     #[test]

@@ -14,6 +14,7 @@ pub fn about() -> About {
         nettle: "nettle 0.0".to_string(),
         compared: 100,
         rounds: 5,
+        batches: 3,
     }
 }
 

@@ -4,10 +4,7 @@
 use crate::contest::Column;
 use crate::kinds::Kind;
 use crate::numbers::{grouped, rounded};
-use crate::results::Line;
-
-/// The width of a kind's name.
-const NAME: usize = 34;
+use crate::results::{Line, Summary};
 
 const TITLE: &str = "Best other without instructions, and our ratio to it (median)";
 
@@ -15,28 +12,43 @@ const TITLE: &str = "Best other without instructions, and our ratio to it (media
 struct Standing<'a> {
     line: &'a Line,
     best: Column,
-    ratio: f64,
+    ratio: Summary,
+}
+
+/// What three rounds out of four say.
+#[derive(PartialEq, Eq)]
+enum Place {
+    Ahead,
+    /// 1 lies between the quartiles of the ratio.
+    Level,
+    Behind,
 }
 
 impl<'a> Standing<'a> {
     /// `None` where ours or the others were not measured.
     fn of(line: &'a Line) -> Option<Self> {
         let best = line.best(Column::WITHOUT)?;
-        let ratio = line.ratio(best)?.median;
+        let ratio = line.ratio(best)?;
         Some(Self { line, best, ratio })
     }
 
     fn size_and_ratio(&self) -> String {
-        let (size, ratio) = (grouped(self.line.size), rounded(self.ratio));
-        format!("{size:>6}  {:10}{ratio:>6} ", self.best.library_name())
+        let (size, ratio) = (grouped(self.line.size), rounded(self.ratio.median));
+        format!("{size:>7}  {:10}{ratio:>6}", self.best.library_name())
     }
 
     fn size(&self) -> String {
         format!("{:>8}", grouped(self.line.size))
     }
 
-    fn is_ahead(&self) -> bool {
-        self.ratio > 1.0
+    fn place(&self) -> Place {
+        if self.ratio.lower > 1.0 {
+            Place::Ahead
+        } else if self.ratio.upper < 1.0 {
+            Place::Behind
+        } else {
+            Place::Level
+        }
     }
 }
 
@@ -44,42 +56,55 @@ fn name(kind: Kind) -> String {
     format!("{}: {}", kind.section().title(), kind.name())
 }
 
-/// A row for each kind with a cell for each size, and whether ours is ahead in all.
+/// A row for each kind with a cell for each size, and in how many ours is ahead.
 pub fn lines(lines: &[Line]) -> Vec<String> {
     let standings: Vec<Standing> = lines.iter().filter_map(Standing::of).collect();
     let mut text = vec![TITLE.to_string()];
     text.extend(by_kind(&standings, Standing::size_and_ratio));
     text.push(String::new());
-    text.extend(statement(standings));
+    text.extend(statement(&standings));
     text
 }
 
-/// Whether ours is ahead in every row, and if not the sizes of each kind at which it is
-/// not.
-fn statement(mut standings: Vec<Standing>) -> Vec<String> {
-    let all = standings.len();
-    standings.retain(|standing| !standing.is_ahead());
-    let ahead = all - standings.len();
-    if ahead == all {
-        let said = format!("Ours is ahead of every other without instructions in all {all} rows.");
-        return vec![said];
+/// In how many rows ours is ahead, and the sizes of each kind at which it is not.
+fn statement(standings: &[Standing]) -> Vec<String> {
+    let at = |place: Place| -> Vec<&Standing> {
+        let standings = standings.iter();
+        standings
+            .filter(|standing| standing.place() == place)
+            .collect()
+    };
+    let [ahead, level, behind] = [Place::Ahead, Place::Level, Place::Behind].map(at);
+    let mut text = vec![format!(
+        "Ours beside the best other without instructions, by the quartiles of the ratio: \
+         ahead in {} of {} rows, level in {}, behind in {}.",
+        ahead.len(),
+        standings.len(),
+        level.len(),
+        behind.len()
+    )];
+    for (title, rows) in [("Level:", level), ("Behind:", behind)] {
+        if !rows.is_empty() {
+            text.push(title.to_string());
+            text.extend(by_kind(rows, Standing::size));
+        }
     }
-    let said = format!(
-        "Ours is ahead of every other without instructions in {ahead} of {all} rows, not in:"
-    );
-    let mut text = vec![said];
-    text.extend(by_kind(&standings, Standing::size));
     text
 }
 
 /// A row for each kind, with a cell for each of its standings.
-fn by_kind<'a>(standings: &[Standing<'a>], cell: impl Fn(&Standing<'a>) -> String) -> Vec<String> {
+fn by_kind<'a>(
+    standings: impl IntoIterator<Item = &'a Standing<'a>>,
+    cell: impl Fn(&Standing<'a>) -> String,
+) -> Vec<String> {
+    let standings: Vec<&Standing> = standings.into_iter().collect();
+    let names = standings.iter().map(|standing| name(standing.line.kind));
+    let width = names.map(|name| name.len()).max().unwrap_or(0);
     let kinds = standings.chunk_by(|a, b| a.line.kind == b.line.kind);
     kinds
         .map(|standings| {
-            let cells: String = standings.iter().map(&cell).collect();
-            let row = format!("{:NAME$}{cells}", name(standings[0].line.kind));
-            row.trim_end().to_string()
+            let cells: String = standings.iter().map(|standing| cell(standing)).collect();
+            format!("{:width$}{cells}", name(standings[0].line.kind))
         })
         .collect()
 }
@@ -111,15 +136,27 @@ mod tests {
         assert_eq!(words[..7], expected);
         assert_eq!(words[7..], ["1,392", "nettle", "1.50"]);
         let last = text.last().expect("a statement");
-        assert!(last.ends_with("in all 2 rows."), "{last}");
+        assert!(
+            last.contains("ahead in 2 of 2 rows, level in 0, behind in 0."),
+            "{last}"
+        );
     }
 
     #[test]
-    fn rows_in_which_ours_is_behind_are_named() {
-        let text = lines(&[line(64, 9e3, 2e4), line(1_392, 15e3, 4e4)]).join("\n");
-        assert!(text.contains("in 1 of 2 rows, not in:\n"), "{text}");
-        let last: Vec<&str> = text.split_whitespace().rev().take(2).collect();
-        assert_eq!(last, ["64", "GHASH"]);
+    fn rows_in_which_ours_is_not_ahead_are_named() {
+        let level = times_of([
+            (Column::Ours, vec![1e4; 5]),
+            (Column::NettleWithout, vec![5e3, 9e3, 11e3, 12e3, 13e3]),
+        ]);
+        let level = Line::new(Kind::Ghash, 1_400, &level);
+        let text = lines(&[line(64, 9e3, 2e4), level, line(1_392, 15e3, 4e4)]);
+        let said = "ahead in 1 of 3 rows, level in 1, behind in 1.";
+        assert!(text[text.len() - 5].contains(said), "{text:?}");
+        let words: Vec<&str> = text[text.len() - 4..]
+            .iter()
+            .filter_map(|line| line.split_whitespace().last())
+            .collect();
+        assert_eq!(words, ["Level:", "1,400", "Behind:", "64"]);
     }
 
     #[test]
@@ -134,6 +171,6 @@ mod tests {
 
     #[test]
     fn nothing_measured_is_nothing_ahead() {
-        assert!(lines(&[]).concat().ends_with("in all 0 rows."));
+        assert!(lines(&[]).concat().contains("ahead in 0 of 0 rows"));
     }
 }

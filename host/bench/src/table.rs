@@ -1,25 +1,20 @@
-//! The table as text, for a terminal of 160 columns.
+//! The table as text. A column is as wide as what stands in it.
 
 use crate::about::About;
 use crate::contest::Column;
 use crate::kinds::Section;
 use crate::numbers::{grouped, rounded};
 use crate::results::{Line, Summary};
+use crate::spread;
 use crate::standing;
 use crate::worst;
 
-/// Widths of a row's name, its size, a speed with its quartiles, calls a second, a
-/// time, the speeds of a group of others, the name of the best of them, a ratio with its
-/// quartiles, and one without them.
-const NAME: usize = 18;
-const SIZE: usize = 7;
-const SPEED: usize = 19;
-const RATE: usize = 12;
-const TIME: usize = 7;
-const OTHERS: usize = 24;
-const BEST: usize = 9;
-const RATIO: usize = 21;
-const MEDIAN: usize = 8;
+/// The first columns are those of every section: name, size, and three of ours.
+const FRONT: usize = 5;
+
+/// Blanks between two columns, and between those of a group of others.
+const GAP: usize = 2;
+const NARROW_GAP: usize = 1;
 
 /// Others that ours is measured against, and the name of the ratio to their best.
 struct Group {
@@ -61,87 +56,101 @@ const PLAIN: Group = Group {
 };
 
 impl Group {
-    /// The width of one of its columns.
-    fn column(&self) -> usize {
-        OTHERS / self.columns.len()
-    }
-
-    fn best_width(&self) -> usize {
-        if self.named {
-            BEST
-        } else {
-            0
-        }
-    }
-
-    fn ratio_width(&self) -> usize {
-        if self.quartiles {
-            RATIO
-        } else {
-            MEDIAN
-        }
-    }
-
-    /// The speeds of a line.
-    fn speeds(&self, line: &Line) -> String {
-        let width = self.column();
-        let speeds = self.columns.iter().map(|column| {
-            let speed = or_dash(line.speed(*column), |speed| rounded(speed.median));
-            format!("{speed:>width$}")
-        });
-        speeds.collect()
-    }
-
-    /// The ratio of a line to the best.
-    fn ratio(&self, line: &Line) -> String {
-        let best = line.best(self.columns.iter().copied());
-        let ratio = best.and_then(|best| line.ratio(best));
-        let ratio = if self.quartiles {
-            cell(ratio)
-        } else {
-            or_dash(ratio, |ratio| rounded(ratio.median))
-        };
-        let name = if self.named {
-            or_dash(best, |best| best.library_name().to_string())
-        } else {
-            String::new()
-        };
-        let (best, width) = (self.best_width(), self.ratio_width());
-        format!("{name:>best$}{ratio:>width$}")
-    }
-
     /// The names of its columns.
-    fn heads(&self) -> String {
-        let width = self.column();
+    fn heads(&self) -> Vec<&'static str> {
         let heads = self.columns.iter().map(|column| match column {
-            Column::Plain => format!("{:>width$}", "MB/s"),
-            column => format!("{:>width$}", column.library_name()),
+            Column::Plain => "MB/s",
+            column => column.library_name(),
         });
         heads.collect()
     }
 
-    fn ratio_head(&self) -> String {
-        let (best, width) = (self.best_width(), self.ratio_width());
-        let name = if self.named { "best" } else { "" };
-        format!("{name:>best$}{:>width$}", "ratio")
+    fn ratio_heads(&self) -> Vec<&'static str> {
+        if self.named {
+            vec!["best", "ratio"]
+        } else {
+            vec!["ratio"]
+        }
+    }
+
+    /// The speeds of a line.
+    fn speeds(&self, line: &Line) -> Vec<String> {
+        let speeds = self.columns.iter().map(|&column| line.speed(column));
+        speeds
+            .map(|speed| or_dash(speed, |speed| rounded(speed.median)))
+            .collect()
+    }
+
+    /// The ratio of a line to the best.
+    fn ratio(&self, line: &Line) -> Vec<String> {
+        let best = line.best(self.columns.iter().copied());
+        let ratio = best.and_then(|best| line.ratio(best));
+        let ratio = if self.quartiles {
+            with_quartiles(ratio)
+        } else {
+            or_dash(ratio, |ratio| rounded(ratio.median))
+        };
+        if self.named {
+            let name = or_dash(best, |best| best.library_name().to_string());
+            vec![name, ratio]
+        } else {
+            vec![ratio]
+        }
     }
 }
 
-/// All of it: what it was made on, the sections, where ours stands, and the worst case.
+/// Columns under one title.
+struct Span {
+    title: &'static str,
+    heads: Vec<&'static str>,
+    /// Blanks between its columns.
+    gap: usize,
+}
+
+impl Span {
+    /// Of all its columns.
+    fn width(&self, widths: &[usize]) -> usize {
+        widths.iter().sum::<usize>() + self.gap * (widths.len() - 1)
+    }
+}
+
+/// All of it: what it was made on, the sections, where ours stands, how far the samples
+/// lie apart, and the worst case.
 pub fn text(about: &About, lines: &[Line]) -> String {
     let mut text = about.lines();
     for section in Section::ALL {
-        let rows = lines.iter().filter(|line| line.kind.section() == section);
         text.push(String::new());
-        text.extend(heads(section));
-        text.extend(rows.map(|line| row(section, line)));
+        text.extend(section_lines(section, lines));
     }
     text.push(String::new());
     text.extend(standing::lines(lines));
     text.push(String::new());
+    text.extend(spread::lines(lines));
+    text.push(String::new());
     text.push(worst::statement(lines));
     text.push(String::new());
     text.join("\n")
+}
+
+/// Titles, names of the columns, and a row for each of the section's lines.
+fn section_lines(section: Section, lines: &[Line]) -> Vec<String> {
+    let (spans, widths) = (spans(section), widths(section, lines));
+    let rows = rows(section, lines);
+    let rows = rows.iter().map(|row| joined(row, &spans, &widths));
+    [titles(&spans, &widths)].into_iter().chain(rows).collect()
+}
+
+/// The cells of the section: the names of its columns, and those of each line.
+fn rows(section: Section, lines: &[Line]) -> Vec<Vec<String>> {
+    let heads = heads(section).into_iter().map(str::to_string).collect();
+    let lines = of(section, lines).map(|line| cells(section, line));
+    [heads].into_iter().chain(lines).collect()
+}
+
+fn of(section: Section, lines: &[Line]) -> impl Iterator<Item = &Line> {
+    lines
+        .iter()
+        .filter(move |line| line.kind.section() == section)
 }
 
 fn groups(section: Section) -> &'static [Group] {
@@ -151,59 +160,116 @@ fn groups(section: Section) -> &'static [Group] {
     }
 }
 
-/// A line with the names of groups of columns, and one with those of the columns.
-fn heads(section: Section) -> [String; 2] {
+fn spans(section: Section) -> Vec<Span> {
     let rate = match section {
         Section::Datagrams | Section::Forgeries => "datagrams/s",
         _ => "calls/s",
     };
-    let mut titles = format!("{:width$}", section.title(), width = NAME + SIZE);
-    titles += &title(SPEED + RATE + TIME, "ours");
-    let mut heads = format!("{:NAME$}{:>SIZE$}", "", "bytes");
-    heads += &format!("{:>SPEED$}{rate:>RATE$}{:>TIME$}", "MB/s", "µs");
-    for group in groups(section) {
-        titles += &title(OTHERS, group.title);
-        heads += &group.heads();
-    }
-    for group in groups(section) {
-        titles += &title(group.best_width() + group.ratio_width(), group.ratio);
-        heads += &group.ratio_head();
-    }
-    [titles, heads].map(|line| line.trim_end().to_string())
-}
-
-/// A name over the columns that it holds for, with a gap before them.
-fn title(width: usize, name: &str) -> String {
-    let name = format!(" {name} ");
-    format!("  {name:─^width$}", width = width - 2)
-}
-
-fn row(section: Section, line: &Line) -> String {
-    let mut text = format!("{:NAME$}{:>SIZE$}", line.kind.name(), grouped(line.size));
-    text += &format!("{:>SPEED$}", cell(line.speed(Column::Ours)));
-    let rate = line.rate();
-    text += &format!("{:>RATE$}", or_dash(rate, |rate| grouped(rate as usize)));
-    text += &format!("{:>TIME$}", or_dash(rate, |rate| rounded(1e6 / rate)));
+    let span = |title, heads, gap| Span { title, heads, gap };
+    let mut spans = vec![
+        span(section.title(), vec!["", "bytes"], GAP),
+        span("ours", vec!["MB/s", rate, "µs"], GAP),
+    ];
     let groups = groups(section).iter();
-    text.extend(groups.clone().map(|group| group.speeds(line)));
-    text.extend(groups.map(|group| group.ratio(line)));
+    spans.extend(
+        groups
+            .clone()
+            .map(|group| span(group.title, group.heads(), NARROW_GAP)),
+    );
+    spans.extend(groups.map(|group| span(group.ratio, group.ratio_heads(), GAP)));
+    spans
+}
+
+fn heads(section: Section) -> Vec<&'static str> {
+    let spans = spans(section).into_iter();
+    spans.flat_map(|span| span.heads).collect()
+}
+
+/// A line's cells, in the order of the section's heads.
+fn cells(section: Section, line: &Line) -> Vec<String> {
+    let rate = line.rate();
+    let mut cells = vec![
+        line.kind.name(),
+        grouped(line.size),
+        with_quartiles(line.speed(Column::Ours)),
+        or_dash(rate, |rate| grouped(rate as usize)),
+        or_dash(rate, |rate| rounded(1e6 / rate)),
+    ];
+    let groups = groups(section).iter();
+    cells.extend(groups.clone().flat_map(|group| group.speeds(line)));
+    cells.extend(groups.flat_map(|group| group.ratio(line)));
+    cells
+}
+
+/// As wide as the widest cell, in all sections that have the column, and together wide
+/// enough for a title.
+fn widths(section: Section, lines: &[Line]) -> Vec<usize> {
+    let is_plain = |section| section == Section::Subkeys;
+    let mut widths = vec![0; heads(section).len()];
+    for other in Section::ALL {
+        let columns = if is_plain(other) == is_plain(section) {
+            widths.len()
+        } else {
+            FRONT
+        };
+        for row in rows(other, lines) {
+            for (width_now, cell) in widths[..columns].iter_mut().zip(row) {
+                *width_now = width(&cell).max(*width_now);
+            }
+        }
+    }
+    let mut first = 0;
+    for span in spans(section) {
+        let own = first..first + span.heads.len();
+        // With a line and a blank on either side.
+        let wanted = width(span.title) + 4;
+        widths[first] += wanted.saturating_sub(span.width(&widths[own.clone()]));
+        first = own.end;
+    }
+    widths
+}
+
+fn width(text: &str) -> usize {
+    text.chars().count()
+}
+
+/// The first cell begins its column, the others end theirs.
+fn joined(cells: &[String], spans: &[Span], widths: &[usize]) -> String {
+    let mut gaps = spans.iter().flat_map(|span| {
+        let inner = span.heads.iter().skip(1).map(|_| span.gap);
+        std::iter::once(GAP).chain(inner)
+    });
+    gaps.next();
+    let mut text = format!("{:width$}", cells[0], width = widths[0]);
+    for ((cell, width), gap) in cells.iter().zip(widths).skip(1).zip(gaps) {
+        text += &format!("{:gap$}{cell:>width$}", "");
+    }
+    text
+}
+
+/// Each title over the columns that it holds for. The first is the section's.
+fn titles(spans: &[Span], widths: &[usize]) -> String {
+    let mut text = String::new();
+    let mut rest = widths;
+    for span in spans {
+        let (widths, behind) = rest.split_at(span.heads.len());
+        let width = span.width(widths);
+        rest = behind;
+        if text.is_empty() {
+            text = format!("{:width$}", span.title);
+        } else {
+            let title = format!(" {} ", span.title);
+            text += &format!("{:GAP$}{title:─^width$}", "");
+        }
+    }
     text
 }
 
 /// Median and quartiles.
-fn cell(summary: Option<Summary>) -> String {
+fn with_quartiles(summary: Option<Summary>) -> String {
     or_dash(summary, |summary| {
-        let Summary {
-            lower,
-            median,
-            upper,
-        } = summary;
-        format!(
-            "{} ({}–{})",
-            rounded(median),
-            rounded(lower),
-            rounded(upper)
-        )
+        let [median, lower, upper] = [summary.median, summary.lower, summary.upper].map(rounded);
+        format!("{median} ({lower}–{upper})")
     })
 }
 
@@ -213,7 +279,7 @@ fn or_dash<T>(value: Option<T>, write: impl Fn(T) -> String) -> String {
 
 #[cfg(test)]
 mod tests {
-    use super::{heads, row, text};
+    use super::{cells, section_lines, text, width};
     use crate::contest::Column;
     use crate::kinds::{Kind, Section};
     use crate::results::Line;
@@ -222,7 +288,7 @@ mod tests {
     #[test]
     fn a_terminal_of_160_columns_holds_it() {
         for line in text(&samples::about(), &samples::lines()).lines() {
-            assert!(line.chars().count() <= 160, "{line}");
+            assert!(width(line) <= 160, "{line}");
         }
     }
 
@@ -236,33 +302,48 @@ mod tests {
             (Column::OpenSslWith, vec![1e3]),
         ]);
         let line = Line::new(Kind::Ghash, 1_000, &times);
-        let row = row(Section::Primitives, &line);
-        let words: Vec<&str> = row.split_whitespace().collect();
-        let ours = ["GHASH", "1,000", "100", "(100–100)", "100,000", "10.0"];
+        let ours = ["GHASH", "1,000", "100 (100–100)", "100,000", "10.0"];
         let theirs = ["25.0", "50.0", "20.0", "1,000", "-", "-"];
-        let ratios = ["nettle", "2.00", "(2.00–2.00)", "OpenSSL", "0.100"];
-        assert_eq!(words, [&ours[..], &theirs, &ratios].concat());
+        let ratios = ["nettle", "2.00 (2.00–2.00)", "OpenSSL", "0.100"];
+        let expected = [&ours[..], &theirs, &ratios].concat();
+        assert_eq!(cells(Section::Primitives, &line), expected);
     }
 
     #[test]
     fn heads_name_whom_ours_is_measured_against() {
-        let [groups, columns] = heads(Section::Datagrams);
+        let lines = section_lines(Section::Datagrams, &[]);
+        let (groups, columns) = (&lines[0], &lines[1]);
         assert!(groups.contains(" no instructions ") && groups.contains("─ instructions "));
         assert!(columns.contains("datagrams/s"));
         for library in ["OpenSSL", "nettle", "BearSSL"] {
             assert_eq!(columns.matches(library).count(), 2, "{library}");
         }
-        let [groups, columns] = heads(Section::Subkeys);
+        let lines = section_lines(Section::Subkeys, &[]);
+        let (groups, columns) = (&lines[0], &lines[1]);
         assert!(groups.contains("plain Rust") && !groups.contains("instructions"));
         assert!(!columns.contains("OpenSSL"));
     }
 
+    /// Also where numbers are longer than any that was seen.
     #[test]
-    fn heads_are_as_wide_as_rows() {
-        for line in samples::lines() {
-            let section = line.kind.section();
-            let width = row(section, &line).chars().count();
-            assert_eq!(heads(section).map(|head| head.chars().count()), [width; 2]);
+    fn columns_are_as_wide_as_their_cells() {
+        let times = samples::times_of(Column::ALL.map(|column| (column, vec![1e-3, 1e9, 3e3])));
+        let mut lines = samples::lines();
+        lines.push(Line::new(Kind::Ghash, 65_504, &times));
+        for section in Section::ALL {
+            let rows = section_lines(section, &lines);
+            for row in &rows {
+                assert_eq!(width(row), width(&rows[0]), "{row}");
+            }
+            for line in lines.iter().filter(|line| line.kind.section() == section) {
+                let cells = cells(section, line);
+                let alone = |row: &&String| {
+                    cells[1..]
+                        .iter()
+                        .all(|cell| row.contains(&format!(" {cell}")))
+                };
+                assert!(rows.iter().any(|row| alone(&row)), "{cells:?}");
+            }
         }
     }
 }

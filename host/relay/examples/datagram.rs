@@ -53,6 +53,7 @@ fn serve(server: &UdpSocket, key: &Key) -> Result<(), Box<dyn Error>> {
 
     let copy = clients.open_server(key, now()?, peer, &wire[..length], &mut plaintext);
     println!("server   refuses a copy: {}", copy.unwrap_err());
+    println!("server   has {}", clients.display(now()?));
 
     // The answer goes to where the session was last heard.
     let replies_to = header.session_id;

@@ -3,18 +3,19 @@
 use std::fmt;
 use std::net::{Ipv4Addr, Ipv6Addr, SocketAddr};
 
-use crate::Refusal;
+use crate::Invalid;
 
 /// Kind bytes.
 pub(crate) const IPV4: u8 = 1;
 pub(crate) const NAME: u8 = 3;
 pub(crate) const IPV6: u8 = 4;
 
-/// Kind, length, the longest name and the port.
-const LONGEST: usize = 1 + 1 + 255 + 2;
-
 /// The bytes of a port.
 const PORT: usize = 2;
+
+/// Kind, length, a name of one byte or the longest one, and the port.
+const SHORTEST: usize = 1 + 1 + 1 + PORT;
+const LONGEST: usize = 1 + 1 + 255 + PORT;
 
 /// An address to seal: an IPv4 or IPv6 address or a name, and a port.
 ///
@@ -29,7 +30,7 @@ const PORT: usize = 2;
 ///
 /// let site = Address::name(b"example.com", 443)?;
 /// assert_eq!(site.to_string(), "example.com:443");
-/// # Ok::<(), relay::Refusal>(())
+/// # Ok::<(), relay::Invalid>(())
 /// ```
 #[derive(Clone)]
 pub struct Address {
@@ -42,11 +43,12 @@ impl Address {
     ///
     /// # Errors
     ///
-    /// [`Refusal::Argument`] if the name is empty or longer than 255 bytes.
-    pub fn name(name: &[u8], port: u16) -> Result<Self, Refusal> {
-        match u8::try_from(name.len()) {
-            Ok(length @ 1..) => Ok(Self::of(&[NAME, length], name, port)),
-            _ => Err(Refusal::Argument),
+    /// [`Invalid::NameLength`] if the name is empty or longer than 255 bytes.
+    pub fn name(name: &[u8], port: u16) -> Result<Self, Invalid> {
+        let length = name.len();
+        match u8::try_from(length) {
+            Ok(byte @ 1..) => Ok(Self::of(&[NAME, byte], name, port)),
+            _ => Err(Invalid::NameLength { length }),
         }
     }
 
@@ -55,16 +57,20 @@ impl Address {
     ///
     /// # Errors
     ///
-    /// [`Refusal::Argument`] if they are not.
-    pub fn from_bytes(bytes: &[u8]) -> Result<Self, Refusal> {
-        let length = match bytes {
+    /// [`Invalid::AddressKind`], [`Invalid::NameLength`] (0) or
+    /// [`Invalid::AddressLength`] if they are not.
+    pub fn from_bytes(bytes: &[u8]) -> Result<Self, Invalid> {
+        let wanted = match *bytes {
             [IPV4, ..] => 1 + 4 + PORT,
             [IPV6, ..] => 1 + 16 + PORT,
-            [NAME, name @ 1..=255, ..] => 2 + usize::from(*name) + PORT,
-            _ => return Err(Refusal::Argument),
+            [NAME, 0, ..] => return Err(Invalid::NameLength { length: 0 }),
+            [NAME, name, ..] => 2 + usize::from(name) + PORT,
+            [NAME] | [] => SHORTEST,
+            [kind, ..] => return Err(Invalid::AddressKind { kind }),
         };
-        if bytes.len() != length {
-            return Err(Refusal::Argument);
+        let length = bytes.len();
+        if length != wanted {
+            return Err(Invalid::AddressLength { wanted, length });
         }
         let mut address = Self {
             bytes: [0; LONGEST],

@@ -3,7 +3,7 @@
 use std::fmt;
 
 use crate::secret;
-use crate::{Method, Refusal};
+use crate::{Invalid, Method};
 
 /// The longest key, in bytes.
 const LONGEST: usize = 32;
@@ -25,21 +25,22 @@ impl Key {
     ///
     /// # Errors
     ///
-    /// [`Refusal::Settings`] if there are not [`key_len`](Method::key_len) bytes.
+    /// [`Invalid::KeyLength`] if there are not [`key_len`](Method::key_len) bytes.
     ///
     /// ```
     /// use relay::{Key, Method};
     ///
     /// let key = Key::new(Method::Aes128Gcm, &[0x4b; 16])?;
     /// assert_eq!(format!("{key:?}"), "Key { method: Aes128Gcm, .. }");
-    /// # Ok::<(), relay::Refusal>(())
+    /// # Ok::<(), relay::Invalid>(())
     /// ```
-    pub fn new(method: Method, key: &[u8]) -> Result<Self, Refusal> {
-        if key.len() != method.key_len() {
-            return Err(Refusal::Settings);
+    pub fn new(method: Method, key: &[u8]) -> Result<Self, Invalid> {
+        let length = key.len();
+        if length != method.key_len() {
+            return Err(Invalid::KeyLength { method, length });
         }
         let mut bytes = [0; LONGEST];
-        bytes[..key.len()].copy_from_slice(key);
+        bytes[..length].copy_from_slice(key);
         Ok(Self { method, bytes })
     }
 
@@ -70,7 +71,7 @@ impl Drop for Key {
 #[cfg(test)]
 mod tests {
     use super::Key;
-    use crate::{Method, Refusal};
+    use crate::{Invalid, Method};
 
     #[test]
     fn only_the_methods_own_length_is_taken() {
@@ -79,9 +80,9 @@ mod tests {
                 let made = Key::new(method, &vec![1; length]);
                 match made {
                     Ok(key) => assert_eq!(key.bytes().len(), method.key_len()),
-                    Err(refusal) => {
+                    Err(invalid) => {
                         assert_ne!(length, method.key_len());
-                        assert_eq!(refusal, Refusal::Settings);
+                        assert_eq!(invalid, Invalid::KeyLength { method, length });
                     }
                 }
             }

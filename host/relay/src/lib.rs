@@ -93,8 +93,9 @@
 //!
 //! # Refusals
 //!
-//! Every call gives its result or a [`Refusal`], and says which ones and in which
-//! order. A refusal leaves tables, pools and sending sessions as they were. One that
+//! What cannot be made at all (a key of a wrong length, an empty name) is [`Invalid`],
+//! which says what was wrong. Every call gives its result or a [`Refusal`], and says
+//! which ones and in which order. A refusal leaves tables, pools and sending sessions as they were. One that
 //! comes before the payload's tag was found good leaves the output buffer as it
 //! was; one that comes later sets the bytes of the plaintext to zero. Bytes behind
 //! those due are never written.
@@ -110,6 +111,16 @@
 //! There is no global state. The types are `Send` and `Sync`, and what a call
 //! changes it borrows mutably.
 //!
+//! # Linking
+//!
+//! The build links `librelay.a`: the one in the folder that the environment variable
+//! `RELAY_LIB_DIR` names by its absolute path, or else the one that `make library` puts
+//! in the repository's `target/staticlib`.
+//!
+//! # Stack
+//!
+//! A call takes up to 8,664 bytes of stack in the library; allow 16 KiB.
+//!
 //! # Not constant time
 //!
 //! AES and GHASH look up tables by secret bytes. Do not share the processor with
@@ -123,6 +134,7 @@ mod answer;
 #[allow(unsafe_code)]
 mod ffi;
 mod header;
+mod invalid;
 mod key;
 mod method;
 mod peer;
@@ -137,6 +149,7 @@ mod target;
 
 pub use address::Address;
 pub use header::Header;
+pub use invalid::Invalid;
 pub use key::Key;
 pub use method::{Method, UnknownMethod};
 pub use peer::Peer;

@@ -77,17 +77,24 @@ impl FromStr for Method {
         Self::ALL
             .into_iter()
             .find(|method| method.name() == name)
-            .ok_or(UnknownMethod)
+            .ok_or_else(|| UnknownMethod {
+                name: name.to_string(),
+            })
     }
 }
 
 /// There is no method of that name.
-#[derive(Clone, Copy, Debug, PartialEq, Eq)]
-pub struct UnknownMethod;
+#[derive(Clone, Debug, PartialEq, Eq)]
+pub struct UnknownMethod {
+    /// The name that was given.
+    pub name: String,
+}
 
 impl fmt::Display for UnknownMethod {
     fn fmt(&self, f: &mut fmt::Formatter<'_>) -> fmt::Result {
-        f.write_str("no method of that name")
+        let [first, second] = Method::ALL;
+        let name = &self.name;
+        write!(f, "a method is {first} or {second}, not {name:?}")
     }
 }
 
@@ -95,7 +102,7 @@ impl Error for UnknownMethod {}
 
 #[cfg(test)]
 mod tests {
-    use super::{Method, UnknownMethod};
+    use super::Method;
 
     #[test]
     fn names_and_numbers_are_read_back() {
@@ -108,7 +115,8 @@ mod tests {
     #[test]
     fn other_names_and_numbers_are_none() {
         for name in ["", "aes-128-gcm", "2022-BLAKE3-AES-128-GCM"] {
-            assert_eq!(name.parse::<Method>(), Err(UnknownMethod));
+            let unknown = name.parse::<Method>().unwrap_err();
+            assert_eq!(unknown.name, name);
         }
         for number in [0, 3, 257, (1 << 32) + 1, u64::MAX] {
             assert_eq!(Method::from_number(number), None);

@@ -1,5 +1,6 @@
 //! Where datagrams come from.
 
+use std::fmt;
 use std::net::{Ipv6Addr, SocketAddr};
 
 /// The address that a datagram came from: two numbers and a port.
@@ -17,6 +18,7 @@ use std::net::{Ipv6Addr, SocketAddr};
 /// let peer = Peer::from(caller);
 /// assert_eq!((peer.first, peer.second, peer.port), (0, 0xffff_c000_0201, 4000));
 /// assert_eq!(SocketAddr::from(peer), caller);
+/// assert_eq!(peer.to_string(), "192.0.2.1:4000");
 /// # Ok::<(), std::net::AddrParseError>(())
 /// ```
 #[derive(Clone, Copy, Debug, PartialEq, Eq, Hash)]
@@ -50,5 +52,12 @@ impl From<Peer> for SocketAddr {
         // Canonical: an IPv4-mapped address becomes the IPv4 address.
         let address = Ipv6Addr::from(number).to_canonical();
         Self::new(address, peer.port)
+    }
+}
+
+/// As a [`SocketAddr`].
+impl fmt::Display for Peer {
+    fn fmt(&self, f: &mut fmt::Formatter<'_>) -> fmt::Result {
+        SocketAddr::from(*self).fmt(f)
     }
 }

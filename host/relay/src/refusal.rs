@@ -14,17 +14,21 @@ use crate::answer;
 /// that opens.
 ///
 /// ```
-/// use relay::{Key, Method, Refusal};
+/// use relay::{Key, Method, Peer, Refusal, Table};
 ///
-/// let refusal = Key::new(Method::Aes256Gcm, &[7; 16]).unwrap_err();
-/// assert_eq!(refusal, Refusal::Settings);
-/// assert_eq!(refusal.number(), 1);
+/// let key = Key::new(Method::Aes256Gcm, &[7; 32])?;
+/// let caller = Peer { first: 0, second: 1, port: 4000 };
+/// let refusal = Table::new(60)?.open_server(&key, 1_000, caller, &[0; 31], &mut []).unwrap_err();
+/// assert_eq!(refusal, Refusal::Length);
+/// assert_eq!(refusal.number(), 2);
+/// # Ok::<(), Refusal>(())
 /// ```
 #[derive(Clone, Copy, Debug, PartialEq, Eq, Hash)]
 pub enum Refusal {
     /// Number 1: a key or a salt has another length than its method asks for, a
     /// retention is not lawful, a pool is another method's, or words that the host
-    /// brought hold no lawful state.
+    /// brought hold no lawful state. Keys and retentions are looked at where they are
+    /// made, as [`Invalid`](crate::Invalid).
     Settings,
     /// Number 2: a datagram has under 32 or over 65,507 bytes, or a chunk over
     /// 65,535.
@@ -109,10 +113,12 @@ impl Refusal {
 impl fmt::Display for Refusal {
     fn fmt(&self, f: &mut fmt::Formatter<'_>) -> fmt::Result {
         let words = match self {
-            Self::Settings => "unlawful key, salt, retention, pool or state",
-            Self::Length => "too short or too long",
+            Self::Settings => {
+                "a salt of the wrong length, another method's pool, or unlawful words"
+            }
+            Self::Length => "a datagram under 32 or over 65,507 bytes, or a chunk over 65,535",
             Self::Room => "the output buffer is too short",
-            Self::NotAuthentic => "not authentic, or the stream has ended",
+            Self::NotAuthentic => "a wrong tag, or the stream has ended",
             Self::Malformed => "malformed header, address or padding",
             Self::Type => "wrong type byte",
             Self::Time => "timestamp over 30 seconds from the clock",

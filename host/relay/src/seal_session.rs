@@ -2,7 +2,7 @@
 
 use crate::answer;
 use crate::ffi::{self, SessionWords};
-use crate::{Address, Key, Refusal, MAX_DATAGRAM};
+use crate::{Address, Invalid, Key, Refusal, MAX_DATAGRAM};
 
 /// Bytes of a datagram besides address, padding and payload. A server's also has
 /// the client session ID.
@@ -14,9 +14,10 @@ const SERVER: u64 = 1;
 
 /// A sending session, which seals datagrams.
 ///
-/// Each datagram sealed takes the next packet ID, from 0 on. Under one key a packet
-/// ID of a session must never be sealed twice, so a session cannot be copied, and
-/// its ID must be new and random for each session.
+/// Each datagram sealed takes the next packet ID, from 0 on. Under one key a session ID
+/// and a packet ID must never be sealed twice together: they give the subkey and the
+/// nonce, and two texts under one nonce can be read and forged. So a session cannot be
+/// copied, and its ID must be random and new, among those of clients and servers alike.
 ///
 /// ```
 /// use relay::{Address, Key, Method, SealSession};
@@ -48,12 +49,18 @@ impl SealSession {
     /// Begins a server's session of an ID, which is to be random, in reply to a
     /// client's session.
     ///
+    /// The ID must differ from every other session ID under the key, those of all
+    /// clients included. Only `client` is compared here; a host that would not leave the
+    /// rest to chance compares it with the [`sessions`](crate::Table::sessions) of its
+    /// table and with those that it began itself.
+    ///
     /// # Errors
     ///
-    /// [`Refusal::Argument`] if both have the same ID.
-    pub fn server(id: u64, client: u64) -> Result<Self, Refusal> {
-        let words = ffi::session_begin_server(id, client)?;
-        Ok(Self { words })
+    /// [`Invalid::SessionId`] if both have the same ID.
+    pub fn server(id: u64, client: u64) -> Result<Self, Invalid> {
+        ffi::session_begin_server(id, client)
+            .map(|words| Self { words })
+            .map_err(|_| Invalid::SessionId { id })
     }
 
     /// Seals one datagram to the front of `out` and gives its length.

@@ -1,5 +1,7 @@
 //! The sessions that a table remembers.
 
+use std::fmt;
+
 use crate::Peer;
 
 /// The words of a record.
@@ -45,8 +47,9 @@ impl Session {
         })
     }
 
-    /// How many packet IDs of the window are marked as accepted, 256 at most.
-    pub fn accepted(&self) -> u32 {
+    /// How many packet IDs of the window are marked as accepted: 256 at most. IDs that
+    /// have left the window are not among them.
+    pub fn marked_in_window(&self) -> u32 {
         self.marks.iter().map(|word| word.count_ones()).sum()
     }
 
@@ -68,5 +71,19 @@ impl Session {
             None => true,
             Some(distance) => distance < WINDOW && !self.is_marked(packet_id),
         }
+    }
+}
+
+impl fmt::Display for Session {
+    fn fmt(&self, f: &mut fmt::Formatter<'_>) -> fmt::Result {
+        write!(
+            f,
+            "{:016x} from {}, last at {}, highest packet {}, {} of {WINDOW} marked",
+            self.id,
+            self.peer,
+            self.last_time,
+            self.highest_packet,
+            self.marked_in_window()
+        )
     }
 }

@@ -4,7 +4,7 @@ use std::fmt;
 
 use crate::ffi::{self, TableWords};
 use crate::session::{Session, RECORD_WORDS};
-use crate::{Header, Key, Peer, Refusal};
+use crate::{Header, Invalid, Key, Peer, Refusal};
 
 /// How many sessions a table can hold.
 const SESSIONS: usize = 64;
@@ -53,11 +53,13 @@ impl Table {
     ///
     /// # Errors
     ///
-    /// [`Refusal::Settings`] for any other retention.
-    pub fn new(retention: u64) -> Result<Self, Refusal> {
+    /// [`Invalid::Retention`] for any other retention.
+    pub fn new(retention: u64) -> Result<Self, Invalid> {
         let mut words = Box::new([0; Self::WORDS]);
-        ffi::table_new(retention, &mut words)?;
-        Ok(Self { words })
+        // The table has its length, so the library can refuse the retention alone.
+        ffi::table_new(retention, &mut words)
+            .map(|()| Self { words })
+            .map_err(|_| Invalid::Retention { seconds: retention })
     }
 
     /// Opens a client's datagram, for a server.
@@ -130,6 +132,30 @@ impl Table {
         })
     }
 
+    /// Shows the sessions that are alive at a clock: how many there are, and a line
+    /// for each.
+    ///
+    /// ```
+    /// # use std::net::SocketAddr;
+    /// # use relay::{Address, Key, Method, Peer, Refusal, SealSession, Table};
+    /// # let key = Key::new(Method::Aes128Gcm, &[0x4b; 16])?;
+    /// # let target = Address::name(b"example.com", 443)?;
+    /// # let caller = Peer::from(SocketAddr::from(([192, 0, 2, 1], 4000)));
+    /// # let mut sealed = [0; 128];
+    /// # let length = SealSession::client(7).seal(&key, 1_000, &target, 0, b"hello", &mut sealed)?;
+    /// # let mut table = Table::new(60)?;
+    /// # table.open_server(&key, 1_001, caller, &sealed[..length], &mut [0; 128])?;
+    /// assert_eq!(
+    ///     table.display(1_010).to_string(),
+    ///     "1 of 64 sessions alive at 1010, retention 60 seconds\n\
+    ///      0000000000000007 from 192.0.2.1:4000, last at 1001, highest packet 0, 1 of 256 marked"
+    /// );
+    /// # Ok::<(), Refusal>(())
+    /// ```
+    pub fn display(&self, clock: u64) -> impl fmt::Display + '_ {
+        Display { table: self, clock }
+    }
+
     /// Where to send replies to a session that is alive at a clock.
     pub fn peer_of(&self, session_id: u64, clock: u64) -> Option<Peer> {
         self.sessions(clock)
@@ -153,6 +179,26 @@ impl Table {
         Self {
             words: Box::new(*words),
         }
+    }
+}
+
+/// A table's sessions at a clock.
+struct Display<'a> {
+    table: &'a Table,
+    clock: u64,
+}
+
+impl fmt::Display for Display<'_> {
+    fn fmt(&self, f: &mut fmt::Formatter<'_>) -> fmt::Result {
+        let sessions: Vec<Session> = self.table.sessions(self.clock).collect();
+        let (alive, clock, retention) = (sessions.len(), self.clock, self.table.retention());
+        write!(
+            f,
+            "{alive} of {SESSIONS} sessions alive at {clock}, retention {retention} seconds"
+        )?;
+        sessions
+            .iter()
+            .try_for_each(|session| write!(f, "\n{session}"))
     }
 }
 

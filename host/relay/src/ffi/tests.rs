@@ -17,17 +17,24 @@ fn header() -> String {
     code
 }
 
-/// The header's `#define`s with a number.
-fn numbers() -> HashMap<String, u64> {
-    let mut numbers = HashMap::new();
+/// The header's `#define`s with a value.
+fn defines() -> HashMap<String, String> {
+    let mut values = HashMap::new();
     for line in header().lines() {
         let words: Vec<&str> = line.split_whitespace().collect();
-        if let ["#define", name, number] = words[..] {
-            let number = number.parse().expect("a number");
-            numbers.insert(name.to_string(), number);
+        if let ["#define", name, value] = words[..] {
+            values.insert(name.to_string(), value.to_string());
         }
     }
-    numbers
+    values
+}
+
+/// Those whose value is a number.
+fn numbers() -> HashMap<String, u64> {
+    defines()
+        .into_iter()
+        .filter_map(|(name, value)| Some((name, value.parse().ok()?)))
+        .collect()
 }
 
 /// What stands in parentheses behind each function's name, less `relay_`. A
@@ -95,8 +102,16 @@ fn sizes_are_the_headers() {
 }
 
 #[test]
+fn the_version_is_the_headers() {
+    let quoted = format!("{:?}", env!("CARGO_PKG_VERSION"));
+    assert_eq!(defines()["RELAY_VERSION"], quoted);
+}
+
+#[test]
 fn methods_and_refusals_have_the_headers_numbers() {
-    let numbers = numbers();
+    let (numbers, header) = (numbers(), header());
+    let names: Vec<&str> = header.split("case RELAY_REFUSED_").skip(1).collect();
+    assert_eq!(names.len(), 13);
     assert_eq!(numbers["RELAY_AES_128_GCM"], Method::Aes128Gcm.number());
     assert_eq!(numbers["RELAY_AES_256_GCM"], Method::Aes256Gcm.number());
     for (name, refusal) in [
@@ -114,11 +129,12 @@ fn methods_and_refusals_have_the_headers_numbers() {
         ("ARGUMENT", Refusal::Argument),
         ("BINDING", Refusal::Binding),
     ] {
-        assert_eq!(
-            numbers[&format!("RELAY_{name}")],
-            refusal.number(),
-            "{name}"
-        );
+        let number = refusal.number();
+        assert_eq!(numbers[&format!("RELAY_REFUSED_{name}")], number);
+        // In words, as relay_refusal_name gives it.
+        let words: Vec<&str> = names[number as usize - 1].split('"').collect();
+        assert!(words[0].starts_with(&format!("{name}:")), "{name}");
+        assert_eq!(words[1], name.to_lowercase().replace('_', " "));
     }
 }
 
@@ -148,14 +164,25 @@ fn answers_have_the_headers_order() {
         "HEAD_LENGTH",
     ];
     let places = |names: &[&str]| -> Vec<u64> {
-        let numbers = names.iter().map(|name| numbers[&format!("RELAY_{name}")]);
+        let numbers = names
+            .iter()
+            .map(|name| numbers[&format!("RELAY_AT_{name}")]);
         numbers.collect()
     };
     assert!(places(&datagram).into_iter().eq(0..9));
     assert!(places(&request).into_iter().eq(0..8));
     assert_eq!(
-        places(&["USED", "CHUNK_LENGTH", "SEALED_LENGTH"]),
-        [0, 1, 0]
+        places(&["USED", "CHUNK_LENGTH", "SEALED_LENGTH", "WANTED"]),
+        [0, 1, 0, 0]
     );
-    assert_eq!(places(&["TURN", "TURN_ENDED", "TURN_PAYLOAD"]), [0, 0, 2]);
+}
+
+#[test]
+fn streams_have_the_headers_turns() {
+    let numbers = numbers();
+    let words = ["STREAM_TURN", "STREAM_METHOD", "STREAM_COUNTER"];
+    let turns = ["TURN_ENDED", "TURN_LENGTH", "TURN_PAYLOAD", "TURN_SEALING"];
+    let value = |name: &&str| numbers[&format!("RELAY_{name}")];
+    assert!(words.iter().map(value).eq(0..3));
+    assert!(turns.iter().map(value).eq(0..4));
 }

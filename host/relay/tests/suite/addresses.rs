@@ -2,7 +2,7 @@
 
 use std::net::SocketAddr;
 
-use relay::{Address, Peer, Refusal};
+use relay::{Address, Invalid, Peer};
 
 use crate::common::addresses;
 
@@ -28,12 +28,20 @@ fn bytes_are_read_back() {
 fn nothing_may_be_missing_or_stand_behind() {
     for address in addresses() {
         let mut bytes = address.as_bytes().to_vec();
-        for length in 0..bytes.len() {
+        let whole = bytes.len();
+        // Without kind and length the shortest address is wanted.
+        let told_by = if bytes[0] == 3 { 2 } else { 1 };
+        for length in 0..whole {
             let cut = Address::from_bytes(&bytes[..length]);
-            assert_eq!(cut, Err(Refusal::Argument));
+            let wanted = if length < told_by { 5 } else { whole };
+            assert_eq!(cut, Err(Invalid::AddressLength { wanted, length }));
         }
         bytes.push(0);
-        assert_eq!(Address::from_bytes(&bytes), Err(Refusal::Argument));
+        let longer = Invalid::AddressLength {
+            wanted: whole,
+            length: whole + 1,
+        };
+        assert_eq!(Address::from_bytes(&bytes), Err(longer));
     }
 }
 
@@ -47,6 +55,8 @@ fn three_of_256_kinds_are_taken() {
             Address::from_bytes(&bytes).is_ok()
         });
         assert_eq!(lawful, [1, 3, 4].contains(&kind), "kind {kind}");
+        let refused = Address::from_bytes(&[kind; 7]).err();
+        assert_eq!(refused == Some(Invalid::AddressKind { kind }), !lawful);
     }
 }
 
@@ -57,13 +67,10 @@ fn names_have_1_to_255_bytes() {
     }
     for length in [0, 256, 65_537] {
         let name = vec![b'n'; length];
-        assert_eq!(Address::name(&name, 1), Err(Refusal::Argument));
+        assert_eq!(Address::name(&name, 1), Err(Invalid::NameLength { length }));
     }
-    assert_eq!(
-        Address::from_bytes(&[3, 0, 0, 80]),
-        Err(Refusal::Argument),
-        "an empty name"
-    );
+    let empty = Invalid::NameLength { length: 0 };
+    assert_eq!(Address::from_bytes(&[3, 0, 0, 80]), Err(empty));
 }
 
 #[test]

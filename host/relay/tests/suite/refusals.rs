@@ -13,8 +13,8 @@ const METHOD: Method = Method::Aes128Gcm;
 const OTHER: Method = Method::Aes256Gcm;
 
 /// The number, for a refusal.
-fn number<T>(result: Result<T, Refusal>) -> Option<u64> {
-    result.err().map(Refusal::number)
+fn number<T>(result: Result<T, impl Into<Refusal>>) -> Option<u64> {
+    result.err().map(|error| error.into().number())
 }
 
 fn new_table() -> Table {

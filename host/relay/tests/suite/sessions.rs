@@ -2,7 +2,7 @@
 
 use std::net::SocketAddr;
 
-use relay::{Method, Peer, Refusal, Session, Table};
+use relay::{Invalid, Method, Peer, Refusal, Session, Table};
 
 use crate::common::*;
 
@@ -33,7 +33,8 @@ fn a_new_table_has_no_sessions() {
         assert!(table.words()[1..].iter().all(|&word| word == 0));
     }
     for retention in [1, 59, 3_601, u64::MAX] {
-        assert_eq!(Table::new(retention).unwrap_err(), Refusal::Settings);
+        let invalid = Invalid::Retention { seconds: retention };
+        assert_eq!(Table::new(retention).unwrap_err(), invalid);
     }
 }
 
@@ -46,12 +47,33 @@ fn a_session_shows_what_was_accepted() {
     assert_eq!(session.last_time, CLOCK);
     assert_eq!(session.peer, peer());
     // 45 has left the window.
-    assert_eq!(session.accepted(), 4);
+    assert_eq!(session.marked_in_window(), 4);
     for packet_id in [0, 45, 54, 55, 299, 300, 301, 302, 309, 310, 311, u64::MAX] {
         let marked = [299, 300, 302, 310].contains(&packet_id);
         assert_eq!(session.is_marked(packet_id), marked, "{packet_id}");
         let fresh = packet_id >= 55 && !marked;
         assert_eq!(session.is_fresh(packet_id), fresh, "{packet_id}");
+    }
+}
+
+#[test]
+fn a_table_shows_its_sessions() {
+    let mut table = table_with(&[300, 299, 45, 310, 302]);
+    let (clock, v6) = (CLOCK + 7, "[2001:db8::7]:9".parse::<SocketAddr>().unwrap());
+    let datagram = sealed(METHOD, 0xab, 2, clock);
+    let opened = table.open_server(&key(METHOD), clock, Peer::from(v6), &datagram, &mut [0; 64]);
+    opened.unwrap();
+    let first =
+        "0102030405060708 from 192.0.2.1:4000, last at 1000, highest packet 310, 4 of 256 marked";
+    let second =
+        "00000000000000ab from [2001:db8::7]:9, last at 1007, highest packet 2, 1 of 256 marked";
+    for (clock, alive) in [(CLOCK + 60, &[first, second][..]), (CLOCK + 61, &[second])] {
+        let text = table.display(clock).to_string();
+        let lines: Vec<&str> = text.lines().collect();
+        let count = alive.len();
+        let head = format!("{count} of 64 sessions alive at {clock}, retention 60 seconds");
+        assert_eq!(lines[0], head);
+        assert_eq!(lines[1..], *alive);
     }
 }
 

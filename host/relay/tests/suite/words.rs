@@ -52,8 +52,8 @@ fn tables() {
         }
         assert!(table
             .sessions(clock)
-            .all(|session| session.accepted() <= 256));
-        assert!(!format!("{table:?}").is_empty());
+            .all(|session| session.marked_in_window() <= 256));
+        assert!(!format!("{table:?} {}", table.display(clock)).is_empty());
     }
 }
 

@@ -6,7 +6,7 @@ use std::rc::Rc;
 use relay::Address;
 
 use crate::half::Half;
-use crate::payload::Reading;
+use crate::payload::Message;
 
 pub struct Datagram {
     pub bytes: Vec<u8>,
@@ -28,7 +28,7 @@ pub struct Origin {
     pub timestamp: u64,
     pub padding: usize,
     pub target: Rc<Address>,
-    pub reading: Reading,
+    pub message: Message,
     /// The bytes are no longer those that were sealed.
     pub is_damaged: bool,
 }

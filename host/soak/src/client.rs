@@ -8,7 +8,7 @@ use std::rc::Rc;
 use relay::SealSession;
 
 use crate::datagram::Datagram;
-use crate::payload::Reading;
+use crate::payload::Message;
 use crate::random::Random;
 
 /// How many datagrams are kept for somebody to replay or forge.
@@ -32,7 +32,7 @@ pub struct Client {
     /// How many sessions it has begun.
     pub sessions: u64,
     series: u16,
-    readings: u64,
+    messages: u64,
     skew: u64,
     recent: VecDeque<Rc<Datagram>>,
     held: Vec<Held>,
@@ -47,7 +47,7 @@ impl Client {
             silent_until: None,
             sessions: 1,
             series,
-            readings: 0,
+            messages: 0,
             skew: random.within(0..=2 * SKEW),
             recent: VecDeque::new(),
             held: Vec::new(),
@@ -70,10 +70,10 @@ impl Client {
         clock + self.skew - SKEW
     }
 
-    pub fn next_reading(&mut self) -> Reading {
-        let number = self.readings;
-        self.readings += 1;
-        Reading {
+    pub fn next_message(&mut self) -> Message {
+        let number = self.messages;
+        self.messages += 1;
+        Message {
             series: self.series,
             number,
         }

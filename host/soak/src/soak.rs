@@ -1,4 +1,4 @@
-//! The morning, second by second.
+//! A run, second by second.
 
 use std::rc::Rc;
 use std::time::Instant;
@@ -18,16 +18,16 @@ use crate::tally::Tally;
 /// Datagrams that come in at the relay in a second.
 pub const RATE: u64 = 400;
 
-/// The clock at which the morning begins.
+/// The clock at which a run begins.
 const START: u64 = 1_700_000_000;
 
-/// One of so many readings accepted is acknowledged.
+/// One of so many messages accepted is acknowledged.
 const REPLY: u64 = 16;
 
 /// Seconds between two comparisons of the sessions.
 const LOOK: u64 = 60;
 
-pub struct Morning {
+pub struct Soak {
     options: Options,
     /// Seconds since the beginning.
     second: u64,
@@ -42,7 +42,7 @@ pub struct Morning {
     begun: Instant,
 }
 
-/// What a morning comes to.
+/// What a run comes to.
 pub struct Summary {
     pub minutes: u64,
     pub seconds: f64,
@@ -50,13 +50,13 @@ pub struct Summary {
     pub rows: Vec<(u64, Tally, Tally)>,
     pub opened: Meter,
     pub sealed: Meter,
-    /// Readings counted.
+    /// Messages counted.
     pub counted: u64,
     /// How often the sessions were compared.
     pub looks: u64,
 }
 
-/// How far the morning is.
+/// How far a run is.
 pub struct State {
     pub second: u64,
     pub seconds_in_all: u64,
@@ -64,7 +64,7 @@ pub struct State {
     pub alive: usize,
 }
 
-impl Morning {
+impl Soak {
     pub fn new(options: Options) -> Self {
         let (half, seed) = (Half::First, options.seed);
         let payloads = Rc::new(Payloads::new(seed));
@@ -126,14 +126,14 @@ impl Morning {
         self.tallies[client].add(&answer);
         let Answer::Accepted {
             session_id,
-            reading,
+            message,
         } = answer
         else {
             return Ok(());
         };
         let ledger = &mut self.network.ledger;
-        ledger.due(arrival.datagram.origin.reading)?;
-        ledger.count(reading, session_id)?;
+        ledger.due(arrival.datagram.origin.message)?;
+        ledger.count(message, session_id)?;
         if !self.random.one_in(REPLY) {
             return Ok(());
         }
@@ -141,7 +141,7 @@ impl Morning {
             return disagree("replies do not go to where the datagram came from".to_string());
         }
         self.replies
-            .send(&mut self.network, client, session_id, reading, clock)
+            .send(&mut self.network, client, session_id, message, clock)
             .map_err(|fault| Disagreement(format!("a reply to it: {fault}")))
     }
 
@@ -211,8 +211,8 @@ mod tests {
     use super::*;
     use crate::rules;
 
-    fn minutes(minutes: u64, seed: u64) -> Morning {
-        Morning::new(Options { minutes, seed })
+    fn minutes(minutes: u64, seed: u64) -> Soak {
+        Soak::new(Options { minutes, seed })
     }
 
     fn tallies(seed: u64) -> Vec<(u64, Tally, Tally)> {
@@ -220,14 +220,14 @@ mod tests {
     }
 
     #[test]
-    fn the_same_seed_gives_the_same_morning() {
+    fn the_same_seed_gives_the_same_run() {
         assert_eq!(tallies(1), tallies(1));
         assert_ne!(tallies(1), tallies(2));
     }
 
-    /// Four minutes suffice for every refusal that a morning can have.
+    /// Four minutes suffice for every refusal that a run can have.
     #[test]
-    fn a_short_morning_has_every_kind_of_datagram() {
+    fn a_short_run_has_every_kind_of_datagram() {
         let summary = minutes(4, 2022).run(|_| {}).unwrap();
         let (mut server, mut clients) = (Tally::default(), Tally::default());
         for (_, tally, replies) in &summary.rows {
@@ -254,17 +254,17 @@ mod tests {
 
     #[test]
     fn a_table_that_forgets_is_found_out() {
-        let mut morning = minutes(1, 1);
-        while morning.second < 20 {
-            morning.run_second().unwrap();
-            morning.second += 1;
+        let mut soak = minutes(1, 1);
+        while soak.second < 20 {
+            soak.run_second().unwrap();
+            soak.second += 1;
         }
-        morning.look().unwrap();
-        morning.server.lose_table();
-        assert!(morning.look().is_err(), "by its sessions");
+        soak.look().unwrap();
+        soak.server.lose_table();
+        assert!(soak.look().is_err(), "by its sessions");
         let found = (20..60).find_map(|second| {
-            morning.second = second;
-            morning.run_second().err()
+            soak.second = second;
+            soak.run_second().err()
         });
         let message = found.expect("by what it accepts").to_string();
         assert!(

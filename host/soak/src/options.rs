@@ -1,13 +1,13 @@
 //! What the command line asks for.
 
 pub const USAGE: &str = "\
-A busy morning at a relay: 400 datagrams a second from 64 clients, held to the plain
+A soak of the library: 400 datagrams a second from 64 clients, held to the plain
 rules. Exit status 1 means that the library and the rules disagree.
 
-usage: morning [--minutes N] [--seed N]
+usage: soak [--minutes N] [--seed N]
 
-  --minutes N   length of the morning on its own clock, 1 to 1,440 (default 60)
-  --seed N      another seed gives another morning (default 2022)";
+  --minutes N   length of the run on its own clock, 1 to 1,440 (default 60)
+  --seed N      another seed gives another run (default 2022)";
 
 #[derive(Clone, Copy, Debug, PartialEq, Eq)]
 pub struct Options {

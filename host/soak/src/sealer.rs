@@ -8,15 +8,15 @@ use relay::{Address, Key, SealSession};
 use crate::datagram::{Datagram, Origin};
 use crate::half::Half;
 use crate::meter::Meter;
-use crate::payload::{Payloads, Reading, SHORTEST};
+use crate::payload::{Message, Payloads, SHORTEST};
 
 /// What is to be sealed.
 pub struct Order {
     pub client: usize,
-    pub reading: Reading,
+    pub message: Message,
     pub timestamp: u64,
     pub padding: usize,
-    /// The datagram's length, unless that is too short to carry a reading.
+    /// The datagram's length, unless that is too short to carry a message.
     pub size: usize,
 }
 
@@ -49,13 +49,13 @@ impl Sealer {
 
     /// Seals the next datagram of a session.
     pub fn seal(&mut self, session: &mut SealSession, order: &Order) -> Rc<Datagram> {
-        let place = order.reading.number as usize % self.targets.len();
+        let place = order.message.number as usize % self.targets.len();
         let target = Rc::clone(&self.targets[place]);
         let overhead = session
             .sealed_len(&target, order.padding, 0)
             .expect("padding is short");
         let length = order.size.saturating_sub(overhead).max(SHORTEST);
-        let payload = self.payloads.make(order.reading, length);
+        let payload = self.payloads.make(order.message, length);
         let origin = Origin {
             client: order.client,
             half: self.half,
@@ -65,7 +65,7 @@ impl Sealer {
             timestamp: order.timestamp,
             padding: order.padding,
             target: Rc::clone(&target),
-            reading: order.reading,
+            message: order.message,
             is_damaged: false,
         };
         let mut bytes = vec![0; overhead + length];
@@ -85,7 +85,7 @@ fn targets() -> Vec<Rc<Address>> {
     let targets = [
         Address::from(SocketAddr::from(([192, 0, 2, 25], 8086))),
         Address::from(v6),
-        Address::name(b"readings.example", 8086).expect("a name"),
+        Address::name(b"messages.example", 8086).expect("a name"),
         Address::name(b"r", 1).expect("a name"),
     ];
     targets.into_iter().map(Rc::new).collect()

@@ -1,4 +1,4 @@
-//! A busy morning at a relay.
+//! A soak of the library, as a relay uses it.
 //!
 //! 64 clients send 400 datagrams a second for an hour of simulated clock. Some are
 //! late, overtaken, replayed, forged or stamped with a wrong time; sessions are
@@ -19,7 +19,6 @@ mod events;
 mod half;
 mod ledger;
 mod meter;
-mod morning;
 mod network;
 mod options;
 mod payload;
@@ -29,13 +28,14 @@ mod replies;
 mod report;
 mod rules;
 mod sealer;
+mod soak;
 mod tally;
 
 use std::env;
 use std::process::ExitCode;
 
-use morning::Morning;
 use options::{Options, USAGE};
+use soak::Soak;
 
 /// The exit status for arguments that are not understood.
 const MISUSED: u8 = 2;
@@ -48,11 +48,11 @@ fn main() -> ExitCode {
             return ExitCode::SUCCESS;
         }
         Err(message) => {
-            eprintln!("morning: {message}\n\n{USAGE}");
+            eprintln!("soak: {message}\n\n{USAGE}");
             return ExitCode::from(MISUSED);
         }
     };
-    match Morning::new(options).run(report::progress) {
+    match Soak::new(options).run(report::progress) {
         Ok(summary) => {
             report::summary(&summary);
             ExitCode::SUCCESS

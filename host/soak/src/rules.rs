@@ -99,7 +99,7 @@ fn refusal_before_the_book(call: &Call) -> Option<u64> {
 mod tests {
     use super::*;
     use crate::datagram::Origin;
-    use crate::payload::Reading;
+    use crate::payload::Message;
     use relay::Address;
     use std::rc::Rc;
 
@@ -116,7 +116,7 @@ mod tests {
                 timestamp: 1_000,
                 padding: 0,
                 target: Rc::new(Address::name(b"a", 80).unwrap()),
-                reading: Reading {
+                message: Message {
                     series: 0,
                     number: 0,
                 },

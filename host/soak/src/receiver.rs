@@ -11,7 +11,7 @@ use crate::datagram::{Arrival, Origin};
 use crate::disagreement::{disagree, Disagreement};
 use crate::half::Half;
 use crate::meter::Meter;
-use crate::payload::{Payloads, Reading};
+use crate::payload::{Message, Payloads};
 use crate::rules::{self, Call, Verdict};
 
 /// How long a silent session is remembered.
@@ -28,7 +28,7 @@ const ROOM: usize = 70_000;
 
 /// What a datagram led to, by library and rules alike.
 pub enum Answer {
-    Accepted { session_id: u64, reading: Reading },
+    Accepted { session_id: u64, message: Message },
     Refused(u64),
 }
 
@@ -128,9 +128,9 @@ impl Receiver {
             return disagree("bytes behind the plaintext were written".to_string());
         }
         match self.payloads.read(header.payload(&self.out)) {
-            Some(reading) if reading == origin.reading => Ok(Answer::Accepted {
+            Some(message) if message == origin.message => Ok(Answer::Accepted {
                 session_id: header.session_id,
-                reading,
+                message,
             }),
             _ => disagree("the payload is not the one that was sealed".to_string()),
         }
@@ -194,7 +194,7 @@ fn is_page(session: &Session, page: &Page) -> bool {
     session.highest_packet == page.highest
         && session.last_time == page.last_time
         && SocketAddr::from(session.peer) == page.peer
-        && session.accepted() as usize == remembered.len()
+        && session.marked_in_window() as usize == remembered.len()
         && remembered
             .iter()
             .all(|&packet_id| session.is_marked(packet_id))

@@ -144,9 +144,9 @@ impl Network {
     }
 
     fn order(&mut self, client: usize, timestamp: u64) -> Order {
-        let reading = self.clients[client].next_reading();
+        let message = self.clients[client].next_message();
         let session_id = self.clients[client].session.id();
-        self.ledger.sent(reading, session_id);
+        self.ledger.sent(message, session_id);
         let padding = if self.random.one_in(4) {
             self.random.place(64)
         } else {
@@ -154,7 +154,7 @@ impl Network {
         };
         Order {
             client,
-            reading,
+            message,
             timestamp,
             padding,
             size: self.spread(SIZES) as usize,

@@ -1,4 +1,4 @@
-//! The halves of the morning. Each has its own method and key, and so its own table
+//! The halves of a run. Each has its own method and key, and so its own table
 //! and sessions.
 
 use relay::{Key, Method};

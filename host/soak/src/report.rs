@@ -4,8 +4,8 @@ use std::io::{self, IsTerminal, Write};
 
 use crate::disagreement::Disagreement;
 use crate::meter::Meter;
-use crate::morning::{State, Summary};
 use crate::rules;
+use crate::soak::{State, Summary};
 use crate::tally::Tally;
 
 /// Minutes between two lines of progress, where they are not one line.
@@ -21,7 +21,7 @@ const COLUMNS: [(u64, &str); 6] = [
     (rules::FULL, "full"),
 ];
 
-/// Shows how far the morning is: one line that changes, or a line now and then.
+/// Shows how far the run is: one line that changes, or a line now and then.
 pub fn progress(state: &State) {
     let mut out = io::stdout();
     let is_last = state.second == state.seconds_in_all;
@@ -48,8 +48,8 @@ pub fn disagreement(disagreement: &Disagreement) {
     if io::stdout().is_terminal() {
         println!();
     }
-    eprintln!("morning: the library and the rules disagree");
-    eprintln!("morning: {disagreement}");
+    eprintln!("soak: the library and the rules disagree");
+    eprintln!("soak: {disagreement}");
 }
 
 pub fn summary(summary: &Summary) {
@@ -122,7 +122,7 @@ fn conclusion(summary: &Summary) {
         grouped(server.accepted + server.refused())
     );
     println!(
-        "{} readings were counted, each once and in its own session; none was lost.",
+        "{} messages were counted, each once and in its own session; none was lost.",
         grouped(summary.counted)
     );
     println!(

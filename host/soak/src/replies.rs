@@ -1,4 +1,4 @@
-//! Replies of the server to its clients: for some readings an acknowledgement, which
+//! Replies of the server to its clients: for some messages an acknowledgement, which
 //! the client opens on a table of its own.
 
 use std::collections::HashMap;
@@ -13,7 +13,7 @@ use crate::disagreement::{disagree, Disagreement};
 use crate::half::Half;
 use crate::meter::Meter;
 use crate::network::{Network, CLIENTS};
-use crate::payload::{Payloads, Reading};
+use crate::payload::{Message, Payloads};
 use crate::random::Random;
 use crate::receiver::{Answer, Receiver};
 use crate::sealer::Order;
@@ -71,18 +71,18 @@ impl Replies {
         self.receivers = (0..CLIENTS).map(receiver).collect();
     }
 
-    /// Acknowledges a reading of a client's session.
+    /// Acknowledges a message of a client's session.
     pub fn send(
         &mut self,
         network: &mut Network,
         client: usize,
         session_id: u64,
-        reading: Reading,
+        message: Message,
         clock: u64,
     ) -> Result<(), Disagreement> {
         let order = Order {
             client,
-            reading,
+            message,
             timestamp: clock,
             padding: 0,
             size: self.random.within(SIZES) as usize,
@@ -115,7 +115,7 @@ impl Replies {
         datagram: Rc<Datagram>,
         clock: u64,
     ) -> Result<(), Disagreement> {
-        let series = datagram.origin.reading.series;
+        let series = datagram.origin.message.series;
         let arrival = Arrival::new(datagram, SocketAddr::from(([192, 0, 2, 1], 8388)));
         let receiver = &mut self.receivers[client];
         let answer = receiver.receive(&arrival, clock, Some(own_session))?;

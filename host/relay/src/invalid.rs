@@ -1,0 +1,153 @@
+//! Why something cannot be made of what the host gave.
+
+use std::error::Error;
+use std::fmt;
+
+use crate::{Method, Refusal};
+
+/// Why a key, an address, a table or a session cannot be made of what was given.
+///
+/// It says what was wrong. For a program that looks at refusals alone it is one of
+/// them, as `?` and `From` turn it into the [`Refusal`] that the library has for it.
+///
+/// ```
+/// use relay::{Key, Method, Refusal};
+///
+/// let invalid = Key::new(Method::Aes128Gcm, &[7; 15]).unwrap_err();
+/// assert_eq!(invalid.to_string(), "a key of 2022-blake3-aes-128-gcm has 16 bytes, not 15");
+/// assert_eq!(Refusal::from(invalid), Refusal::Settings);
+/// ```
+#[derive(Clone, Copy, Debug, PartialEq, Eq)]
+#[non_exhaustive]
+pub enum Invalid {
+    /// A key has another length than its method's keys.
+    KeyLength {
+        /// The method that the key is for.
+        method: Method,
+        /// How many bytes were given.
+        length: usize,
+    },
+    /// A retention is neither 0 nor 60 to 3,600.
+    Retention {
+        /// The seconds that were given.
+        seconds: u64,
+    },
+    /// A server's session is to have its client's ID.
+    SessionId {
+        /// The ID of both.
+        id: u64,
+    },
+    /// A name is empty or longer than 255 bytes.
+    NameLength {
+        /// How many bytes were given.
+        length: usize,
+    },
+    /// The first byte of an address is none of its three kinds.
+    AddressKind {
+        /// The first byte.
+        kind: u8,
+    },
+    /// An address has another length than its first bytes say.
+    AddressLength {
+        /// How many bytes an address that begins so has, or the least there can be where
+        /// too few were given to tell.
+        wanted: usize,
+        /// How many bytes were given.
+        length: usize,
+    },
+}
+
+impl fmt::Display for Invalid {
+    fn fmt(&self, f: &mut fmt::Formatter<'_>) -> fmt::Result {
+        match *self {
+            Self::KeyLength { method, length } => {
+                let wanted = method.key_len();
+                write!(f, "a key of {method} has {wanted} bytes, not {length}")
+            }
+            Self::Retention { seconds } => {
+                write!(
+                    f,
+                    "a retention is 60 to 3,600 seconds, or 0 for 60, not {seconds}"
+                )
+            }
+            Self::SessionId { id } => {
+                write!(
+                    f,
+                    "a server's session ID differs from its client's; both are {id:016x}"
+                )
+            }
+            Self::NameLength { length } => write!(f, "a name has 1 to 255 bytes, not {length}"),
+            Self::AddressKind { kind } => {
+                write!(
+                    f,
+                    "an address begins with 1 (IPv4), 3 (a name) or 4 (IPv6), not {kind}"
+                )
+            }
+            Self::AddressLength { wanted, length } => {
+                write!(
+                    f,
+                    "an address that begins so has {wanted} bytes, not {length}"
+                )
+            }
+        }
+    }
+}
+
+impl Error for Invalid {}
+
+impl From<Invalid> for Refusal {
+    fn from(invalid: Invalid) -> Self {
+        match invalid {
+            Invalid::KeyLength { .. } | Invalid::Retention { .. } => Self::Settings,
+            Invalid::SessionId { .. }
+            | Invalid::NameLength { .. }
+            | Invalid::AddressKind { .. }
+            | Invalid::AddressLength { .. } => Self::Argument,
+        }
+    }
+}
+
+#[cfg(test)]
+mod tests {
+    use crate::{Address, Invalid, Key, Method, Refusal, SealSession, Table};
+
+    fn said<T>(made: Result<T, Invalid>) -> (String, Refusal) {
+        let invalid = made.err().expect("nothing can be made of it");
+        (invalid.to_string(), Refusal::from(invalid))
+    }
+
+    #[test]
+    fn each_says_what_was_wrong() {
+        let key = said(Key::new(Method::Aes256Gcm, &[0; 33]));
+        let retention = said(Table::new(59));
+        for ((text, refusal), expected) in [
+            (key, "a key of 2022-blake3-aes-256-gcm has 32 bytes, not 33"),
+            (
+                retention,
+                "a retention is 60 to 3,600 seconds, or 0 for 60, not 59",
+            ),
+        ] {
+            assert_eq!((text.as_str(), refusal), (expected, Refusal::Settings));
+        }
+        for ((text, refusal), expected) in [
+            (
+                said(SealSession::server(0xab, 0xab)),
+                "a server's session ID differs from its client's; both are 00000000000000ab",
+            ),
+            (
+                said(Address::name(&[b'n'; 256], 80)),
+                "a name has 1 to 255 bytes, not 256",
+            ),
+            (
+                said(Address::from_bytes(b"\x02")),
+                "an address begins with 1 (IPv4), 3 (a name) or 4 (IPv6), not 2",
+            ),
+            (
+                said(Address::from_bytes(b"\x03\x01a\x00")),
+                "an address that begins so has 5 bytes, not 4",
+            ),
+        ] {
+            assert_eq!((text.as_str(), refusal), (expected, Refusal::Argument));
+        }
+    }
+}

@@ -1,0 +1,259 @@
+/*
+ * How much stack each function of librelay.a takes. It is called on a stack of its own that was
+ * painted before; the deepest byte that is no longer paint tells how far down the call went,
+ * arguments and return address included. Both methods are tried, with texts on either side of
+ * every length at which the library works differently, accepted and refused.
+ *
+ *     cc -O2 -Iinclude tests/stack.c target/staticlib/librelay.a -o stack && ./stack
+ *
+ * A measure, not a proof: the path of another input could be deeper. So the limit that
+ * include/relay.h names, and that is held here, is nearly twice what was seen.
+ */
+#define _XOPEN_SOURCE 700
+#include "relay.h"
+
+#include <stdio.h>
+#include <stdlib.h>
+#include <string.h>
+#include <ucontext.h>
+
+#define LIMIT 16384
+#define STACK_BYTES (4 * LIMIT)
+#define LONGEST 65507
+#define CLOCK 1700000000
+
+static const uint8_t KEY[32] = "thirty-two bytes to serve as key";
+static const uint8_t SALT[32] = "thirty-two bytes to do for salt!";
+static const uint8_t ADDRESS[] = {1, 192, 0, 2, 1, 0, 53};
+
+/* What the calls are lent. */
+static uint64_t method, table[RELAY_TABLE_WORDS], pool[RELAY_POOL_WORDS];
+static uint64_t session[RELAY_SESSION_WORDS], sender[RELAY_STREAM_WORDS];
+static uint64_t receiver[RELAY_STREAM_WORDS], answer[RELAY_ANSWER_WORDS];
+static uint8_t payload[LONGEST], sealed[LONGEST + 200], out[LONGEST + 200];
+static size_t payload_len, sealed_len, key_len, used;
+
+/* What the last call returned. */
+static uint64_t number;
+
+/* ---- the functions, each on what those before it left */
+
+static void table_new(void)
+{
+    number = relay_table_new(60, table, RELAY_TABLE_WORDS);
+}
+
+static void session_begin_client(void)
+{
+    number = relay_session_begin_client(1, session, RELAY_SESSION_WORDS);
+}
+
+static void session_begin_server(void)
+{
+    number = relay_session_begin_server(2, 1, session, RELAY_SESSION_WORDS);
+}
+
+static void datagram_seal(void)
+{
+    number = relay_datagram_seal(method, KEY, key_len, session, RELAY_SESSION_WORDS, CLOCK, ADDRESS,
+                                 sizeof ADDRESS, 0, payload, payload_len, sealed, sizeof sealed,
+                                 answer, RELAY_ANSWER_WORDS);
+}
+
+static void datagram_open_server(void)
+{
+    number =
+        relay_datagram_open_server(method, KEY, key_len, CLOCK, 1, 2, 3, sealed, sealed_len, table,
+                                   RELAY_TABLE_WORDS, out, sizeof out, answer, RELAY_ANSWER_WORDS);
+}
+
+static void datagram_open_client(void)
+{
+    number = relay_datagram_open_client(method, KEY, key_len, CLOCK, 1, 1, 2, 3, sealed, sealed_len,
+                                        table, RELAY_TABLE_WORDS, out, sizeof out, answer,
+                                        RELAY_ANSWER_WORDS);
+}
+
+static void pool_new(void)
+{
+    number = relay_pool_new(method, pool, RELAY_POOL_WORDS);
+}
+
+static void stream_seal_request(void)
+{
+    number = relay_stream_seal_request(
+        method, KEY, key_len, SALT, key_len, CLOCK, ADDRESS, sizeof ADDRESS, 1, payload,
+        payload_len, sealed, sizeof sealed, sender, RELAY_STREAM_WORDS, answer, RELAY_ANSWER_WORDS);
+}
+
+static void stream_open_request(void)
+{
+    number = relay_stream_open_request(method, KEY, key_len, CLOCK, sealed, sealed_len, pool,
+                                       RELAY_POOL_WORDS, out, sizeof out, receiver,
+                                       RELAY_STREAM_WORDS, answer, RELAY_ANSWER_WORDS);
+}
+
+static void stream_seal_response(void)
+{
+    number = relay_stream_seal_response(method, KEY, key_len, SALT, key_len, SALT, key_len, CLOCK,
+                                        payload, payload_len, sealed, sizeof sealed, sender,
+                                        RELAY_STREAM_WORDS, answer, RELAY_ANSWER_WORDS);
+}
+
+static void stream_open_response(void)
+{
+    number =
+        relay_stream_open_response(method, KEY, key_len, CLOCK, SALT, key_len, sealed, sealed_len,
+                                   receiver, RELAY_STREAM_WORDS, answer, RELAY_ANSWER_WORDS);
+}
+
+static void stream_seal_chunk(void)
+{
+    number = relay_stream_seal_chunk(sender, RELAY_STREAM_WORDS, payload, payload_len, sealed,
+                                     sizeof sealed, answer, RELAY_ANSWER_WORDS);
+}
+
+static void stream_open_chunk(void)
+{
+    number = relay_stream_open_chunk(receiver, RELAY_STREAM_WORDS, sealed + used, sealed_len - used,
+                                     out, sizeof out, answer, RELAY_ANSWER_WORDS);
+}
+
+/* With the most stack that each was seen to take. */
+static struct function {
+    const char *name;
+    void (*call)(void);
+    size_t deepest;
+} functions[] = {
+    {"relay_table_new", table_new, 0},
+    {"relay_session_begin_client", session_begin_client, 0},
+    {"relay_session_begin_server", session_begin_server, 0},
+    {"relay_datagram_seal", datagram_seal, 0},
+    {"relay_datagram_open_server", datagram_open_server, 0},
+    {"relay_datagram_open_client", datagram_open_client, 0},
+    {"relay_pool_new", pool_new, 0},
+    {"relay_stream_seal_request", stream_seal_request, 0},
+    {"relay_stream_open_request", stream_open_request, 0},
+    {"relay_stream_seal_response", stream_seal_response, 0},
+    {"relay_stream_open_response", stream_open_response, 0},
+    {"relay_stream_seal_chunk", stream_seal_chunk, 0},
+    {"relay_stream_open_chunk", stream_open_chunk, 0},
+};
+
+enum { FUNCTIONS = sizeof functions / sizeof functions[0] };
+
+/* ---- measuring */
+
+static void fail(const char *name, const char *what)
+{
+    fprintf(stderr, "stack test failed: %s: %s\n", name, what);
+    exit(1);
+}
+
+/* How far down a painted stack the call has written. */
+static size_t depth_of(void (*call)(void))
+{
+    static uint8_t stack[STACK_BYTES];
+    static ucontext_t here, there;
+    memset(stack, 0xa5, sizeof stack);
+    getcontext(&there);
+    there.uc_stack.ss_sp = stack;
+    there.uc_stack.ss_size = sizeof stack;
+    there.uc_link = &here;
+    makecontext(&there, call, 0);
+    swapcontext(&here, &there);
+    size_t unchanged = 0;
+    while (unchanged < sizeof stack && stack[unchanged] == 0xa5)
+        unchanged++;
+    return sizeof stack - unchanged;
+}
+
+static void measure(void (*call)(void), uint64_t expected)
+{
+    struct function *function = functions;
+    while (function->call != call)
+        function++;
+    size_t depth = depth_of(call);
+    if (number != expected)
+        fail(function->name, relay_refusal_name(number));
+    if (depth > function->deepest)
+        function->deepest = depth;
+}
+
+/* Takes a sealed message over, to be opened. */
+static void seal(void (*call)(void))
+{
+    measure(call, RELAY_OK);
+    sealed_len = (size_t)answer[RELAY_AT_SEALED_LENGTH];
+    used = 0;
+}
+
+/* Forged, whole, and once more. */
+static void open_datagram(void (*call)(void))
+{
+    measure(table_new, RELAY_OK);
+    seal(datagram_seal);
+    sealed[sealed_len - 1] ^= 1;
+    measure(call, RELAY_REFUSED_NOT_AUTHENTIC);
+    sealed[sealed_len - 1] ^= 1;
+    measure(call, RELAY_OK);
+    measure(call, RELAY_REFUSED_REPLAY);
+}
+
+static void open_chunk(uint64_t expected)
+{
+    measure(stream_open_chunk, expected);
+    used += (size_t)answer[RELAY_AT_USED];
+}
+
+static void try_all(void)
+{
+    measure(session_begin_client, RELAY_OK);
+    open_datagram(datagram_open_server);
+    measure(session_begin_server, RELAY_OK);
+    open_datagram(datagram_open_client);
+
+    measure(pool_new, RELAY_OK);
+    seal(stream_seal_request);
+    measure(stream_open_request, RELAY_OK);
+    measure(stream_open_request, RELAY_REFUSED_REPLAY);
+    seal(stream_seal_chunk);
+    open_chunk(RELAY_OK);
+    open_chunk(RELAY_OK);
+
+    seal(stream_seal_response);
+    measure(stream_open_response, RELAY_OK);
+    used = (size_t)answer[RELAY_AT_USED];
+    open_chunk(RELAY_OK);
+    open_chunk(RELAY_REFUSED_MORE);
+}
+
+/* A line for each function; the last one names the deepest. */
+static void report(void)
+{
+    const struct function *deepest = functions;
+    for (int i = 0; i < FUNCTIONS; i++) {
+        printf("%-28s %6zu bytes\n", functions[i].name, functions[i].deepest);
+        if (functions[i].deepest > deepest->deepest)
+            deepest = &functions[i];
+    }
+    if (deepest->deepest > LIMIT)
+        fail(deepest->name, "more stack than include/relay.h names");
+    printf("%zu bytes at most (%s), of %d that include/relay.h names\n", deepest->deepest,
+           deepest->name, LIMIT);
+}
+
+int main(void)
+{
+    /* Around blocks of 16 bytes, 256 bytes and 256 blocks, and the longest datagram. */
+    static const size_t lengths[] = {0, 1, 15, 16, 17, 200, 256, 300, 1400, 4096, 4200, 65449};
+    for (method = RELAY_AES_128_GCM; method <= RELAY_AES_256_GCM; method++) {
+        key_len = method == RELAY_AES_128_GCM ? 16 : 32;
+        for (size_t i = 0; i < sizeof lengths / sizeof lengths[0]; i++) {
+            payload_len = lengths[i];
+            try_all();
+        }
+    }
+    report();
+    return 0;
+}
