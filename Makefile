@@ -1,37 +1,46 @@
-# Everything built goes to target/, the only folder that git ignores. `rt ci`, and so `make test`, removes it first.
-export CARGO_TARGET_DIR := $(CURDIR)/target/host
+# Everything built goes to target/, the only folder that git ignores; .cargo/config.toml tells Cargo. `rt ci`, and so `make test`,
+# removes it first.
 CARGO := cargo
 HOST := --locked --manifest-path host/Cargo.toml
+LIBRARY := target/staticlib/librelay.a
 
-.PHONY: run test library quickstart bench fuzz vectors
+.PHONY: run test library quickstart bench fuzz vectors arguments
+# rt keeps its notes in one folder, and arguments are tested before the library is made.
+.NOTPARALLEL:
 
 # A busy morning through the relay, on data of its own: an hour of the simulated clock. ARGS="--minutes 5" for a short one.
-run: library
-	tools/need cargo=cargo-web
-	$(CARGO) run --release $(HOST) -p morning -- $(ARGS)
+run: $(if $(ARGS),arguments) library
+	@tools/need cargo=cargo-web
+	@$(CARGO) run --release $(HOST) -p morning -- $(ARGS)
+
+# The program's own test of its arguments, which needs no library.
+arguments:
+	@tools/need cargo=cargo-web
+	@mkdir -p target/host
+	@rustc --edition 2021 -A dead_code -o target/host/arguments host/morning/src/arguments.rs
+	@target/host/arguments $(ARGS)
 
 # The merge gate.
 test:
-	.ci/run
+	@.ci/run
 
-# target/staticlib/librelay.a. What is not proved yet is proved first, and each crate says so when it is.
-library:
-	tools/need cc=gcc
-	rt staticlib relay
+library: $(LIBRARY)
+
+# A library is made again when a crate's code, definitions or proofs changed.
+target/staticlib/lib%.a: crates.txt $(shell find crates/*/src crates/*/specs crates/*/proofs -type f)
+	@tools/library $*
 
 # The C program of the README.
 quickstart: library
-	mkdir -p target/examples
-	cc -std=c11 -Wall -Wextra -Wpedantic -Werror -Iinclude examples/quickstart.c target/staticlib/librelay.a \
-		-o target/examples/quickstart
+	@mkdir -p target/examples
+	cc -std=c11 -Wall -Wextra -Wpedantic -Werror -Iinclude examples/quickstart.c $(LIBRARY) -o target/examples/quickstart
 	target/examples/quickstart
 
 # The table of speeds and its plot, in target/bench. ARGS=--quick for a short run. The plot of docs/PERFORMANCE.md is a copy of a
 # full run's: cp target/bench/speed.svg docs/speed.svg
-bench:
-	tools/need cc=gcc cargo=cargo-web libcrypto.so=libssl-dev libnettle.so=nettle-dev libbearssl.so=libbearssl-dev
-	rt staticlib bench
-	$(CARGO) run --release $(HOST) -p bench -- $(ARGS)
+bench: target/staticlib/libbench.a
+	@tools/need cargo=cargo-web libcrypto.so=libssl-dev libnettle.so=nettle-dev libbearssl.so=libbearssl-dev
+	@$(CARGO) run --release $(HOST) -p bench -- $(ARGS)
 
 # The fuzz target under AddressSanitizer, for so many seconds.
 SECONDS := 60

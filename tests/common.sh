@@ -5,7 +5,7 @@ warnings=(-std=c11 -Wall -Wextra -Wpedantic -Wconversion -Werror)
 
 require_archive() {
     if [[ ! -e $archive ]]; then
-        echo "$archive is missing: run \`rt staticlib relay\` at the root" >&2
+        echo "$archive is missing: run \`make library\` at the root" >&2
         exit 1
     fi
 }
