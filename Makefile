@@ -4,7 +4,14 @@ CARGO := cargo
 HOST := --locked --manifest-path host/Cargo.toml
 LIBRARY := target/staticlib/librelay.a
 
-.PHONY: run test library quickstart bench fuzz vectors arguments
+# Where `make install` puts the library, its header and relay.pc; a package's build sets DESTDIR too.
+PREFIX := /usr/local
+prefix := $(abspath $(PREFIX))
+LIBDIR := $(prefix)/lib
+INCLUDEDIR := $(prefix)/include
+VERSION = $(shell sed -n 's/^version = "\(.*\)"/\1/p' host/relay/Cargo.toml)
+
+.PHONY: run test library quickstart install uninstall bench fuzz vectors arguments
 # rt keeps its notes in one folder, and arguments are tested before the library is made.
 .NOTPARALLEL:
 
@@ -35,6 +42,17 @@ quickstart: library
 	@mkdir -p target/examples
 	cc -std=c11 -Wall -Wextra -Wpedantic -Werror -Iinclude examples/quickstart.c $(LIBRARY) -o target/examples/quickstart
 	target/examples/quickstart
+
+install: library
+	install -d $(DESTDIR)$(INCLUDEDIR) $(DESTDIR)$(LIBDIR)/pkgconfig
+	install -m 644 include/relay.h $(DESTDIR)$(INCLUDEDIR)/relay.h
+	install -m 644 $(LIBRARY) $(DESTDIR)$(LIBDIR)/librelay.a
+	sed -e 's|@PREFIX@|$(prefix)|' -e 's|@LIBDIR@|$(LIBDIR)|' -e 's|@INCLUDEDIR@|$(INCLUDEDIR)|' -e 's|@VERSION@|$(VERSION)|' \
+		include/relay.pc.in >target/relay.pc
+	install -m 644 target/relay.pc $(DESTDIR)$(LIBDIR)/pkgconfig/relay.pc
+
+uninstall:
+	rm -f $(DESTDIR)$(INCLUDEDIR)/relay.h $(DESTDIR)$(LIBDIR)/librelay.a $(DESTDIR)$(LIBDIR)/pkgconfig/relay.pc
 
 # The table of speeds and its plot, in target/bench. ARGS=--quick for a short run. The plot of docs/PERFORMANCE.md is a copy of a
 # full run's: cp target/bench/speed.svg docs/speed.svg
