@@ -16,15 +16,15 @@ VERSION = $(shell sed -n 's/^version = "\(.*\)"/\1/p' host/relay/Cargo.toml)
 .NOTPARALLEL:
 
 # A busy morning through the relay, on data of its own: an hour of the simulated clock. ARGS="--minutes 5" for a short one.
-run: $(if $(ARGS),arguments) library
-	@tools/need cargo=cargo-web
-	@$(CARGO) run --release $(HOST) -p morning -- $(ARGS)
+run: PROGRAM := morning
+run: arguments library
+	@$(CARGO) run --release $(HOST) -p $(PROGRAM) -- $(ARGS)
 
 # The program's own test of its arguments, which needs no library.
 arguments:
 	@tools/need cargo=cargo-web
 	@mkdir -p target/host
-	@rustc --edition 2021 -A dead_code -o target/host/arguments host/morning/src/arguments.rs
+	@rustc --edition 2021 -A dead_code -o target/host/arguments host/$(PROGRAM)/src/arguments.rs
 	@target/host/arguments $(ARGS)
 
 # The merge gate.
@@ -56,9 +56,10 @@ uninstall:
 
 # The table of speeds and its plot, in target/bench. ARGS=--quick for a short run. The plot of docs/PERFORMANCE.md is a copy of a
 # full run's: cp target/bench/speed.svg docs/speed.svg
-bench: target/staticlib/libbench.a
-	@tools/need cargo=cargo-web libcrypto.so=libssl-dev libnettle.so=nettle-dev libbearssl.so=libbearssl-dev
-	@$(CARGO) run --release $(HOST) -p bench -- $(ARGS)
+bench: PROGRAM := bench
+bench: arguments target/staticlib/libbench.a
+	@tools/need libcrypto.so=libssl-dev libnettle.so=nettle-dev libbearssl.so=libbearssl-dev
+	@$(CARGO) run --release $(HOST) -p $(PROGRAM) -- $(ARGS)
 
 # The fuzz target under AddressSanitizer, for so many seconds.
 SECONDS := 60

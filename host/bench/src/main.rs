@@ -43,8 +43,7 @@ use std::process::ExitCode;
 
 use about::About;
 use contest::Contest;
-use measure::Pace;
-use options::Task;
+use options::{Pace, Task};
 
 fn main() -> ExitCode {
     match Task::of(env::args_os().skip(1)).map_or_else(|error| Err(error.into()), perform) {

@@ -3,29 +3,8 @@
 use std::io;
 use std::time::{Duration, Instant};
 
+use crate::options::Pace;
 use crate::rows::{self, Row, Work};
-
-/// How long is measured.
-#[derive(Clone, Copy, Debug, PartialEq, Eq)]
-pub struct Pace {
-    /// One more than a multiple of four, so that the quartiles are samples.
-    pub rounds: usize,
-    /// The shortest batch of calls that counts as a sample.
-    batch: Duration,
-}
-
-impl Pace {
-    pub const FULL: Pace = Pace {
-        rounds: 21,
-        batch: Duration::from_millis(2),
-    };
-
-    /// Shows that the program works; its figures are rough.
-    pub const QUICK: Pace = Pace {
-        rounds: 5,
-        batch: Duration::from_micros(200),
-    };
-}
 
 /// A process that runs contestants, each named by its row and its place there.
 pub trait Runner {

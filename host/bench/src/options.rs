@@ -2,8 +2,7 @@
 
 use std::ffi::OsString;
 use std::path::PathBuf;
-
-use crate::measure::Pace;
+use std::time::Duration;
 
 pub const USAGE: &str = "\
 usage: bench [--quick] [--out DIR]
@@ -17,6 +16,28 @@ pub const QUICK: &str = "--quick";
 
 const OUT: &str = "--out";
 const DEFAULT_OUT: &str = "target/bench";
+
+/// How long is measured.
+#[derive(Clone, Copy, Debug, PartialEq, Eq)]
+pub struct Pace {
+    /// One more than a multiple of four, so that the quartiles are samples.
+    pub rounds: usize,
+    /// The shortest batch of calls that counts as a sample.
+    pub batch: Duration,
+}
+
+impl Pace {
+    pub const FULL: Pace = Pace {
+        rounds: 21,
+        batch: Duration::from_millis(2),
+    };
+
+    /// Shows that the program works; its figures are rough.
+    pub const QUICK: Pace = Pace {
+        rounds: 5,
+        batch: Duration::from_micros(200),
+    };
+}
 
 #[derive(Debug, PartialEq, Eq)]
 pub enum Task {
