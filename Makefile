@@ -1,7 +1,7 @@
 # Everything built goes to target/, the only folder that git ignores; .cargo/config.toml tells Cargo. `rt ci`, and so `make test`,
 # removes it first.
 CARGO := cargo
-HOST := --locked --manifest-path host/Cargo.toml
+HOST := --locked --quiet --manifest-path host/Cargo.toml
 LIBRARY := target/staticlib/librelay.a
 
 # Where `make install` puts the library, its header and relay.pc; a package's build sets DESTDIR too.
