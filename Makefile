@@ -11,7 +11,7 @@ LIBDIR := $(prefix)/lib
 INCLUDEDIR := $(prefix)/include
 VERSION = $(shell sed -n 's/^version = "\(.*\)"/\1/p' host/relay/Cargo.toml)
 
-.PHONY: run test library quickstart install uninstall bench fuzz vectors arguments
+.PHONY: run test library quickstart install uninstall bench fuzz vectors arguments seconds
 # rt keeps its notes in one folder, and arguments are tested before the library is made.
 .NOTPARALLEL:
 
@@ -63,8 +63,11 @@ bench: arguments target/staticlib/libbench.a
 
 # The fuzz target under AddressSanitizer, for so many seconds.
 SECONDS := 60
-fuzz: library
-	tests/fuzz/run $(SECONDS)
+fuzz: seconds library
+	@tests/fuzz/run $(SECONDS)
+
+seconds:
+	@bash -c 'source tests/common.sh && require_seconds "$(SECONDS)"'
 
 # The data of the vectors_* programs and what they must print.
 vectors:

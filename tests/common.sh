@@ -9,3 +9,11 @@ require_archive() {
         exit 1
     fi
 }
+
+# The fuzzer takes what is no number, and 0, for no limit.
+require_seconds() {
+    if [[ ! $1 =~ ^[1-9][0-9]*$ ]]; then
+        echo "SECONDS is to be a whole number from 1, not \"$1\"" >&2
+        exit 2
+    fi
+}
