@@ -1,8 +1,7 @@
 /*
  * Seals a datagram as a client and opens it as a server.
  *
- *     make library
- *     cc -Iinclude examples/quickstart.c target/staticlib/librelay.a -o quickstart && ./quickstart
+ *     make quickstart
  */
 #include <inttypes.h>
 #include <stdio.h>

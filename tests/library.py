@@ -85,7 +85,7 @@ def written_sections() -> list[str]:
 def build() -> Path:
     """The archive as a shared object."""
     if not ARCHIVE.exists():
-        sys.exit("target/staticlib/librelay.a is missing: run `rt staticlib relay` at the root")
+        sys.exit("target/staticlib/librelay.a is missing: run `make library` at the root")
     SHARED.parent.mkdir(parents=True, exist_ok=True)
     whole = ["-Wl,--whole-archive", ARCHIVE, "-Wl,--no-whole-archive"]
     subprocess.run(["cc", "-shared", "-Wl,-z,text", "-o", SHARED, *whole], check=True)

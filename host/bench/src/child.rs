@@ -11,10 +11,10 @@ use std::io::{self, BufRead, BufReader, Read, Write};
 use std::process::{self, ChildStdin, ChildStdout, Command, Stdio};
 use std::str::FromStr;
 
-use crate::measure::{Here, Pace, Runner};
+use crate::measure::{Here, Runner};
 use crate::nettle;
 use crate::openssl;
-use crate::options;
+use crate::options::{self, Pace};
 use crate::rows::Row;
 
 /// The parent's end.

@@ -4,7 +4,8 @@ use std::error::Error;
 use std::io;
 
 use crate::child::Child;
-use crate::measure::{Here, Pace, Runner};
+use crate::measure::{Here, Runner};
+use crate::options::Pace;
 use crate::results::Line;
 use crate::rows::{Library, Row};
 

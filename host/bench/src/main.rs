@@ -44,8 +44,7 @@ use std::process::ExitCode;
 
 use about::About;
 use contest::Contest;
-use measure::Pace;
-use options::Task;
+use options::{Pace, Task};
 
 /// The exit status for arguments that are not understood.
 const MISUSED: u8 = 2;

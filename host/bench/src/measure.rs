@@ -4,35 +4,8 @@ use std::collections::HashMap;
 use std::io;
 use std::time::{Duration, Instant};
 
+use crate::options::Pace;
 use crate::rows::{self, Row, Work};
-
-/// How long is measured.
-#[derive(Clone, Copy, Debug, PartialEq, Eq)]
-pub struct Pace {
-    /// One more than a multiple of four, so that the quartiles are samples.
-    pub rounds: usize,
-    /// How many batches of calls a round times, the least of which is its sample.
-    pub batches: usize,
-    /// The shortest time of a batch: the clock must be fine enough for it, and it is short
-    /// beside what the system lets a process run for, so that most batches are not
-    /// interrupted.
-    batch: Duration,
-}
-
-impl Pace {
-    pub const FULL: Pace = Pace {
-        rounds: 21,
-        batches: 7,
-        batch: Duration::from_micros(500),
-    };
-
-    /// Shows that the program works; its figures are rough.
-    pub const QUICK: Pace = Pace {
-        rounds: 5,
-        batches: 3,
-        batch: Duration::from_micros(100),
-    };
-}
 
 /// A process that runs contestants, each named by its row and its place there.
 pub trait Runner {

@@ -2,8 +2,7 @@
 
 use std::ffi::OsString;
 use std::path::PathBuf;
-
-use crate::measure::Pace;
+use std::time::Duration;
 
 pub const USAGE: &str = "\
 usage: bench [--quick] [--out DIR]
@@ -17,6 +16,34 @@ pub const QUICK: &str = "--quick";
 
 const OUT: &str = "--out";
 const DEFAULT_OUT: &str = "target/bench";
+
+/// How long is measured.
+#[derive(Clone, Copy, Debug, PartialEq, Eq)]
+pub struct Pace {
+    /// One more than a multiple of four, so that the quartiles are samples.
+    pub rounds: usize,
+    /// How many batches of calls a round times, the least of which is its sample.
+    pub batches: usize,
+    /// The shortest time of a batch: the clock must be fine enough for it, and it is short
+    /// beside what the system lets a process run for, so that most batches are not
+    /// interrupted.
+    pub batch: Duration,
+}
+
+impl Pace {
+    pub const FULL: Pace = Pace {
+        rounds: 21,
+        batches: 7,
+        batch: Duration::from_micros(500),
+    };
+
+    /// Shows that the program works; its figures are rough.
+    pub const QUICK: Pace = Pace {
+        rounds: 5,
+        batches: 3,
+        batch: Duration::from_micros(100),
+    };
+}
 
 #[derive(Debug, PartialEq, Eq)]
 pub enum Task {

@@ -161,6 +161,11 @@ pub use stream::{RequestHeader, RequestStream, ResponseHeader, ResponseStream, S
 pub use table::Table;
 pub use target::Target;
 
+/// README's Rust is tested too, as it stands.
+#[cfg(doctest)]
+#[doc = include_str!("../../../README.md")]
+struct Readme;
+
 /// The longest datagram, in bytes.
 pub const MAX_DATAGRAM: usize = 65_507;
 

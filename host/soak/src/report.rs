@@ -11,6 +11,10 @@ use crate::tally::Tally;
 /// Minutes between two lines of progress, where they are not one line.
 const STEP: u64 = 5;
 
+/// Clients side by side in the table, and what stands between them.
+const ABREAST: usize = 3;
+const GAP: &str = "   ";
+
 /// Refusals of the server, but for replays, in columns.
 const COLUMNS: [(u64, &str); 6] = [
     (rules::LENGTH, "length"),
@@ -54,32 +58,53 @@ pub fn disagreement(disagreement: &Disagreement) {
 
 pub fn summary(summary: &Summary) {
     table(summary);
+    sums(summary);
     throughput(summary);
     conclusion(summary);
 }
 
 fn table(summary: &Summary) {
     println!();
-    println!("Datagrams by client, and what became of them. Numbers are those of the refusals.");
+    println!("Datagrams of each client: accepted, refused as replays, and refused otherwise");
     println!();
-    print!("client  sessions  accepted  8 replay");
+    println!(
+        "{}",
+        ["client accepted replayed refused"; ABREAST].join(GAP)
+    );
+    let clients = summary.rows.len();
+    let lines = clients.div_ceil(ABREAST);
+    for line in 0..lines {
+        let abreast = (line..clients).step_by(lines);
+        let cells: Vec<_> = abreast.map(|i| cell(i + 1, &summary.rows[i].1)).collect();
+        println!("{}", cells.join(GAP));
+    }
+}
+
+fn cell(client: usize, tally: &Tally) -> String {
+    let replayed = tally.refused_with(rules::REPLAY);
+    let otherwise = tally.refused() - replayed;
+    format!(
+        "{client:>6} {:>8} {replayed:>8} {otherwise:>7}",
+        tally.accepted
+    )
+}
+
+/// What became of the datagrams of all clients.
+fn sums(summary: &Summary) {
+    println!();
+    print!("sessions  accepted  8 replay");
     for (number, name) in COLUMNS {
         print!("  {:>8}", format!("{number} {name}"));
     }
     println!("   replies");
-    let mut sum = (0, Tally::default(), Tally::default());
-    for (index, (sessions, tally, replies)) in summary.rows.iter().enumerate() {
-        row(&(index + 1).to_string(), *sessions, tally, replies);
-        sum.0 += sessions;
-        sum.1 += *tally;
-        sum.2 += *replies;
+    let (mut sessions, mut tally, mut replies) = (0, Tally::default(), Tally::default());
+    for row in &summary.rows {
+        sessions += row.0;
+        tally += row.1;
+        replies += row.2;
     }
-    row("all", sum.0, &sum.1, &sum.2);
-}
-
-fn row(name: &str, sessions: u64, tally: &Tally, replies: &Tally) {
     print!(
-        "{name:>6}  {sessions:>8}  {:>8}  {:>8}",
+        "{sessions:>8}  {:>8}  {:>8}",
         tally.accepted,
         tally.refused_with(rules::REPLAY)
     );
