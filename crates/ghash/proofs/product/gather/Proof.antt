@@ -1,9 +1,9 @@
 -- The loop's invariant: s holds 4 * k lookups for each word.
 use mathlib.Core.Path.{_≡_, refl, ap, _∙_}
-use Prim.Native.Nat.{ℕ, _-_, _*_, _≤_}
+use Prim.Native.Nat.{_-_, _≤_}
 use native.Mathlib.Omega.{arith}
 use borrow.Author.Needs.{needs}
-use Rattle.ghash.specs.Table.{keyIn, lookups, gather}
+use Rattle.ghash.specs.Table.{keyIn, gather}
 use Rattle.ghash.specs.Words.{longOf}
 use Rattle.ghash.proofs.GatherLaws.{gather-more}
 use Rattle.ghash.proofs.product.gather.Statement.{statement}
