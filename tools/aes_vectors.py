@@ -15,7 +15,7 @@ CAVP = "aes-block-cavp.txt"
 
 RANDOM_BLOCKS = 64  # for each key length
 
-SCHEDULE = 60  # words
+SCHEDULE = 240  # bytes
 
 
 def cavp_groups():
@@ -56,9 +56,8 @@ def check_groups(groups):
 def expansion(key):
     """The words of a key's expansion, and zeros behind them."""
     words = aes.key_expansion(key)
-    after = [int.from_bytes(word, "little") for word in words]
-    after += [0] * (SCHEDULE - len(after))
-    return Case(vectors.EXPAND, "words", len(words), key=key, lent=SCHEDULE, after=after)
+    output = b"".join(words).ljust(SCHEDULE, b"\0")
+    return Case(vectors.EXPAND, "words", len(words), key=key, output=output, room=SCHEDULE)
 
 
 def block_cases(blocks):

@@ -3,7 +3,8 @@ use crate::case::DATA;
 use crate::case::KEY;
 use crate::case::SALT;
 use crate::case::field;
-use crate::memory::set;
+ghost use mathlib.Core.Path.{_≡_};
+ghost use lib.ListN.{length};
 
 // The kinds of calls.
 const ENCRYPT: u64 = 1;
@@ -70,19 +71,16 @@ fn open(c: &[u8], out: &mut [u8]) -> u64 {
     }
 }
 
-fn wide(x: u32) -> u64 {
-    x as u64
-}
-
-// Writes 60 words.
-fn put_schedule(words: &mut [u64], w: &[u32; 60]) {
+// Writes the words of a key schedule, each with its lowest byte first.
+fn write_schedule(out: &mut [u8], w: &[u32; 60])
+    requires { ⌜ length (now out) ≡ 240 ⌝ }
+{
     for i in 0..60 {
-        set(words, i, wide(w[i]));
+        octets::write_u32_le(out, 4 * i, w[i]);
     }
 }
 
-// The key expansion, whose words are written behind each other.
-fn expand(c: &[u8], words: &mut [u64]) -> u64 {
+fn expand(c: &[u8], out: &mut [u8]) -> u64 {
     let key = field(c, KEY);
     let nk = key.len() / 4;
     if nk < 4 {
@@ -94,13 +92,16 @@ fn expand(c: &[u8], words: &mut [u64]) -> u64 {
     if key.len() != 4 * nk {
         return 1;
     }
+    if out.len() != 240 {
+        return 1;
+    }
     let sbox = aes_tables::sbox();
     let w = aes::key::expand(&sbox, key, nk);
-    put_schedule(words, &w);
+    write_schedule(out, &w);
     0
 }
 
-pub fn call(c: &[u8], kind: u64, words: &mut [u64], out: &mut [u8]) -> u64 {
+pub fn call(c: &[u8], kind: u64, out: &mut [u8]) -> u64 {
     if kind == ENCRYPT {
         return encrypt(c, out);
     }
@@ -114,7 +115,7 @@ pub fn call(c: &[u8], kind: u64, words: &mut [u64], out: &mut [u8]) -> u64 {
         return derive_subkey(c, out);
     }
     if kind == EXPAND {
-        return expand(c, words);
+        return expand(c, out);
     }
     if kind == SEAL {
         return seal(c, out);

@@ -111,24 +111,23 @@ fn peer(c: &[u8]) -> Peer {
     }
 }
 
-fn opened(c: &[u8], kind: u64, table: &mut [u64], out: &mut [u8]) -> Opened {
-    let method = number(c, METHOD);
-    let clock = number(c, CLOCK);
-    if kind == OPEN_SERVER {
-        return datagram_open::open_server(
-            method,
-            field(c, KEY),
-            clock,
-            peer(c),
-            field(c, DATA),
-            table,
-            out,
-        );
-    }
-    datagram_open::open_client(
-        method,
+fn open_server(c: &[u8], table: &mut [u64], out: &mut [u8]) -> Opened {
+    datagram_open::open_server(
+        number(c, METHOD),
         field(c, KEY),
-        clock,
+        number(c, CLOCK),
+        peer(c),
+        field(c, DATA),
+        table,
+        out,
+    )
+}
+
+fn open_client(c: &[u8], table: &mut [u64], out: &mut [u8]) -> Opened {
+    datagram_open::open_client(
+        number(c, METHOD),
+        field(c, KEY),
+        number(c, CLOCK),
         number(c, CLIENT),
         peer(c),
         field(c, DATA),
@@ -158,5 +157,8 @@ pub fn call(c: &[u8], kind: u64, table: &mut [u64], out: &mut [u8], answer: &mut
     if kind == MAKE {
         return make(c, table);
     }
-    tell(opened(c, kind, table, out), answer)
+    if kind == OPEN_SERVER {
+        return tell(open_server(c, table, out), answer);
+    }
+    tell(open_client(c, table, out), answer)
 }

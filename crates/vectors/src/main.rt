@@ -62,7 +62,7 @@ fn answer_to(
     requires { ⌜ length (now answer) ≡ 9 ⌝ }
 {
     if kind <= CIPHERS {
-        return ciphers::call(c, kind, words, out);
+        return ciphers::call(c, kind, out);
     }
     if kind <= DATAGRAMS {
         return datagrams::call(c, kind, words, out, answer);
@@ -79,15 +79,21 @@ fn lend(c: &[u8], words: &mut [u64], out: &mut [u8], stream: &mut [u64], answer:
     answer_to(c, number(c, KIND), &mut words[..n], out, stream, answer)
 }
 
+// Writes what a call leaves beside the words lent.
+fn keep(words: &mut [u64], at: usize, stream: &[u64], answer: &[u64], number: u64) {
+    memory::put(words, at, stream);
+    memory::put(words, ANSWER, answer);
+    memory::set(words, NUMBER, number);
+}
+
 // Makes the call of a case. Its stream and its answer are among the words before it and after.
 fn call(c: &[u8], words: &mut [u64], out: &mut [u8]) {
     let mut stream = [0u64; 8];
     let mut answer = [0u64; 9];
-    memory::put(&mut stream, 0, memory::rest(words, size(c, STREAM)));
+    let at = size(c, STREAM);
+    memory::put(&mut stream, 0, memory::rest(words, at));
     let n = lend(c, words, out, &mut stream, &mut answer);
-    memory::put(words, size(c, STREAM), &stream);
-    memory::put(words, ANSWER, &answer);
-    memory::set(words, NUMBER, n);
+    keep(words, at, &stream, &answer, n);
 }
 
 // Makes a call, or sets words.
@@ -160,17 +166,16 @@ fn group_length(fd: i32) -> usize {
     octets::read_u32_be(&length, 0) as usize
 }
 
-fn next_group(fd: i32, head: &[u8]) -> Tally {
-    let mut s = [0u8; GROUP];
-    let n = least(group_length(fd), GROUP);
-    read_group(fd, head, &mut s[..n])
+fn next_group(fd: i32, head: &[u8], buf: &mut [u8]) -> Tally {
+    let n = least(group_length(fd), buf.len());
+    read_group(fd, head, &mut buf[..n])
 }
 
 // The groups of a file.
-fn groups(fd: i32, head: &[u8]) -> Tally {
+fn groups(fd: i32, head: &[u8], buf: &mut [u8]) -> Tally {
     let mut all = [0u64; 5];
     for i in 0..count(head) {
-        let sum = tally::sum(all, next_group(fd, head));
+        let sum = tally::sum(all, next_group(fd, head, buf));
         all = sum;
     }
     all
@@ -180,9 +185,10 @@ fn groups(fd: i32, head: &[u8]) -> Tally {
 // the groups.
 fn file(path: &[u8]) {
     let mut head = [0u8; 256];
+    let mut buf = [0u8; GROUP];
     let fd = os::open_read(path);
     io::read_full(fd, &mut head);
-    let all = groups(fd, &head);
+    let all = groups(fd, &head, &mut buf);
     tally::print(&head, field(&head, TITLE), all);
     libc::close(fd);
 }

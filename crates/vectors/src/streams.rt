@@ -12,6 +12,7 @@ use crate::case::size;
 use crate::memory::set;
 use request_open::RequestOpened;
 use response_open::ResponseOpened;
+use stream::Sealed;
 use stream_answers::tell_request;
 use stream_answers::tell_response;
 use stream_answers::tell_sealed;
@@ -38,11 +39,8 @@ const PADDING: usize = 80;
 // The word of an answer for a head's time.
 const TIME: usize = 8;
 
-fn seal_request(c: &[u8], out: &mut [u8], stream: &mut [u64], answer: &mut [u64]) -> u64
-    requires { ⌜ length (now stream) ≡ 8 ⌝ }
-    requires { ⌜ length (now answer) ≡ 9 ⌝ }
-{
-    let sealed = head_seal::seal_request(
+fn seal_request(c: &[u8], out: &mut [u8]) -> Sealed {
+    head_seal::seal_request(
         number(c, METHOD),
         field(c, KEY),
         field(c, SALT),
@@ -51,15 +49,11 @@ fn seal_request(c: &[u8], out: &mut [u8], stream: &mut [u64], answer: &mut [u64]
         size(c, PADDING),
         field(c, DATA),
         out,
-    );
-    tell_sealed(sealed, stream, answer)
+    )
 }
 
-fn seal_response(c: &[u8], out: &mut [u8], stream: &mut [u64], answer: &mut [u64]) -> u64
-    requires { ⌜ length (now stream) ≡ 8 ⌝ }
-    requires { ⌜ length (now answer) ≡ 9 ⌝ }
-{
-    let sealed = head_seal::seal_response(
+fn seal_response(c: &[u8], out: &mut [u8]) -> Sealed {
+    head_seal::seal_response(
         number(c, METHOD),
         field(c, KEY),
         field(c, SALT),
@@ -67,16 +61,30 @@ fn seal_response(c: &[u8], out: &mut [u8], stream: &mut [u64], answer: &mut [u64
         number(c, CLOCK),
         field(c, DATA),
         out,
-    );
-    tell_sealed(sealed, stream, answer)
+    )
 }
 
-fn seal_chunk(c: &[u8], out: &mut [u8], stream: &mut [u64], answer: &mut [u64]) -> u64
+fn seal(c: &[u8], kind: u64, stream: &[u64], out: &mut [u8]) -> Sealed
     requires { ⌜ length (now stream) ≡ 8 ⌝ }
-    requires { ⌜ length (now answer) ≡ 9 ⌝ }
 {
-    let sealed = stream::seal_chunk(words::sender_in(stream), field(c, DATA), out);
-    tell_sealed(sealed, stream, answer)
+    if kind == SEAL_REQUEST {
+        return seal_request(c, out);
+    }
+    if kind == SEAL_RESPONSE {
+        return seal_response(c, out);
+    }
+    stream::seal_chunk(words::sender_in(stream), field(c, DATA), out)
+}
+
+fn open_request(c: &[u8], pool: &mut [u64], out: &mut [u8]) -> RequestOpened {
+    request_open::open_request(
+        number(c, METHOD),
+        field(c, KEY),
+        number(c, CLOCK),
+        field(c, DATA),
+        pool,
+        out,
+    )
 }
 
 fn request_time(opened: RequestOpened) -> u64 {
@@ -86,24 +94,10 @@ fn request_time(opened: RequestOpened) -> u64 {
     }
 }
 
-fn open_request(
-    c: &[u8],
-    pool: &mut [u64],
-    out: &mut [u8],
-    stream: &mut [u64],
-    answer: &mut [u64],
-) -> u64
+fn tell_opened(opened: RequestOpened, stream: &mut [u64], answer: &mut [u64]) -> u64
     requires { ⌜ length (now stream) ≡ 8 ⌝ }
     requires { ⌜ length (now answer) ≡ 9 ⌝ }
 {
-    let opened = request_open::open_request(
-        number(c, METHOD),
-        field(c, KEY),
-        number(c, CLOCK),
-        field(c, DATA),
-        pool,
-        out,
-    );
     set(answer, TIME, request_time(opened));
     tell_request(opened, stream, answer)
 }
@@ -138,19 +132,6 @@ fn open_chunk(c: &[u8], out: &mut [u8], stream: &mut [u64], answer: &mut [u64]) 
     tell_step(step, stream, answer)
 }
 
-fn seal(c: &[u8], kind: u64, out: &mut [u8], stream: &mut [u64], answer: &mut [u64]) -> u64
-    requires { ⌜ length (now stream) ≡ 8 ⌝ }
-    requires { ⌜ length (now answer) ≡ 9 ⌝ }
-{
-    if kind == SEAL_REQUEST {
-        return seal_request(c, out, stream, answer);
-    }
-    if kind == SEAL_RESPONSE {
-        return seal_response(c, out, stream, answer);
-    }
-    seal_chunk(c, out, stream, answer)
-}
-
 fn make(c: &[u8], pool: &mut [u64]) -> u64 {
     if pool::make(number(c, METHOD), pool) {
         return 0;
@@ -170,10 +151,10 @@ pub fn call(
     requires { ⌜ length (now answer) ≡ 9 ⌝ }
 {
     if kind <= SEAL_CHUNK {
-        return seal(c, kind, out, stream, answer);
+        return tell_sealed(seal(c, kind, stream, out), stream, answer);
     }
     if kind == OPEN_REQUEST {
-        return open_request(c, pool, out, stream, answer);
+        return tell_opened(open_request(c, pool, out), stream, answer);
     }
     if kind == OPEN_RESPONSE {
         return open_response(c, stream, answer);

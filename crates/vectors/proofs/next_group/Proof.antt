@@ -13,4 +13,5 @@ next-group-spec =
     (λ c. search needs)
     (λ c. simp length-take (omega arith))
     (λ c κs. search needs)
+    (λ c. search needs)
     (λ c. search needs))
