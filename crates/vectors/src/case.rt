@@ -8,40 +8,40 @@ const RECORD: usize = 56;
 // The fields of a case.
 const NUMBERS: usize = 0;
 
-pub const KEY: usize = 8;
+pub(crate) const KEY: usize = 8;
 
-pub const SALT: usize = 16;
+pub(crate) const SALT: usize = 16;
 
-pub const OTHER: usize = 24;
+pub(crate) const OTHER: usize = 24;
 
-pub const DATA: usize = 32;
+pub(crate) const DATA: usize = 32;
 
-pub const OUTPUT: usize = 40;
+pub(crate) const OUTPUT: usize = 40;
 
-pub const CHANGES: usize = 48;
+pub(crate) const CHANGES: usize = 48;
 
 // The numbers of a case, each of 8 bytes.
-pub const KIND: usize = 0;
+pub(crate) const KIND: usize = 0;
 
-pub const COUNTER: usize = 8;
+pub(crate) const COUNTER: usize = 8;
 
-pub const COUNT: usize = 16;
+pub(crate) const COUNT: usize = 16;
 
-pub const ROOM: usize = 24;
+pub(crate) const ROOM: usize = 24;
 
-pub const FILLED: usize = 32;
+pub(crate) const FILLED: usize = 32;
 
-pub const FILLING: usize = 40;
+pub(crate) const FILLING: usize = 40;
 
-pub const LENT: usize = 48;
+pub(crate) const LENT: usize = 48;
 
-pub const STREAM: usize = 56;
+pub(crate) const STREAM: usize = 56;
 
-pub const METHOD: usize = 64;
+pub(crate) const METHOD: usize = 64;
 
-pub const CLOCK: usize = 72;
+pub(crate) const CLOCK: usize = 72;
 
-pub fn least(a: usize, b: usize) -> usize
+pub(crate) fn least(a: usize, b: usize) -> usize
     ensures { λ r. ⌜ r ≤ b ⌝ }
 {
     if a < b { a } else { b }
@@ -58,7 +58,7 @@ fn part(s: &[u8], from: usize, n: usize) -> &[u8] {
     &s[from..from + n]
 }
 
-pub fn field(c: &[u8], at: usize) -> &[u8] {
+pub(crate) fn field(c: &[u8], at: usize) -> &[u8] {
     let x = octets::read_u64_be(c, at);
     part(
         c,
@@ -67,16 +67,16 @@ pub fn field(c: &[u8], at: usize) -> &[u8] {
     )
 }
 
-pub fn number(c: &[u8], at: usize) -> u64 {
+pub(crate) fn number(c: &[u8], at: usize) -> u64 {
     octets::read_u64_be(field(c, NUMBERS), at)
 }
 
-pub fn size(c: &[u8], at: usize) -> usize {
+pub(crate) fn size(c: &[u8], at: usize) -> usize {
     number(c, at) as usize
 }
 
 // The case of a number in a group.
-pub fn record(s: &[u8], i: usize) -> &[u8] {
+pub(crate) fn record(s: &[u8], i: usize) -> &[u8] {
     if s.len() / RECORD <= i {
         return &s[..0];
     }

@@ -101,7 +101,7 @@ fn expand(c: &[u8], out: &mut [u8]) -> u64 {
     0
 }
 
-pub fn call(c: &[u8], kind: u64, out: &mut [u8]) -> u64 {
+pub(crate) fn call(c: &[u8], kind: u64, out: &mut [u8]) -> u64 {
     if kind == ENCRYPT {
         return encrypt(c, out);
     }

@@ -147,7 +147,13 @@ fn tell(opened: Opened, answer: &mut [u64]) -> u64 {
     }
 }
 
-pub fn call(c: &[u8], kind: u64, table: &mut [u64], out: &mut [u8], answer: &mut [u64]) -> u64 {
+pub(crate) fn call(
+    c: &[u8],
+    kind: u64,
+    table: &mut [u64],
+    out: &mut [u8],
+    answer: &mut [u64],
+) -> u64 {
     if kind == SEAL {
         return seal(c, out, answer);
     }

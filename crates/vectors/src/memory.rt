@@ -14,7 +14,7 @@ fn byte_or_fill(s: &[u8], i: usize) -> u8 {
 }
 
 // Whether a buffer holds a string and is as it was filled behind that.
-pub fn holds(out: &[u8], s: &[u8]) -> bool {
+pub(crate) fn holds(out: &[u8], s: &[u8]) -> bool {
     if out.len() < s.len() {
         return false;
     }
@@ -26,21 +26,21 @@ pub fn holds(out: &[u8], s: &[u8]) -> bool {
     true
 }
 
-pub fn set(words: &mut [u64], at: usize, word: u64) {
+pub(crate) fn set(words: &mut [u64], at: usize, word: u64) {
     if at < words.len() {
         words[at] = word;
     }
 }
 
 // Writes words from a place on, as far as there is room.
-pub fn put(words: &mut [u64], at: usize, from: &[u64]) {
+pub(crate) fn put(words: &mut [u64], at: usize, from: &[u64]) {
     for i in 0..from.len() {
         set(words, std::num::wrapping_add_usize(at, i), from[i]);
     }
 }
 
 // The words from a place on.
-pub fn rest(words: &[u64], at: usize) -> &[u64] {
+pub(crate) fn rest(words: &[u64], at: usize) -> &[u64] {
     if words.len() < at {
         return &words[..0];
     }
@@ -66,12 +66,12 @@ fn change(words: &mut [u64], changes: &[u8]) {
 }
 
 // Makes the words that were before a case those that it must leave: the first ones are filled, then some are changed.
-pub fn expect(words: &mut [u64], c: &[u8]) {
+pub(crate) fn expect(words: &mut [u64], c: &[u8]) {
     fill(words, size(c, FILLED), number(c, FILLING));
     change(words, field(c, CHANGES));
 }
 
-pub fn same(a: &[u64], b: &[u64]) -> bool {
+pub(crate) fn same(a: &[u64], b: &[u64]) -> bool {
     if a.len() != b.len() {
         return false;
     }

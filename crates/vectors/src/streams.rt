@@ -139,7 +139,7 @@ fn make(c: &[u8], pool: &mut [u64]) -> u64 {
     1
 }
 
-pub fn call(
+pub(crate) fn call(
     c: &[u8],
     kind: u64,
     pool: &mut [u64],

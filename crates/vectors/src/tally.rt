@@ -4,7 +4,7 @@ use crate::case::least;
 use libc::STDOUT_FILENO;
 
 // How many cases came to each of four things, whose names are in the file's head, and how many differ.
-pub type Tally = [u64; 5];
+pub(crate) type Tally = [u64; 5];
 
 const DIFFER: usize = 4;
 
@@ -16,7 +16,7 @@ fn add(t: Tally, counter: usize, n: u64) -> Tally {
 }
 
 // With one more case, which counts n times.
-pub fn counted(t: Tally, counter: usize, n: u64, same: bool) -> Tally {
+pub(crate) fn counted(t: Tally, counter: usize, n: u64, same: bool) -> Tally {
     let sum = add(t, counter, n);
     if same {
         return sum;
@@ -24,7 +24,7 @@ pub fn counted(t: Tally, counter: usize, n: u64, same: bool) -> Tally {
     add(sum, DIFFER, 1)
 }
 
-pub fn sum(a: Tally, b: Tally) -> Tally {
+pub(crate) fn sum(a: Tally, b: Tally) -> Tally {
     [
         std::num::wrapping_add_u64(a[0], b[0]),
         std::num::wrapping_add_u64(a[1], b[1]),
@@ -49,7 +49,7 @@ fn print_counts(head: &[u8], t: Tally) {
 }
 
 // A line: a title, the counts, and how many differ.
-pub fn print(head: &[u8], title: &[u8], t: Tally) {
+pub(crate) fn print(head: &[u8], title: &[u8], t: Tally) {
     io::write_all(STDOUT_FILENO, title);
     print_counts(head, t);
     io::print_decimal(STDOUT_FILENO, t[DIFFER]);
