@@ -11,6 +11,7 @@ use crate::memory::put;
 use crate::memory::set;
 use datagram::Begun;
 use datagram::Sealed;
+use datagram::Sealing;
 use datagram::Sender;
 use datagram_open::Opened;
 use session::Peer;
@@ -54,9 +55,8 @@ fn sender(c: &[u8]) -> Sender {
     )
 }
 
-// The datagram's length, and the sending session.
-fn seal(c: &[u8], out: &mut [u8], answer: &mut [u64]) -> u64 {
-    let done = datagram::seal(
+fn seal(c: &[u8], out: &mut [u8]) -> Sealing {
+    datagram::seal(
         number(c, METHOD),
         field(c, KEY),
         sender(c),
@@ -65,7 +65,11 @@ fn seal(c: &[u8], out: &mut [u8], answer: &mut [u64]) -> u64 {
         size(c, PADDING),
         field(c, DATA),
         out,
-    );
+    )
+}
+
+// The datagram's length, and the sending session.
+fn tell_sealing(done: Sealing, answer: &mut [u64]) -> u64 {
     let next = done.sender;
     let sealed = done.answer;
     put(answer, 1, &words::session_words(next));
@@ -155,7 +159,7 @@ pub(crate) fn call(
     answer: &mut [u64],
 ) -> u64 {
     if kind == SEAL {
-        return seal(c, out, answer);
+        return tell_sealing(seal(c, out), answer);
     }
     if kind == BEGIN {
         return begin(c, answer);

@@ -181,15 +181,20 @@ fn groups(fd: i32, head: &[u8], buf: &mut [u8]) -> Tally {
     all
 }
 
+// The groups behind a head, and their total.
+fn total(fd: i32, head: &[u8]) {
+    let mut buf = [0u8; GROUP];
+    let all = groups(fd, head, &mut buf);
+    tally::print(head, field(head, TITLE), all);
+}
+
 // A file: a head of 256 bytes, with how many groups there are, the title of the total and the names of what cases come to; then
 // the groups.
 fn file(path: &[u8]) {
     let mut head = [0u8; 256];
-    let mut buf = [0u8; GROUP];
     let fd = os::open_read(path);
     io::read_full(fd, &mut head);
-    let all = groups(fd, &head, &mut buf);
-    tally::print(&head, field(&head, TITLE), all);
+    total(fd, &head);
     libc::close(fd);
 }
 
