@@ -69,12 +69,7 @@ fuzz: seconds library
 seconds:
 	@bash -c 'source tests/common.sh && require_seconds "$(SECONDS)"'
 
-# The data of the vectors_* programs and what they must print.
+# The data of the program vectors and what it must print.
 vectors:
 	tools/need python3=python3
-	python3 tools/aes-vectors.py
-	python3 tools/gcm-vectors.py
-	python3 tools/blake3-vectors.py
-	python3 tools/datagram-vectors.py
-	python3 tools/session-vectors.py
-	python3 tools/stream-vectors.py
+	python3 tools/make-vectors.py

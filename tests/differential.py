@@ -6,7 +6,7 @@
 
 Every call is made of target/staticlib/librelay.a and of reference/relay.py. Compared are the
 number returned and all that was lent, each buffer whole: what is to be written, what is to be
-left alone, and the memory on both sides of it. First come the calls of the vectors_* programs,
+left alone, and the memory on both sides of it. First come the calls of the program vectors,
 then sequences by dice. At the end every number that a function may return must have been seen.
 """
 

@@ -1,17 +1,16 @@
-"""The calls of the proved programs vectors_datagram, vectors_sessions and vectors_streams, as
-calls of the library: every edge that they hold, through the exported functions."""
+"""The calls about datagrams, session tables and streams of the proved program vectors, as calls of
+the library: every edge that they hold, through the exported functions."""
 
 from __future__ import annotations
 
-import importlib.util
 import sys
 from collections.abc import Iterator
-from types import ModuleType
 
 sys.dont_write_bytecode = True  # no __pycache__ in the tree
 from library import ROOT, Value  # noqa: E402
 
 sys.path[:0] = [str(ROOT / "reference"), str(ROOT / "tools")]
+import datagram_vectors  # noqa: E402
 import session_cases  # noqa: E402
 import stream_calls  # noqa: E402
 import stream_cases  # noqa: E402
@@ -25,23 +24,10 @@ FILL = 0xA5
 Call = tuple[str, dict[str, Value]]
 
 
-def script(name: str) -> ModuleType:
-    """A script of tools/, which its name keeps from being imported."""
-    spec = importlib.util.spec_from_file_location(name, ROOT / "tools" / f"{name}.py")
-    module = importlib.util.module_from_spec(spec)
-    spec.loader.exec_module(module)
-    return module
-
-
-def groups_of(cases: ModuleType) -> Iterator[tuple]:
-    for groups in cases.make_files().values():
-        yield from groups
-
-
 # Sealed datagrams.
 
 
-def sealing(cases: ModuleType, call) -> Call:
+def sealing(call) -> Call:
     sender = call.sender
     side = CLIENT_SIDE if sender.client is None else SERVER_SIDE
     return "relay_datagram_seal", {
@@ -51,7 +37,7 @@ def sealing(cases: ModuleType, call) -> Call:
         "clock": call.time,
         "address": call.address,
         "padding": call.padding,
-        "payload": cases.payload(call.length, call.seed),
+        "payload": datagram_vectors.payload(call.length, call.seed),
         "out": bytes([FILL]) * call.room,
         "answer": ANSWER,
     }
@@ -65,13 +51,12 @@ def beginning(case) -> Call:
 
 
 def datagrams() -> Iterator[Call]:
-    cases = script("datagram-vectors")
-    for _, kind, records in groups_of(cases):
+    for _, kind, records in datagram_vectors.make_groups():
         for record in records:
-            if kind == cases.BEGINNING:
+            if kind == datagram_vectors.BEGINNING:
                 yield beginning(record)
             else:
-                yield sealing(cases, record.call)
+                yield sealing(record.call)
 
 
 # Opened datagrams and the session table.
@@ -90,7 +75,7 @@ def opening(record) -> Call:
 
 
 def tables() -> Iterator[Call]:
-    for _, calls in groups_of(session_cases):
+    for _, calls in session_cases.make_groups():
         for record in calls.records:
             if isinstance(record, session_cases.Opening):
                 yield opening(record)
@@ -137,7 +122,7 @@ def streaming(record) -> Call:
 
 
 def streams() -> Iterator[Call]:
-    for _, calls in groups_of(stream_cases):
+    for _, calls in stream_cases.make_groups():
         for record in calls.records:
             if isinstance(record, stream_calls.Run):
                 yield streaming(record)

@@ -1,4 +1,4 @@
-"""The calls of the program vectors_sessions, in groups, with what the reference answers to each."""
+"""Calls on session tables, in groups, with what the reference answers to each."""
 
 import collections
 import itertools
@@ -23,9 +23,8 @@ PAIRS = {
 }
 TWO_PAIRS = {name: PAIRS[name] for name in ("128 server", "256 client")}
 
-# The program's arrays have no more room than this.
-BUFFER_LIMIT = 65_600
-WORD_LIMIT = 706
+LONG_BUFFER = 65_600
+WORD_LIMIT = TABLE_WORDS + 1  # words of a table, and one behind it
 
 BEHIND = 8  # bytes of room behind a plaintext, to show that they are left alone
 FILL = b"\xa5"  # what the program fills its output with
@@ -332,9 +331,9 @@ def length_group():
         for length in (32, 33, 47, 100):
             calls.open(NOT_AUTHENTIC, length=length, **each)
             calls.open(NOT_AUTHENTIC, data=b"", length=length, **each)
-        for length in (MAX_LENGTH + 1, 65_535, BUFFER_LIMIT):
+        for length in (MAX_LENGTH + 1, 65_535, LONG_BUFFER):
             calls.open(LENGTH, length=length, room=0, **each)
-            calls.open(LENGTH, length=length, room=BUFFER_LIMIT, **each)
+            calls.open(LENGTH, length=length, room=LONG_BUFFER, **each)
         calls.open(ROOM, length=MAX_LENGTH, room=MAX_LENGTH - 33, **each)
     calls.open(NOT_AUTHENTIC, length=MAX_LENGTH, room=MAX_LENGTH - 32)
     return "lengths", calls
@@ -675,7 +674,7 @@ def longest_group():
     head = make_text(each["client"], address=V6)
     text = head + pattern(MAX_LENGTH - MIN_LENGTH)[len(head) :]
     call = make_call(text=text, room=len(text), **each)
-    longer = call._replace(output=FILL * BUFFER_LIMIT)
+    longer = call._replace(output=FILL * LONG_BUFFER)
     calls = Calls(60)
     calls.run(call._replace(output=call.output[1:]), ROOM)
     calls.run(longer, 0)
@@ -687,19 +686,30 @@ def longest_group():
 # The files.
 
 
-def make_files():
-    """The groups by the names of their files, in the program's order."""
-    said = (short_groups(), type_groups(), time_groups(), [binding_group()], address_groups())
-    others = ([room_group()], forged_groups(), [length_group()], settings_groups(), order_groups())
-    window = (window_groups(), [refused_group(), low_group()])
-    files = {
-        "opened.bin": (worked_groups(), opened_groups()),
-        "said.bin": said,
-        "refused.bin": others,
-        "window.bin": window,
-        "kept.bin": (kept_groups(), [clock_group()], full_groups()),
-        "odd.bin": ([odd_group()], random_groups(), [making_group()]),
-        "lists.bin": (list_groups(),),
-        "longest.bin": ([longest_group()],),
-    }
-    return {name: list(itertools.chain(*groups)) for name, groups in files.items()}
+def make_groups():
+    """The groups in the program's order."""
+    return [
+        *worked_groups(),
+        *opened_groups(),
+        *short_groups(),
+        *type_groups(),
+        *time_groups(),
+        binding_group(),
+        *address_groups(),
+        room_group(),
+        *forged_groups(),
+        length_group(),
+        *settings_groups(),
+        *order_groups(),
+        *window_groups(),
+        refused_group(),
+        low_group(),
+        *kept_groups(),
+        clock_group(),
+        *full_groups(),
+        odd_group(),
+        *random_groups(),
+        making_group(),
+        *list_groups(),
+        longest_group(),
+    ]

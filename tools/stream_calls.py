@@ -1,4 +1,4 @@
-"""Calls of the program vectors_streams, and what the reference answers to each."""
+"""Calls about streams, and what the reference answers to each."""
 
 import collections
 import sys
@@ -9,15 +9,11 @@ import streams  # noqa: E402
 from datagram import LONG_NAME, NAME, V4, V6, u16, u64  # noqa: E402
 from streams import ENDED, KEYS, LENGTH_NEXT, PAYLOAD_NEXT, POOL_WORDS  # noqa: E402
 from streams import SALT_LENGTHS, SALTS, Receiver, Sender, new_pool  # noqa: E402
+from vectors import BUFFER_LIMIT, NO_STREAM, STREAM_WORDS, STREAMS  # noqa: E402
 
 METHODS = {128: 1, 256: 2}
 
-# The program's arrays have no more room than this: bytes, words of a pool, streams.
-BUFFER_LIMIT = 66_000
-POOL_LIMIT = POOL_WORDS + 1
-STREAM_LIMIT = 4
-STREAM_WORDS = 8
-WORD_LIMIT = POOL_LIMIT + STREAM_LIMIT * STREAM_WORDS
+WORD_LIMIT = NO_STREAM  # words of a pool, one behind it, and four streams
 
 SENDING = 3  # the first word of a sending stream; a receiving one has its turn there
 BEHIND = 8  # bytes behind what is used or written, to show that they are left alone
@@ -75,7 +71,7 @@ def words_of(stream, before):
 
 
 def slot_start(slot):
-    return POOL_LIMIT + slot * STREAM_WORDS
+    return STREAMS + slot * STREAM_WORDS
 
 
 def stream_at(words, slot, sealing):

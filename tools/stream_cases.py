@@ -1,4 +1,4 @@
-"""The groups of calls of the program vectors_streams."""
+"""Calls about streams, in groups."""
 
 import itertools
 import sys
@@ -8,14 +8,15 @@ import streams  # noqa: E402
 from datagram import ARGUMENT, COUNTER, LENGTH, NAME, ROOM, SETTINGS, V6, u16  # noqa: E402
 from sessions import BINDING, FULL, MALFORMED, NOT_AUTHENTIC, REPLAY, TIME, TYPE  # noqa: E402
 from sessions import Dice  # noqa: E402
-from stream_calls import ADDRESSES, BEHIND, BUFFER_LIMIT, JUNK, LAST, LONG, METHODS  # noqa: E402
-from stream_calls import OPEN_CHUNK, OPEN_REQUEST, OPEN_RESPONSE, POOL_LIMIT  # noqa: E402
+from stream_calls import ADDRESSES, BEHIND, JUNK, LAST, LONG, METHODS  # noqa: E402
+from stream_calls import OPEN_CHUNK, OPEN_REQUEST, OPEN_RESPONSE  # noqa: E402
 from stream_calls import SEAL_CHUNK, SEAL_REQUEST, SEAL_RESPONSE, SEALING, WORD_LIMIT  # noqa: E402
 from stream_calls import Calls, flipped, front_of, full_pool, pattern, piece  # noqa: E402
 from stream_calls import receiver, request, response, salt_of, sender, subkey_of  # noqa: E402
 from stream_calls import text_of  # noqa: E402
 from streams import ENDED, KEYS, MAX_CHUNK, MORE, POOL_WORDS, SALT_LENGTHS  # noqa: E402
 from streams import SALTS, new_pool  # noqa: E402
+from vectors import BUFFER_LIMIT, STREAMS  # noqa: E402
 
 
 # Whole streams.
@@ -300,7 +301,7 @@ def ended_group():
     for counter in (0, 2, LAST - 1, LAST):
         for method in (1, 2, 0, 3, 2**32 + 1, LAST):
             ended = (ENDED, method, counter, 5, *subkey_of(1))
-            words = [0] * POOL_LIMIT + list(ended)
+            words = [0] * STREAMS + list(ended)
             answer = NOT_AUTHENTIC if method in METHODS.values() else SETTINGS
             calls.begin(words)
             for data in (b"", good, good + JUNK):
@@ -570,7 +571,7 @@ def step_order_group():
             odd = {name: changes.pop(name) for name in STATE if name in changes}
             state = receiver(1, 3)._replace(**odd)
             words = (state.turn, state.method, state.counter, state.length, *state.subkey)
-            calls.begin([0] * POOL_LIMIT + list(words))
+            calls.begin([0] * STREAMS + list(words))
             answer = (NOT_AUTHENTIC if faults[0] == "ended" else faults[0]) if faults else 0
             calls.run(OPEN_CHUNK, answer, data=piece(1, b"abc"), **changes)
     return "several faults of a step", calls
@@ -895,29 +896,39 @@ def longest_response_group():
 # The files.
 
 
-def make_files():
-    """The groups by the names of their files, in the program's order."""
-    said = (type_groups(), time_groups(), binding_groups(), malformed_groups())
-    sealing = (argument_groups(), [size_group()], room_groups())
-    orders = (order_groups(), [step_order_group(), sealing_order_group()])
-    states = (counter_groups(), [state_group(), ended_group()], forged_chunk_groups())
-    kept = (kept_groups(), [refused_group()], odd_groups(), random_groups(), [making_group()])
-    chunks = list(longest_chunk_groups())
-    files = {
-        "whole.bin": (whole_groups(), head_groups()),
-        "cut.bin": (cut_request_groups(), cut_response_groups(), [wanted_group()]),
-        "said.bin": said,
-        "forged.bin": (forged_head_groups(),),
-        "states.bin": states,
-        "settings.bin": (settings_groups(), *sealing),
-        "orders.bin": orders,
-        "kept.bin": kept,
-        "full.bin": (full_groups(),),
-        "lists.bin": (list_groups(),),
-        "longest-chunk-128.bin": (chunks[:1],),
-        "longest-chunk-256.bin": (chunks[1:],),
-        "longest-request.bin": ([longest_request_group()],),
-        "longest-malformed.bin": ([longest_malformed_group()],),
-        "longest-response.bin": ([longest_response_group()],),
-    }
-    return {name: list(itertools.chain(*groups)) for name, groups in files.items()}
+def make_groups():
+    """The groups in the program's order."""
+    return [
+        *whole_groups(),
+        *head_groups(),
+        *cut_request_groups(),
+        *cut_response_groups(),
+        wanted_group(),
+        *type_groups(),
+        *time_groups(),
+        *binding_groups(),
+        *malformed_groups(),
+        *forged_head_groups(),
+        *counter_groups(),
+        state_group(),
+        ended_group(),
+        *forged_chunk_groups(),
+        *settings_groups(),
+        *argument_groups(),
+        size_group(),
+        *room_groups(),
+        *order_groups(),
+        step_order_group(),
+        sealing_order_group(),
+        *kept_groups(),
+        refused_group(),
+        *odd_groups(),
+        *random_groups(),
+        making_group(),
+        *full_groups(),
+        *list_groups(),
+        *longest_chunk_groups(),
+        longest_request_group(),
+        longest_malformed_group(),
+        longest_response_group(),
+    ]
