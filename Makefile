@@ -3,7 +3,7 @@ export CARGO_TARGET_DIR := $(CURDIR)/target/host
 CARGO := cargo
 HOST := --locked --manifest-path host/Cargo.toml
 
-.PHONY: run test library quickstart bench fuzz vectors
+.PHONY: run test mistakes library quickstart bench fuzz vectors
 
 # A busy morning through the relay, on data of its own: an hour of the simulated clock. ARGS="--minutes 5" for a short one.
 run: library
@@ -13,6 +13,13 @@ run: library
 # The merge gate.
 test:
 	.ci/run
+
+# Mistakes made alike in a definition and in the code, which some statement has to refuse (docs/PROVING.md). No part of the gate.
+# ARGS="rounds_12 salts_255" for some of them.
+mistakes:
+	tools/need python3=python3
+	rt check demands edges
+	tools/mistakes $(ARGS)
 
 # target/staticlib/librelay.a. What is not proved yet is proved first, and each crate says so when it is.
 library:
