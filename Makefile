@@ -11,7 +11,7 @@ LIBDIR := $(prefix)/lib
 INCLUDEDIR := $(prefix)/include
 VERSION = $(shell sed -n 's/^version = "\(.*\)"/\1/p' host/relay/Cargo.toml)
 
-.PHONY: run test library quickstart install uninstall bench fuzz vectors arguments seconds
+.PHONY: run test mistakes library quickstart install uninstall bench fuzz vectors arguments seconds
 # rt keeps its notes in one folder, and arguments are tested before the library is made.
 .NOTPARALLEL:
 
@@ -30,6 +30,13 @@ arguments:
 # The merge gate.
 test:
 	@.ci/run
+
+# Mistakes made alike in a definition and in the code, which some statement has to refuse (docs/PROVING.md). No part of the gate.
+# ARGS="rounds_12 salts_255" for some of them.
+mistakes:
+	@tools/need rt python3=python3
+	rt check demands edges
+	tools/mistakes $(ARGS)
 
 library: $(LIBRARY)
 
