@@ -1,4 +1,4 @@
--- What the functions about sending sessions and datagrams answer and write, case by case. Assumes nothing.
+-- What stands after the calls about sending sessions and datagrams, case by case. Assumes nothing.
 use Prim.Native.Nat.{ℕ, _+_}
 use mathlib.Core.Bool.{Bool, true, false, cond, _&&_}
 use mathlib.Core.List.{List}
@@ -8,11 +8,11 @@ use lib.Dec.{eqb}
 use lib.ListN.{length, getD, set}
 use lib.Seq.{sets}
 use borrow.Author.Tests.{eq-eqb, ne-eqb}
+use Rattle.octets.specs.Buffers.{put}
 use Rattle.protocol.specs.declared.Refusal.{Refusal}
-use Rattle.protocol.specs.declared.Refusal.the-variants.{Settings}
 use Rattle.protocol.specs.Refusal.{refusalNumber}
 use Rattle.session_record.specs.declared.Peer.{Peer}
-use Rattle.book.specs.Call.{Answer, refused}
+use Rattle.book.specs.Call.{Answer}
 use Rattle.datagram_read.specs.declared.Header.{Header}
 use Rattle.datagram.specs.declared.Sender.{Sender}
 use Rattle.datagram.specs.declared.Begun.{Begun}
@@ -21,110 +21,81 @@ use Rattle.datagram.specs.declared.Sealed.{Sealed}
 use Rattle.datagram.specs.declared.Sealed.the-variants.{Datagram, Refused}
 use Rattle.datagram_read.specs.declared.Opened.{Opened}
 use Rattle.datagram_read.specs.declared.Opened.the-variants.{Datagram as OpenedDatagram, Refused as NotOpened}
-use Rattle.datagram.specs.Sealing.{sealAnswer, packetsOf, sealOut}
+use Rattle.datagram.specs.Sealing.{sealAnswer, packetsOf, datagram, sealOut}
 use Rattle.datagram_open.specs.Deciding.{answerOf, openAnswer, openOut, openTable}
 use Rattle.words.specs.Answers.{answerWords, headerWords}
 use Rattle.words.specs.States.{sessionSize, sessionLawful, sessionIn, sessionWords}
-use Rattle.relay.specs.Datagrams.{begunIn, begunNumber, begunSession, sealedAnswer, sealedNumber, sealedWords, sealedSession, openedNumber, openedWords, relayedAnswer, relayedOut, relayedTable}
+use Rattle.relay.specs.Datagrams.{AfterBegin, begunWords, begins, AfterSeal, sealed, sealsDatagram, AfterOpen, openedNumber, openedWords, opensTold, opensDatagram}
 use Rattle.words.proofs.LentLaws.{filled}
 
 -- ---- beginning a session in lent words
 
 module _ (x : Begun) (w : List ℕ) where
-  -- what is promised of a number and the words left
-  abbrev Begins : ℕ → List ℕ → Type 0
-  Begins n left = (n ≡ begunNumber (begunIn (length w) x)) × (left ≡ begunSession (begunIn (length w) x) w)
+  tested-size : (b : Bool) → eqb (length w) sessionSize ≡ b → cond b (begunWords x w) (record { number = 1; session = w }) ≡ begins x w
+  unfolding begins
+  tested-size b e = sym (ap (λ (z : Bool). cond z (begunWords x w) (record { number = 1; session = w })) e)
 
-  begins : (y : Begun) → begunIn (length w) x ≡ y → Begins (begunNumber y) (begunSession y w)
-  begins y e = (sym (ap begunNumber e), sym (ap (λ (z : Begun). begunSession z w) e))
-
-  pub not-lent : (length w ≡ sessionSize → ⊥) → Begins 1 w
-  not-lent n = begins (NotBegun Settings) (ap (λ (b : Bool). cond b x (NotBegun Settings)) (ne-eqb (length w) sessionSize n))
+  pub not-lent : (length w ≡ sessionSize → ⊥) → record { number = 1; session = w } ≡ begins x w
+  not-lent n = tested-size false (ne-eqb (length w) sessionSize n)
 
   module _ (e : length w ≡ sessionSize) where
-    lent : begunIn (length w) x ≡ x
-    lent = ap (λ (b : Bool). cond b x (NotBegun Settings)) (eq-eqb (length w) sessionSize e)
+    lent : (y : Begun) → x ≡ y → begunWords y w ≡ begins x w
+    lent y f = sym (ap (λ (z : Begun). begunWords z w) f) ∙ tested-size true (eq-eqb (length w) sessionSize e)
 
-    pub ready : (s : Sender) (vs left : List ℕ) → x ≡ Ready s → vs ≡ sessionWords s → left ≡ sets w 0 vs → Begins 0 left
+    pub ready : (s : Sender) (vs left : List ℕ) → x ≡ Ready s → vs ≡ sessionWords s → left ≡ sets w 0 vs
+        → record { number = 0; session = left } ≡ begins x w
     ready s vs left f g h =
-        let b = begins (Ready s) (lent ∙ f) in
-        (b .0, h ∙ ap (λ (v : List ℕ). sets w 0 v) g ∙ filled w (sessionWords s) e ∙ b .1)
+        ap (λ (z : List ℕ). record { number = 0; session = z }) (h ∙ ap (λ (v : List ℕ). sets w 0 v) g ∙ filled w (sessionWords s) e)
+        ∙ lent (Ready s) f
 
-    pub not-begun : (r : Refusal) (n : ℕ) → x ≡ NotBegun r → n ≡ refusalNumber r → Begins n w
-    not-begun r n f g =
-        let b = begins (NotBegun r) (lent ∙ f) in
-        (g ∙ b .0, b .1)
+    pub not-begun : (r : Refusal) (n : ℕ) → x ≡ NotBegun r → n ≡ refusalNumber r → record { number = n; session = w } ≡ begins x w
+    not-begun r n f g = ap (λ (z : ℕ). record { number = z; session = w }) g ∙ lent (NotBegun r) f
 
 -- ---- sealing
 
-module _ (method k : ℕ) (session address : List ℕ) (padding payload : ℕ) (text out answer : List ℕ) where
+module _ (method : ℕ) (key session : List ℕ) (clock : ℕ) (address : List ℕ) (padding : ℕ) (payload out answer : List ℕ) where
   abbrev A : Sealed
-  A = sealedAnswer method k session address padding payload (length out) (length answer)
+  A = sealAnswer method (length key) (sessionIn session) address padding (length payload) (length out)
 
-  -- what is promised of a number and of the session, the buffer and the answer that are left
-  abbrev Seals : ℕ → List ℕ → List ℕ → List ℕ → Type 0
-  Seals n s o a = (n ≡ sealedNumber A) × ((s ≡ sealedSession A session) × ((o ≡ sealOut A text out) × (a ≡ sealedWords A answer)))
+  abbrev text : List ℕ
+  text = datagram key (sessionIn session) clock address padding payload
 
-  seals : (y : Sealed) → A ≡ y → Seals (sealedNumber y) (sealedSession y session) (sealOut y text out) (sealedWords y answer)
-  seals y e = (
-    sym (ap sealedNumber e),
-    (
-      sym (ap (λ (z : Sealed). sealedSession z session) e),
-      (
-        sym (ap (λ (z : Sealed). sealOut z text out) e),
-        sym (ap (λ (z : Sealed). sealedWords z answer) e),
-      ),
-    ),
-  )
+  abbrev S : AfterSeal
+  S = sealsDatagram method key session clock address padding payload out answer
 
-  tested : (b : Bool) → eqb (length answer) answerWords && sessionLawful session ≡ b
-      → A ≡ cond b (sealAnswer method k (sessionIn session) address padding payload (length out)) (Refused Settings)
-  unfolding sealedAnswer
-  tested b e =
-      ap (λ (z : Bool). cond z (sealAnswer method k (sessionIn session) address padding payload (length out)) (Refused Settings)) e
+  abbrev untouched : AfterSeal
+  untouched = record { number = 1; session = session; out = out; answer = answer }
 
-  pub no-answer : (length answer ≡ answerWords → ⊥) → Seals 1 session out answer
-  no-answer n = seals (Refused Settings) (tested false (ap (λ (b : Bool). b && sessionLawful session) (ne-eqb (length answer) answerWords n)))
+  tested : (b : Bool) → eqb (length answer) answerWords && sessionLawful session ≡ b → cond b (sealed A text session out answer) untouched ≡ S
+  unfolding sealsDatagram
+  tested b e = sym (ap (λ (z : Bool). cond z (sealed A text session out answer) untouched) e)
 
-  module _ (e : length answer ≡ answerWords) where
-    by-session : eqb (length answer) answerWords && sessionLawful session ≡ sessionLawful session
-    by-session = ap (λ (b : Bool). b && sessionLawful session) (eq-eqb (length answer) answerWords e)
+  pub no-answer : (length answer ≡ answerWords → ⊥) → untouched ≡ S
+  no-answer n = tested false (ap (λ (b : Bool). b && sessionLawful session) (ne-eqb (length answer) answerWords n))
 
-    pub no-session : (b : Bool) → b ≡ false → b ≡ sessionLawful session → Seals 1 session out answer
-    no-session b f g = seals (Refused Settings) (tested false (by-session ∙ sym g ∙ f))
+  module _ (e : length answer ≡ answerWords) (b : Bool) (g : b ≡ sessionLawful session) where
+    by-session : eqb (length answer) answerWords && sessionLawful session ≡ b
+    by-session = ap (λ (z : Bool). z && sessionLawful session) (eq-eqb (length answer) answerWords e) ∙ sym g
 
-    module _ (b : Bool) (f : b ≡ true) (g : b ≡ sessionLawful session) (y : Sealed)
-        (h : y ≡ sealAnswer method k (sessionIn session) address padding payload (length out)) where
-      decided : A ≡ y
-      decided = tested true (by-session ∙ sym g ∙ f) ∙ sym h
+    pub no-session : b ≡ false → untouched ≡ S
+    no-session f = tested false (by-session ∙ f)
+
+    module _ (f : b ≡ true) (y : Sealed) (h : y ≡ A) where
+      decided : (z : Sealed) → y ≡ z → sealed z text session out answer ≡ S
+      decided z i = ap (λ (v : Sealed). sealed v text session out answer) (sym i ∙ h) ∙ tested true (by-session ∙ f)
 
       pub a-datagram : (n p : ℕ) (o : List ℕ) → y ≡ Datagram n → p ≡ getD session 3 0 + packetsOf y → o ≡ sealOut y text out
-          → Seals 0 (set session 3 p) o (set answer 0 n)
+          → record { number = 0; session = set session 3 p; out = o; answer = set answer 0 n } ≡ S
       a-datagram n p o i j l =
-          let s = seals (Datagram n) (decided ∙ i) in (
-            s .0,
-            (
-              ap (λ (q : ℕ). set session 3 q) (j ∙ ap (λ (z : Sealed). getD session 3 0 + packetsOf z) i) ∙ s .1 .0,
-              (
-                l ∙ ap (λ (z : Sealed). sealOut z text out) i ∙ s .1 .1 .0,
-                s .1 .1 .1,
-              ),
-            ),
-          )
+          let q : p ≡ getD session 3 0 + 1 = j ∙ ap (λ (z : Sealed). getD session 3 0 + packetsOf z) i in
+          let m : o ≡ put out 0 text = l ∙ ap (λ (z : Sealed). sealOut z text out) i in
+          (λ k. record { number = 0; session = set session 3 (q k); out = m k; answer = set answer 0 n }) ∙ decided (Datagram n) i
 
       pub a-refusal : (r : Refusal) (n : ℕ) (o : List ℕ) → y ≡ Refused r → n ≡ refusalNumber r → o ≡ sealOut y text out
-          → Seals n session o answer
+          → record { number = n; session = session; out = o; answer = answer } ≡ S
       a-refusal r n o i j l =
-          let s = seals (Refused r) (decided ∙ i) in (
-            j ∙ s .0,
-            (
-              s .1 .0,
-              (
-                l ∙ ap (λ (z : Sealed). sealOut z text out) i ∙ s .1 .1 .0,
-                s .1 .1 .1,
-              ),
-            ),
-          )
+          let m : o ≡ out = l ∙ ap (λ (z : Sealed). sealOut z text out) i in
+          (λ k. record { number = j k; session = session; out = m k; answer = answer }) ∙ decided (Refused r) i
 
 -- ---- opening
 
@@ -144,56 +115,35 @@ told-refusal x r n answer e f = (
 )
 
 module _ (method : ℕ) (key : List ℕ) (client : Option ℕ) (clock : ℕ) (peer : Peer) (s table out answer : List ℕ) where
-  -- what is promised of a number and of the table, the buffer and the answer that are left
-  abbrev Opens : ℕ → List ℕ → List ℕ → List ℕ → Type 0
-  Opens n t o a =
-      (n ≡ openedNumber (relayedAnswer method key client clock peer s table out answer))
-      × ((t ≡ relayedTable method key client clock peer s table out answer)
-      × ((o ≡ relayedOut method key client clock peer s table out answer)
-      × (a ≡ openedWords (relayedAnswer method key client clock peer s table out answer) answer)))
+  abbrev O : AfterOpen
+  O = opensDatagram method key client clock peer s table out answer
 
-  pub untold : (length answer ≡ answerWords → ⊥) → Opens 1 table out answer
-  unfolding relayedAnswer relayedOut relayedTable
-  untold n =
-      let e : eqb (length answer) answerWords ≡ false = ne-eqb (length answer) answerWords n in (
-        sym (ap (λ (b : Bool). openedNumber (cond b (openAnswer method key client clock peer s table out) (refused 1))) e),
-        (
-          sym (ap (λ (b : Bool). cond b (openTable method key client clock peer s table out) table) e),
-          (
-            sym (ap (λ (b : Bool). cond b (openOut method key client clock peer s table out) out) e),
-            sym (ap (λ (b : Bool). openedWords (cond b (openAnswer method key client clock peer s table out) (refused 1)) answer) e),
-          ),
-        ),
-      )
+  by-length : (b : Bool) → eqb (length answer) answerWords ≡ b
+      → cond b (opensTold method key client clock peer s table out answer) (record { number = 1; table = table; out = out; answer = answer }) ≡ O
+  unfolding opensDatagram
+  by-length b e =
+      sym (ap
+      (λ (z : Bool). cond z (opensTold method key client clock peer s table out answer) (record { number = 1; table = table; out = out; answer = answer }))
+      e)
+
+  pub untold : (length answer ≡ answerWords → ⊥) → record { number = 1; table = table; out = out; answer = answer } ≡ O
+  untold n = by-length false (ne-eqb (length answer) answerWords n)
 
   -- an answer of the right length leaves the opener's own results
-  pub relays : length answer ≡ answerWords
-      → (relayedAnswer method key client clock peer s table out answer ≡ openAnswer method key client clock peer s table out)
-      × ((relayedTable method key client clock peer s table out answer ≡ openTable method key client clock peer s table out)
-      × (relayedOut method key client clock peer s table out answer ≡ openOut method key client clock peer s table out))
-  unfolding relayedAnswer relayedOut relayedTable
-  relays l =
-      let e : eqb (length answer) answerWords ≡ true = eq-eqb (length answer) answerWords l in (
-        ap (λ (b : Bool). cond b (openAnswer method key client clock peer s table out) (refused 1)) e,
-        (
-          ap (λ (b : Bool). cond b (openTable method key client clock peer s table out) table) e,
-          ap (λ (b : Bool). cond b (openOut method key client clock peer s table out) out) e,
-        ),
-      )
+  pub relays : length answer ≡ answerWords → O ≡ record {
+    number = openedNumber (openAnswer method key client clock peer s table out);
+    table = openTable method key client clock peer s table out;
+    out = openOut method key client clock peer s table out;
+    answer = openedWords (openAnswer method key client clock peer s table out) answer;
+  }
+  unfolding opensTold
+  relays l = sym (by-length true (eq-eqb (length answer) answerWords l))
 
   pub told : (x : Opened) (n : ℕ) (t o a : List ℕ) → length answer ≡ answerWords
       → answerOf x ≡ openAnswer method key client clock peer s table out
       → o ≡ openOut method key client clock peer s table out → t ≡ openTable method key client clock peer s table out
-      → n ≡ openedNumber (answerOf x) → a ≡ openedWords (answerOf x) answer → Opens n t o a
+      → n ≡ openedNumber (answerOf x) → a ≡ openedWords (answerOf x) answer → record { number = n; table = t; out = o; answer = a } ≡ O
   told x n t o a l e f g h i =
-      let r = relays l in
-      let j : answerOf x ≡ relayedAnswer method key client clock peer s table out answer = e ∙ sym (r .0) in (
-        h ∙ ap openedNumber j,
-        (
-          g ∙ sym (r .1 .0),
-          (
-            f ∙ sym (r .1 .1),
-            i ∙ ap (λ (z : Answer Header). openedWords z answer) j,
-          ),
-        ),
-      )
+      let p : n ≡ openedNumber (openAnswer method key client clock peer s table out) = h ∙ ap openedNumber e in
+      let q : a ≡ openedWords (openAnswer method key client clock peer s table out) answer = i ∙ ap (λ (z : Answer Header). openedWords z answer) e in
+      (λ k. record { number = p k; table = g k; out = f k; answer = q k }) ∙ sym (relays l)

@@ -1,12 +1,12 @@
--- What the functions about tables, sending sessions and datagrams answer and write. A lent session or answer of the wrong
--- length, and a session of another side than 0 and 1, are refusal 1.
+-- What stands after each call about tables, sending sessions and datagrams: its number, and what it leaves in all that it was
+-- lent to write. A lent session or answer of the wrong length, and a session of another side than 0 and 1, are refusal 1.
 use mathlib.Core.Bool.{Bool, cond, _&&_}
 use mathlib.Core.List.{List}
 use mathlib.Core.Option.{Option}
 use Prim.Native.Nat.{ℕ, _+_}
 use lib.Dec.{eqb}
 use lib.ListN.{length, getD, set}
-use Rattle.protocol.specs.declared.Refusal.the-variants.{Settings}
+use Rattle.octets.specs.Buffers.{put}
 use Rattle.protocol.specs.Refusal.{refusalNumber}
 use Rattle.session_record.specs.declared.Peer.{Peer}
 use Rattle.book.specs.Call.{Answer, refused, opened}
@@ -15,7 +15,7 @@ use Rattle.datagram.specs.declared.Begun.{Begun}
 use Rattle.datagram.specs.declared.Begun.the-variants.{Ready, Refused as NotBegun}
 use Rattle.datagram.specs.declared.Sealed.{Sealed}
 use Rattle.datagram.specs.declared.Sealed.the-variants.{Datagram, Refused}
-use Rattle.datagram.specs.Sealing.{sealAnswer}
+use Rattle.datagram.specs.Sealing.{sealAnswer, datagram}
 use Rattle.datagram_open.specs.Deciding.{openAnswer, openOut, openTable}
 use Rattle.words.specs.Answers.{answerWords, headerWords}
 use Rattle.words.specs.States.{sessionSize, sessionLawful, sessionIn, sessionWords}
@@ -24,42 +24,48 @@ use Rattle.words.specs.States.{sessionSize, sessionLawful, sessionIn, sessionWo
 abbrev pub settingsNumber : Bool → ℕ
 settingsNumber lawful = cond lawful 0 1
 
--- ---- beginning a sending session, in k lent words
+-- ---- beginning a sending session
 
-abbrev pub begunIn : ℕ → Begun → Begun
-begunIn k x = cond (eqb k sessionSize) x (NotBegun Settings)
+pub record AfterBegin : Type 0 where
+  pub number : ℕ
+  pub session : List ℕ
 
-abbrev pub begunNumber : Begun → ℕ
-begunNumber (Ready s) = 0
-begunNumber (NotBegun r) = refusalNumber r
+abbrev pub begunWords : Begun → List ℕ → AfterBegin
+begunWords (Ready s) session = record { number = 0; session = sessionWords s }
+begunWords (NotBegun r) session = record { number = refusalNumber r; session = session }
 
-abbrev pub begunSession : Begun → List ℕ → List ℕ
-begunSession (Ready s) w = sessionWords s
-begunSession (NotBegun r) w = w
+unfoldable pub begins : Begun → List ℕ → AfterBegin
+begins x session = cond (eqb (length session) sessionSize) (begunWords x session) (record { number = 1; session = session })
 
 -- ---- sealing
 
--- with a key of k bytes, a payload and an answer of these lengths, and the room
-unfoldable pub sealedAnswer : (method k : ℕ) → List ℕ → List ℕ → (padding payload room answer : ℕ) → Sealed
-sealedAnswer method k session address padding payload room answer =
-    cond (eqb answer answerWords && sessionLawful session)
-    (sealAnswer method k (sessionIn session) address padding payload room) (Refused Settings)
+pub record AfterSeal : Type 0 where
+  pub number : ℕ
+  pub session : List ℕ
+  pub out : List ℕ
+  pub answer : List ℕ
 
-abbrev pub sealedNumber : Sealed → ℕ
-sealedNumber (Datagram n) = 0
-sealedNumber (Refused r) = refusalNumber r
+-- a datagram is written, the session is one packet ID further, and the answer is the datagram's length
+abbrev pub sealed : Sealed → (text session out answer : List ℕ) → AfterSeal
+sealed (Datagram n) text session out answer =
+    record { number = 0; session = set session 3 (getD session 3 0 + 1); out = put out 0 text; answer = set answer 0 n }
+sealed (Refused r) text session out answer = record { number = refusalNumber r; session = session; out = out; answer = answer }
 
--- a datagram's length
-abbrev pub sealedWords : Sealed → List ℕ → List ℕ
-sealedWords (Datagram n) answer = set answer 0 n
-sealedWords (Refused r) answer = answer
-
--- one packet ID further
-abbrev pub sealedSession : Sealed → List ℕ → List ℕ
-sealedSession (Datagram n) w = set w 3 (getD w 3 0 + 1)
-sealedSession (Refused r) w = w
+module _ (method : ℕ) (key session : List ℕ) (clock : ℕ) (address : List ℕ) (padding : ℕ) (payload out answer : List ℕ) where
+  unfoldable pub sealsDatagram : AfterSeal
+  sealsDatagram =
+      cond (eqb (length answer) answerWords && sessionLawful session)
+      (sealed (sealAnswer method (length key) (sessionIn session) address padding (length payload) (length out))
+      (datagram key (sessionIn session) clock address padding payload) session out answer)
+      (record { number = 1; session = session; out = out; answer = answer })
 
 -- ---- opening
+
+pub record AfterOpen : Type 0 where
+  pub number : ℕ
+  pub table : List ℕ
+  pub out : List ℕ
+  pub answer : List ℕ
 
 abbrev pub openedNumber : Answer Header → ℕ
 openedNumber (opened h) = 0
@@ -74,14 +80,15 @@ abbrev pub callerOf : (first second port : ℕ) → Peer
 callerOf first second port = record { first = first; second = second; port = port }
 
 module _ (method : ℕ) (key : List ℕ) (client : Option ℕ) (clock : ℕ) (peer : Peer) (s table out answer : List ℕ) where
-  abbrev told : Bool
-  told = eqb (length answer) answerWords
+  -- what the opener itself leaves, told in the answer
+  unfoldable pub opensTold : AfterOpen
+  opensTold = record {
+    number = openedNumber (openAnswer method key client clock peer s table out);
+    table = openTable method key client clock peer s table out;
+    out = openOut method key client clock peer s table out;
+    answer = openedWords (openAnswer method key client clock peer s table out) answer;
+  }
 
-  unfoldable pub relayedAnswer : Answer Header
-  relayedAnswer = cond told (openAnswer method key client clock peer s table out) (refused 1)
-
-  unfoldable pub relayedOut : List ℕ
-  relayedOut = cond told (openOut method key client clock peer s table out) out
-
-  unfoldable pub relayedTable : List ℕ
-  relayedTable = cond told (openTable method key client clock peer s table out) table
+  unfoldable pub opensDatagram : AfterOpen
+  opensDatagram =
+      cond (eqb (length answer) answerWords) opensTold (record { number = 1; table = table; out = out; answer = answer })

@@ -1,35 +1,59 @@
--- What the functions about streams answer and write. A lent stream or answer of the wrong length, and a stream at another turn
--- than the call's, are refusal 1.
+-- What stands after each call about streams: its number, and what it leaves in all that it was lent to write. A lent stream or
+-- answer of the wrong length, and a stream at another turn than the call's, are refusal 1.
 use mathlib.Core.Bool.{Bool, cond, _&&_}
 use mathlib.Core.List.{List}
 use Prim.Native.Nat.{ℕ}
 use lib.Dec.{eqb}
+use lib.ListN.{length}
 use Rattle.protocol.specs.declared.Refusal.{Refusal}
 use Rattle.protocol.specs.declared.Refusal.the-variants.{Settings, NotAuthentic}
 use Rattle.protocol.specs.Method.{keyLength}
 use Rattle.stream.specs.declared.Sealed.{Sealed}
 use Rattle.stream.specs.declared.Sealed.the-variants.{Refused}
 use Rattle.request_open.specs.declared.RequestOpened.{RequestOpened}
-use Rattle.request_open.specs.declared.RequestOpened.the-variants.{Refused as RequestRefused}
 use Rattle.response_open.specs.declared.ResponseOpened.{ResponseOpened}
-use Rattle.response_open.specs.declared.ResponseOpened.the-variants.{Refused as ResponseRefused}
+use Rattle.stream_open.specs.declared.Receiver.{Receiver}
 use Rattle.stream_open.specs.declared.Stepped.{Stepped}
-use Rattle.stream_open.specs.declared.Stepped.the-variants.{Refused as StepRefused}
-use Rattle.stream.specs.Sealing.{chunkAnswer}
-use Rattle.request_open.specs.Requests.{requestOut, requestPool}
+use Rattle.stream.specs.Sealing.{chunkAnswer, chunk, senderKey, sealOut}
+use Rattle.head_seal.specs.HeadSealing.{requestAnswer, request, responseAnswer, response}
+use Rattle.request_open.specs.Requests.{openedRequest, requestOut, requestPool}
+use Rattle.response_open.specs.Heads.{openedResponse}
 use Rattle.stream_open.specs.Chunks.{stepAnswer, stepOut, stepNext}
 use Rattle.words.specs.Answers.{answerWords}
 use Rattle.words.specs.States.{streamSize, turnOf, senderIn, receiverLawful, receiverIn}
-pub use Rattle.stream_answers.specs.Told.{sealedNumber, sealedWords, sealedStream, requestNumber, requestAnswer, requestStream, responseNumber, responseAnswer, responseStream, steppedNumber, steppedAnswer, stepStream}
+use Rattle.stream_answers.specs.Told.{sealedNumber, sealedWords, sealedStream, requestNumber, requestAnswer as requestTold, requestStream}
+use Rattle.stream_answers.specs.Told.{responseNumber, responseAnswer as responseTold, responseStream, steppedNumber, steppedAnswer, stepStream}
 
 -- a stream and an answer of these lengths
 abbrev pub fits : (stream answer : ℕ) → Bool
 fits stream answer = eqb stream streamSize && eqb answer answerWords
 
--- ---- sealing
+-- ---- sealing, and opening a chunk
 
-abbrev pub sealedIn : (stream answer : ℕ) → Sealed → Sealed
-sealedIn stream answer x = cond (fits stream answer) x (Refused Settings)
+pub record AfterChunk : Type 0 where
+  pub number : ℕ
+  pub out : List ℕ
+  pub stream : List ℕ
+  pub answer : List ℕ
+
+-- x is what is answered where stream and answer fit, and text what is then sealed
+unfoldable pub seals : Sealed → (text out stream answer : List ℕ) → AfterChunk
+seals x text out stream answer =
+    cond (fits (length stream) (length answer))
+    (record { number = sealedNumber x; out = sealOut x text out; stream = sealedStream x stream; answer = sealedWords x answer })
+    (record { number = 1; out = out; stream = stream; answer = answer })
+
+module _ (method : ℕ) (key salt : List ℕ) (clock : ℕ) (address : List ℕ) (padding : ℕ) (payload out stream answer : List ℕ) where
+  unfoldable pub sealsRequest : AfterChunk
+  sealsRequest =
+      seals (requestAnswer method key salt address padding (length payload) (length out))
+      (request key salt clock address padding payload) out stream answer
+
+module _ (method : ℕ) (key salt requestSalt : List ℕ) (clock : ℕ) (payload out stream answer : List ℕ) where
+  unfoldable pub sealsResponse : AfterChunk
+  sealsResponse =
+      seals (responseAnswer method key salt requestSalt (length payload) (length out))
+      (response key salt requestSalt clock payload) out stream answer
 
 -- a stream that does not seal: refusal 4 where it has ended, and 1 at another turn or where its method is none
 unfoldable pub notSealing : (turn method : ℕ) → Refusal
@@ -39,33 +63,67 @@ unfoldable pub chunkSealed : List ℕ → (payload room : ℕ) → Sealed
 chunkSealed w payload room =
     cond (eqb (turnOf w) 3) (chunkAnswer (senderIn w) payload room) (Refused (notSealing (turnOf w) (senderIn w .method)))
 
--- ---- the head of a request
+unfoldable pub sealsChunk : (stream payload out answer : List ℕ) → AfterChunk
+sealsChunk stream payload out answer =
+    seals (chunkSealed stream (length payload) (length out))
+    (chunk (senderKey (senderIn stream)) (senderIn stream .counter) payload) out stream answer
 
-abbrev pub requestIn : (stream answer : ℕ) → RequestOpened → RequestOpened
-requestIn stream answer x = cond (fits stream answer) x (RequestRefused Settings)
+abbrev pub opens : (stream answer : List ℕ) → Bool
+opens stream answer = eqb (length answer) answerWords && receiverLawful stream
 
-module _ (method : ℕ) (key : List ℕ) (clock : ℕ) (s pool out : List ℕ) (stream answer : ℕ) where
-  unfoldable pub relayedOut : List ℕ
-  relayedOut = cond (fits stream answer) (requestOut method key clock s pool out) out
+-- x is what is answered
+abbrev pub stepTold : Stepped → Receiver → (s out stream answer : List ℕ) → AfterChunk
+stepTold x state s out stream answer = record {
+  number = steppedNumber x;
+  out = stepOut state s out;
+  stream = stepStream x (stepNext state x) stream;
+  answer = steppedAnswer x answer;
+}
 
-  unfoldable pub relayedPool : List ℕ
-  relayedPool = cond (fits stream answer) (requestPool method key clock s pool out) pool
+unfoldable pub opensChunk : (stream s out answer : List ℕ) → AfterChunk
+opensChunk stream s out answer =
+    cond (opens stream answer)
+    (stepTold (stepAnswer (receiverIn stream) s (length out)) (receiverIn stream) s out stream answer)
+    (record { number = 1; out = out; stream = stream; answer = answer })
 
--- ---- the head of a response
+-- ---- opening the head of a request
 
-abbrev pub responseIn : (stream answer : ℕ) → ResponseOpened → ResponseOpened
-responseIn stream answer x = cond (fits stream answer) x (ResponseRefused Settings)
+pub record AfterRequest : Type 0 where
+  pub number : ℕ
+  pub pool : List ℕ
+  pub out : List ℕ
+  pub stream : List ℕ
+  pub answer : List ℕ
 
--- ---- a step
+module _ (method : ℕ) (key : List ℕ) (clock : ℕ) (s pool out stream answer : List ℕ) where
+  -- x is what is answered where stream and answer fit
+  abbrev pub requestLeft : RequestOpened → AfterRequest
+  requestLeft x = record {
+    number = requestNumber x;
+    pool = requestPool method key clock s pool out;
+    out = requestOut method key clock s pool out;
+    stream = requestStream x stream;
+    answer = requestTold x answer;
+  }
 
-abbrev pub opens : List ℕ → (answer : ℕ) → Bool
-opens w answer = eqb answer answerWords && receiverLawful w
+  unfoldable pub opensRequest : AfterRequest
+  opensRequest =
+      cond (fits (length stream) (length answer)) (requestLeft (openedRequest method key clock s pool out))
+      (record { number = 1; pool = pool; out = out; stream = stream; answer = answer })
 
-unfoldable pub stepped : List ℕ → (answer : ℕ) → List ℕ → (room : ℕ) → Stepped
-stepped w answer s room = cond (opens w answer) (stepAnswer (receiverIn w) s room) (StepRefused Settings)
+-- ---- opening the head of a response
 
-unfoldable pub steppedOut : List ℕ → (answer : ℕ) → List ℕ → List ℕ → List ℕ
-steppedOut w answer s out = cond (opens w answer) (stepOut (receiverIn w) s out) out
+pub record AfterResponse : Type 0 where
+  pub number : ℕ
+  pub stream : List ℕ
+  pub answer : List ℕ
 
-abbrev pub steppedStream : Stepped → List ℕ → List ℕ
-steppedStream x w = stepStream x (stepNext (receiverIn w) x) w
+-- x is what is answered where stream and answer fit
+abbrev pub responseLeft : ResponseOpened → (stream answer : List ℕ) → AfterResponse
+responseLeft x stream answer = record { number = responseNumber x; stream = responseStream x stream; answer = responseTold x answer }
+
+module _ (method : ℕ) (key : List ℕ) (clock : ℕ) (requestSalt s stream answer : List ℕ) where
+  unfoldable pub opensResponse : AfterResponse
+  opensResponse =
+      cond (fits (length stream) (length answer)) (responseLeft (openedResponse method key clock requestSalt s) stream answer)
+      (record { number = 1; stream = stream; answer = answer })

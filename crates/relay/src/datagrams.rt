@@ -16,11 +16,11 @@ ghost use mathlib.Core.Option.{none, some};
 ghost use lib.ListN.{length};
 ghost use Rattle.session.specs.Table.{makeLawful, made};
 ghost use Rattle.datagram.specs.declared.Begun.the-variants.{Ready};
-ghost use Rattle.datagram.specs.Sealing.{clientSender, begun, datagram, sealOut};
+ghost use Rattle.datagram.specs.Sealing.{clientSender, begun};
 ghost use Rattle.datagram_open.specs.Deciding.{answerOf};
 ghost use Rattle.words.specs.Answers.{answerWords};
-ghost use Rattle.words.specs.States.{sessionIn};
-ghost use Rattle.relay.specs.Datagrams.{settingsNumber, begunIn, begunNumber, begunSession, sealedAnswer, sealedNumber, sealedWords, sealedSession, openedNumber, openedWords, callerOf, relayedAnswer, relayedOut, relayedTable};
+ghost use Rattle.relay.specs.Datagrams.{settingsNumber, begins, sealsDatagram, openedNumber, openedWords, opensDatagram};
+ghost use Rattle.relay.specs.Datagrams.{callerOf};
 
 // Makes a session table of 705 words, with a retention of 60 to 3,600 seconds; 0 stands for 60.
 #[no_mangle]
@@ -37,8 +37,7 @@ pub extern "C" fn relay_table_new(retention: u64, table: &mut [u64]) -> u64
 // ---- sending sessions
 
 fn begin(begun: Begun, session: &mut [u64]) -> u64
-    ensures { λ r. ⌜ r ≡ begunNumber (begunIn (length (now (session .entry))) begun) ⌝ }
-    ensures { λ r. ⌜ now (session .exit) ≡ begunSession (begunIn (length (now (session .entry))) begun) (now (session .entry)) ⌝ }
+    ensures { λ r. ⌜ record { number = r; session = now (session .exit) } ≡ begins begun (now (session .entry)) ⌝ }
 {
     if session.len() != SESSION {
         return SETTINGS;
@@ -56,8 +55,7 @@ fn begin(begun: Begun, session: &mut [u64]) -> u64
 // Begins a client's sending session, in 4 words.
 #[no_mangle]
 pub extern "C" fn relay_session_begin_client(id: u64, session: &mut [u64]) -> u64
-    ensures { λ r. ⌜ r ≡ begunNumber (begunIn (length (now (session .entry))) (Ready (clientSender id))) ⌝ }
-    ensures { λ r. ⌜ now (session .exit) ≡ begunSession (begunIn (length (now (session .entry))) (Ready (clientSender id))) (now (session .entry)) ⌝ }
+    ensures { λ r. ⌜ record { number = r; session = now (session .exit) } ≡ begins (Ready (clientSender id)) (now (session .entry)) ⌝ }
 {
     begin(Begun::Ready(Sender::client(id)), session)
 }
@@ -65,8 +63,7 @@ pub extern "C" fn relay_session_begin_client(id: u64, session: &mut [u64]) -> u6
 // Begins a server's, in reply to a client's session of another ID.
 #[no_mangle]
 pub extern "C" fn relay_session_begin_server(id: u64, client: u64, session: &mut [u64]) -> u64
-    ensures { λ r. ⌜ r ≡ begunNumber (begunIn (length (now (session .entry))) (begun id client)) ⌝ }
-    ensures { λ r. ⌜ now (session .exit) ≡ begunSession (begunIn (length (now (session .entry))) (begun id client)) (now (session .entry)) ⌝ }
+    ensures { λ r. ⌜ record { number = r; session = now (session .exit) } ≡ begins (begun id client) (now (session .entry)) ⌝ }
 {
     begin(Sender::server(id, client), session)
 }
@@ -86,10 +83,9 @@ pub extern "C" fn relay_datagram_seal(
     out: &mut [u8],
     answer: &mut [u64],
 ) -> u64
-    ensures { λ r. ⌜ r ≡ sealedNumber (sealedAnswer method (length (now (key .entry))) (now (session .entry)) (now (address .entry)) padding (length (now (payload .entry))) (length (now (out .entry))) (length (now (answer .entry)))) ⌝ }
-    ensures { λ r. ⌜ now (session .exit) ≡ sealedSession (sealedAnswer method (length (now (key .entry))) (now (session .entry)) (now (address .entry)) padding (length (now (payload .entry))) (length (now (out .entry))) (length (now (answer .entry)))) (now (session .entry)) ⌝ }
-    ensures { λ r. ⌜ now (out .exit) ≡ sealOut (sealedAnswer method (length (now (key .entry))) (now (session .entry)) (now (address .entry)) padding (length (now (payload .entry))) (length (now (out .entry))) (length (now (answer .entry)))) (datagram (now (key .entry)) (sessionIn (now (session .entry))) clock (now (address .entry)) padding (now (payload .entry))) (now (out .entry)) ⌝ }
-    ensures { λ r. ⌜ now (answer .exit) ≡ sealedWords (sealedAnswer method (length (now (key .entry))) (now (session .entry)) (now (address .entry)) padding (length (now (payload .entry))) (length (now (out .entry))) (length (now (answer .entry)))) (now (answer .entry)) ⌝ }
+    ensures { λ r. ⌜ record { number = r; session = now (session .exit); out = now (out .exit); answer = now (answer .exit) }
+        ≡ sealsDatagram method (now (key .entry)) (now (session .entry)) clock (now (address .entry)) padding
+        (now (payload .entry)) (now (out .entry)) (now (answer .entry)) ⌝ }
 {
     if answer.len() != ANSWER {
         return SETTINGS;
@@ -143,10 +139,9 @@ pub extern "C" fn relay_datagram_open_server(
     out: &mut [u8],
     answer: &mut [u64],
 ) -> u64
-    ensures { λ r. ⌜ r ≡ openedNumber (relayedAnswer method (now (key .entry)) none clock (callerOf first second port) (now (datagram .entry)) (now (table .entry)) (now (out .entry)) (now (answer .entry))) ⌝ }
-    ensures { λ r. ⌜ now (table .exit) ≡ relayedTable method (now (key .entry)) none clock (callerOf first second port) (now (datagram .entry)) (now (table .entry)) (now (out .entry)) (now (answer .entry)) ⌝ }
-    ensures { λ r. ⌜ now (out .exit) ≡ relayedOut method (now (key .entry)) none clock (callerOf first second port) (now (datagram .entry)) (now (table .entry)) (now (out .entry)) (now (answer .entry)) ⌝ }
-    ensures { λ r. ⌜ now (answer .exit) ≡ openedWords (relayedAnswer method (now (key .entry)) none clock (callerOf first second port) (now (datagram .entry)) (now (table .entry)) (now (out .entry)) (now (answer .entry))) (now (answer .entry)) ⌝ }
+    ensures { λ r. ⌜ record { number = r; table = now (table .exit); out = now (out .exit); answer = now (answer .exit) }
+        ≡ opensDatagram method (now (key .entry)) none clock (callerOf first second port) (now (datagram .entry))
+        (now (table .entry)) (now (out .entry)) (now (answer .entry)) ⌝ }
 {
     if answer.len() != ANSWER {
         return SETTINGS;
@@ -175,10 +170,9 @@ pub extern "C" fn relay_datagram_open_client(
     out: &mut [u8],
     answer: &mut [u64],
 ) -> u64
-    ensures { λ r. ⌜ r ≡ openedNumber (relayedAnswer method (now (key .entry)) (some client) clock (callerOf first second port) (now (datagram .entry)) (now (table .entry)) (now (out .entry)) (now (answer .entry))) ⌝ }
-    ensures { λ r. ⌜ now (table .exit) ≡ relayedTable method (now (key .entry)) (some client) clock (callerOf first second port) (now (datagram .entry)) (now (table .entry)) (now (out .entry)) (now (answer .entry)) ⌝ }
-    ensures { λ r. ⌜ now (out .exit) ≡ relayedOut method (now (key .entry)) (some client) clock (callerOf first second port) (now (datagram .entry)) (now (table .entry)) (now (out .entry)) (now (answer .entry)) ⌝ }
-    ensures { λ r. ⌜ now (answer .exit) ≡ openedWords (relayedAnswer method (now (key .entry)) (some client) clock (callerOf first second port) (now (datagram .entry)) (now (table .entry)) (now (out .entry)) (now (answer .entry))) (now (answer .entry)) ⌝ }
+    ensures { λ r. ⌜ record { number = r; table = now (table .exit); out = now (out .exit); answer = now (answer .exit) }
+        ≡ opensDatagram method (now (key .entry)) (some client) clock (callerOf first second port) (now (datagram .entry))
+        (now (table .entry)) (now (out .entry)) (now (answer .entry)) ⌝ }
 {
     if answer.len() != ANSWER {
         return SETTINGS;

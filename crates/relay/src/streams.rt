@@ -13,15 +13,10 @@ use words::is_receiver;
 use words::receiver_in;
 use words::sender_in;
 ghost use mathlib.Core.Path.{_≡_};
-ghost use lib.ListN.{length};
 ghost use Rattle.pool.specs.Pool.{makeLawful, made};
-ghost use Rattle.stream.specs.Sealing.{senderKey, chunk, sealOut};
-ghost use Rattle.head_seal.specs.HeadSealing.{requestAnswer, request, responseAnswer, response};
-ghost use Rattle.response_open.specs.Heads.{openedResponse};
-ghost use Rattle.request_open.specs.Requests.{openedRequest};
-ghost use Rattle.words.specs.States.{senderIn};
 ghost use Rattle.relay.specs.Datagrams.{settingsNumber};
-ghost use Rattle.relay.specs.Streams as streams;
+ghost use Rattle.relay.specs.Streams.{fits as fitsOf, notSealing, sealsRequest, sealsResponse, sealsChunk};
+ghost use Rattle.relay.specs.Streams.{opensRequest, opensResponse, opensChunk};
 
 // Makes a salt pool of 1,537 words for a method.
 #[no_mangle]
@@ -37,7 +32,7 @@ pub extern "C" fn relay_pool_new(method: u64, pool: &mut [u64]) -> u64
 
 // Whether a lent stream and a lent answer have their lengths.
 fn fits(stream: usize, answer: usize) -> bool
-    ensures { λ r. ⌜ r ≡ streams.fits stream answer ⌝ }
+    ensures { λ r. ⌜ r ≡ fitsOf stream answer ⌝ }
 {
     if stream != STREAM {
         return false;
@@ -61,10 +56,9 @@ pub extern "C" fn relay_stream_seal_request(
     stream: &mut [u64],
     answer: &mut [u64],
 ) -> u64
-    ensures { λ r. ⌜ r ≡ streams.sealedNumber (streams.sealedIn (length (now (stream .entry))) (length (now (answer .entry))) (requestAnswer method (now (key .entry)) (now (salt .entry)) (now (address .entry)) padding (length (now (payload .entry))) (length (now (out .entry))))) ⌝ }
-    ensures { λ r. ⌜ now (out .exit) ≡ sealOut (streams.sealedIn (length (now (stream .entry))) (length (now (answer .entry))) (requestAnswer method (now (key .entry)) (now (salt .entry)) (now (address .entry)) padding (length (now (payload .entry))) (length (now (out .entry))))) (request (now (key .entry)) (now (salt .entry)) clock (now (address .entry)) padding (now (payload .entry))) (now (out .entry)) ⌝ }
-    ensures { λ r. ⌜ now (stream .exit) ≡ streams.sealedStream (streams.sealedIn (length (now (stream .entry))) (length (now (answer .entry))) (requestAnswer method (now (key .entry)) (now (salt .entry)) (now (address .entry)) padding (length (now (payload .entry))) (length (now (out .entry))))) (now (stream .entry)) ⌝ }
-    ensures { λ r. ⌜ now (answer .exit) ≡ streams.sealedWords (streams.sealedIn (length (now (stream .entry))) (length (now (answer .entry))) (requestAnswer method (now (key .entry)) (now (salt .entry)) (now (address .entry)) padding (length (now (payload .entry))) (length (now (out .entry))))) (now (answer .entry)) ⌝ }
+    ensures { λ r. ⌜ record { number = r; out = now (out .exit); stream = now (stream .exit); answer = now (answer .exit) }
+        ≡ sealsRequest method (now (key .entry)) (now (salt .entry)) clock (now (address .entry)) padding
+        (now (payload .entry)) (now (out .entry)) (now (stream .entry)) (now (answer .entry)) ⌝ }
 {
     if fits(stream.len(), answer.len()) {
         let sealed = head_seal::seal_request(
@@ -95,10 +89,9 @@ pub extern "C" fn relay_stream_seal_response(
     stream: &mut [u64],
     answer: &mut [u64],
 ) -> u64
-    ensures { λ r. ⌜ r ≡ streams.sealedNumber (streams.sealedIn (length (now (stream .entry))) (length (now (answer .entry))) (responseAnswer method (now (key .entry)) (now (salt .entry)) (now («request_salt» .entry)) (length (now (payload .entry))) (length (now (out .entry))))) ⌝ }
-    ensures { λ r. ⌜ now (out .exit) ≡ sealOut (streams.sealedIn (length (now (stream .entry))) (length (now (answer .entry))) (responseAnswer method (now (key .entry)) (now (salt .entry)) (now («request_salt» .entry)) (length (now (payload .entry))) (length (now (out .entry))))) (response (now (key .entry)) (now (salt .entry)) (now («request_salt» .entry)) clock (now (payload .entry))) (now (out .entry)) ⌝ }
-    ensures { λ r. ⌜ now (stream .exit) ≡ streams.sealedStream (streams.sealedIn (length (now (stream .entry))) (length (now (answer .entry))) (responseAnswer method (now (key .entry)) (now (salt .entry)) (now («request_salt» .entry)) (length (now (payload .entry))) (length (now (out .entry))))) (now (stream .entry)) ⌝ }
-    ensures { λ r. ⌜ now (answer .exit) ≡ streams.sealedWords (streams.sealedIn (length (now (stream .entry))) (length (now (answer .entry))) (responseAnswer method (now (key .entry)) (now (salt .entry)) (now («request_salt» .entry)) (length (now (payload .entry))) (length (now (out .entry))))) (now (answer .entry)) ⌝ }
+    ensures { λ r. ⌜ record { number = r; out = now (out .exit); stream = now (stream .exit); answer = now (answer .exit) }
+        ≡ sealsResponse method (now (key .entry)) (now (salt .entry)) (now («request_salt» .entry)) clock
+        (now (payload .entry)) (now (out .entry)) (now (stream .entry)) (now (answer .entry)) ⌝ }
 {
     if fits(stream.len(), answer.len()) {
         let sealed = head_seal::seal_response(method, key, salt, request_salt, clock, payload, out);
@@ -109,7 +102,7 @@ pub extern "C" fn relay_stream_seal_response(
 
 // Why a stream that is not at the turn of sealing is refused.
 fn not_sealing(turn: u64, method: u64) -> Refusal
-    ensures { λ r. ⌜ r ≡ streams.notSealing turn method ⌝ }
+    ensures { λ r. ⌜ r ≡ notSealing turn method ⌝ }
 {
     if turn == ENDED {
         if protocol::key_length(method) == 0 {
@@ -128,10 +121,8 @@ pub extern "C" fn relay_stream_seal_chunk(
     out: &mut [u8],
     answer: &mut [u64],
 ) -> u64
-    ensures { λ r. ⌜ r ≡ streams.sealedNumber (streams.sealedIn (length (now (stream .entry))) (length (now (answer .entry))) (streams.chunkSealed (now (stream .entry)) (length (now (payload .entry))) (length (now (out .entry))))) ⌝ }
-    ensures { λ r. ⌜ now (out .exit) ≡ sealOut (streams.sealedIn (length (now (stream .entry))) (length (now (answer .entry))) (streams.chunkSealed (now (stream .entry)) (length (now (payload .entry))) (length (now (out .entry))))) (chunk (senderKey (senderIn (now (stream .entry)))) (senderIn (now (stream .entry)) .counter) (now (payload .entry))) (now (out .entry)) ⌝ }
-    ensures { λ r. ⌜ now (stream .exit) ≡ streams.sealedStream (streams.sealedIn (length (now (stream .entry))) (length (now (answer .entry))) (streams.chunkSealed (now (stream .entry)) (length (now (payload .entry))) (length (now (out .entry))))) (now (stream .entry)) ⌝ }
-    ensures { λ r. ⌜ now (answer .exit) ≡ streams.sealedWords (streams.sealedIn (length (now (stream .entry))) (length (now (answer .entry))) (streams.chunkSealed (now (stream .entry)) (length (now (payload .entry))) (length (now (out .entry))))) (now (answer .entry)) ⌝ }
+    ensures { λ r. ⌜ record { number = r; out = now (out .exit); stream = now (stream .exit); answer = now (answer .exit) }
+        ≡ sealsChunk (now (stream .entry)) (now (payload .entry)) (now (out .entry)) (now (answer .entry)) ⌝ }
 {
     if fits(stream.len(), answer.len()) {
         if stream[0] == SEALING {
@@ -158,11 +149,15 @@ pub extern "C" fn relay_stream_open_request(
     stream: &mut [u64],
     answer: &mut [u64],
 ) -> u64
-    ensures { λ r. ⌜ r ≡ streams.requestNumber (streams.requestIn (length (now (stream .entry))) (length (now (answer .entry))) (openedRequest method (now (key .entry)) clock (now (bytes .entry)) (now (pool .entry)) (now (out .entry)))) ⌝ }
-    ensures { λ r. ⌜ now (pool .exit) ≡ streams.relayedPool method (now (key .entry)) clock (now (bytes .entry)) (now (pool .entry)) (now (out .entry)) (length (now (stream .entry))) (length (now (answer .entry))) ⌝ }
-    ensures { λ r. ⌜ now (out .exit) ≡ streams.relayedOut method (now (key .entry)) clock (now (bytes .entry)) (now (pool .entry)) (now (out .entry)) (length (now (stream .entry))) (length (now (answer .entry))) ⌝ }
-    ensures { λ r. ⌜ now (stream .exit) ≡ streams.requestStream (streams.requestIn (length (now (stream .entry))) (length (now (answer .entry))) (openedRequest method (now (key .entry)) clock (now (bytes .entry)) (now (pool .entry)) (now (out .entry)))) (now (stream .entry)) ⌝ }
-    ensures { λ r. ⌜ now (answer .exit) ≡ streams.requestAnswer (streams.requestIn (length (now (stream .entry))) (length (now (answer .entry))) (openedRequest method (now (key .entry)) clock (now (bytes .entry)) (now (pool .entry)) (now (out .entry)))) (now (answer .entry)) ⌝ }
+    ensures { λ r. ⌜ record {
+      number = r;
+      pool = now (pool .exit);
+      out = now (out .exit);
+      stream = now (stream .exit);
+      answer = now (answer .exit);
+    }
+        ≡ opensRequest method (now (key .entry)) clock (now (bytes .entry)) (now (pool .entry)) (now (out .entry))
+        (now (stream .entry)) (now (answer .entry)) ⌝ }
 {
     if fits(stream.len(), answer.len()) {
         let opened = request_open::open_request(method, key, clock, bytes, pool, out);
@@ -182,9 +177,9 @@ pub extern "C" fn relay_stream_open_response(
     stream: &mut [u64],
     answer: &mut [u64],
 ) -> u64
-    ensures { λ r. ⌜ r ≡ streams.responseNumber (streams.responseIn (length (now (stream .entry))) (length (now (answer .entry))) (openedResponse method (now (key .entry)) clock (now («request_salt» .entry)) (now (bytes .entry)))) ⌝ }
-    ensures { λ r. ⌜ now (stream .exit) ≡ streams.responseStream (streams.responseIn (length (now (stream .entry))) (length (now (answer .entry))) (openedResponse method (now (key .entry)) clock (now («request_salt» .entry)) (now (bytes .entry)))) (now (stream .entry)) ⌝ }
-    ensures { λ r. ⌜ now (answer .exit) ≡ streams.responseAnswer (streams.responseIn (length (now (stream .entry))) (length (now (answer .entry))) (openedResponse method (now (key .entry)) clock (now («request_salt» .entry)) (now (bytes .entry)))) (now (answer .entry)) ⌝ }
+    ensures { λ r. ⌜ record { number = r; stream = now (stream .exit); answer = now (answer .exit) }
+        ≡ opensResponse method (now (key .entry)) clock (now («request_salt» .entry)) (now (bytes .entry))
+        (now (stream .entry)) (now (answer .entry)) ⌝ }
 {
     if fits(stream.len(), answer.len()) {
         let opened = response_open::open_response(method, key, clock, request_salt, bytes);
@@ -203,10 +198,8 @@ pub extern "C" fn relay_stream_open_chunk(
     out: &mut [u8],
     answer: &mut [u64],
 ) -> u64
-    ensures { λ r. ⌜ r ≡ streams.steppedNumber (streams.stepped (now (stream .entry)) (length (now (answer .entry))) (now (bytes .entry)) (length (now (out .entry)))) ⌝ }
-    ensures { λ r. ⌜ now (out .exit) ≡ streams.steppedOut (now (stream .entry)) (length (now (answer .entry))) (now (bytes .entry)) (now (out .entry)) ⌝ }
-    ensures { λ r. ⌜ now (stream .exit) ≡ streams.steppedStream (streams.stepped (now (stream .entry)) (length (now (answer .entry))) (now (bytes .entry)) (length (now (out .entry)))) (now (stream .entry)) ⌝ }
-    ensures { λ r. ⌜ now (answer .exit) ≡ streams.steppedAnswer (streams.stepped (now (stream .entry)) (length (now (answer .entry))) (now (bytes .entry)) (length (now (out .entry)))) (now (answer .entry)) ⌝ }
+    ensures { λ r. ⌜ record { number = r; out = now (out .exit); stream = now (stream .exit); answer = now (answer .exit) }
+        ≡ opensChunk (now (stream .entry)) (now (bytes .entry)) (now (out .entry)) (now (answer .entry)) ⌝ }
 {
     if answer.len() != ANSWER {
         return SETTINGS;

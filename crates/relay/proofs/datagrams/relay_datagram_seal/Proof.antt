@@ -16,8 +16,7 @@ use Rattle.relay.proofs.datagrams.relay_datagram_seal.Tie as tie
 returns : tie.Need-returns
 returns c =
     let a = c .before .before .before .before .before .before .before .args in
-    no-answer (a .method) (length (a .key .now)) (a .session .now) (a .address .now) (a .padding) (length (a .payload .now))
-    (datagram (a .key .now) (sessionIn (a .session .now)) (a .clock) (a .address .now) (a .padding) (a .payload .now)) (a .out .now) (a .answer .now)
+    no-answer (a .method) (a .key .now) (a .session .now) (a .clock) (a .address .now) (a .padding) (a .payload .now) (a .out .now) (a .answer .now)
     (c .if1 .taken)
 
 -- a lawful session has its length
@@ -74,9 +73,8 @@ returns-2 c =
     let i = t .before in
     let e = i .before .before in
     let a = e .before .before .before .before .before .before .before .args in
-    a-datagram (a .method) (length (a .key .now)) (a .session .now) (a .address .now) (a .padding) (length (a .payload .now))
-    (datagram (a .key .now) (sessionIn (a .session .now)) (a .clock) (a .address .now) (a .padding) (a .payload .now)) (a .out .now) (a .answer .now)
-    (e .if1 .left) (i .is-session .result) (t .if2 .taken) (i .is-session .ensures) _ (answered s) _ _ _ (g .sealed .given .1) (moved s) (s .seal .ensures .1 .1 ∙ written s)
+    a-datagram (a .method) (a .key .now) (a .session .now) (a .clock) (a .address .now) (a .padding) (a .payload .now) (a .out .now) (a .answer .now)
+    (e .if1 .left) (i .is-session .result) (i .is-session .ensures) (t .if2 .taken) _ (answered s) _ _ _ (g .sealed .given .1) (moved s) (s .seal .ensures .1 .1 ∙ written s)
 
 returns-3 : tie.Need-returns-3
 returns-3 c =
@@ -86,18 +84,16 @@ returns-3 c =
     let i = t .before in
     let e = i .before .before in
     let a = e .before .before .before .before .before .before .before .args in
-    a-refusal (a .method) (length (a .key .now)) (a .session .now) (a .address .now) (a .padding) (length (a .payload .now))
-    (datagram (a .key .now) (sessionIn (a .session .now)) (a .clock) (a .address .now) (a .padding) (a .payload .now)) (a .out .now) (a .answer .now)
-    (e .if1 .left) (i .is-session .result) (t .if2 .taken) (i .is-session .ensures) _ (answered s) _ _ _ (g .sealed2 .given .1) (c .number .ensures) (s .seal .ensures .1 .1 ∙ written s)
+    a-refusal (a .method) (a .key .now) (a .session .now) (a .clock) (a .address .now) (a .padding) (a .payload .now) (a .out .now) (a .answer .now)
+    (e .if1 .left) (i .is-session .result) (i .is-session .ensures) (t .if2 .taken) _ (answered s) _ _ _ (g .sealed2 .given .1) (c .number .ensures) (s .seal .ensures .1 .1 ∙ written s)
 
 returns-4 : tie.Need-returns-4
 returns-4 c =
     let i = c .before in
     let e = i .before .before in
     let a = e .before .before .before .before .before .before .before .args in
-    no-session (a .method) (length (a .key .now)) (a .session .now) (a .address .now) (a .padding) (length (a .payload .now))
-    (datagram (a .key .now) (sessionIn (a .session .now)) (a .clock) (a .address .now) (a .padding) (a .payload .now)) (a .out .now) (a .answer .now)
-    (e .if1 .left) (i .is-session .result) (c .if2 .left) (i .is-session .ensures)
+    no-session (a .method) (a .key .now) (a .session .now) (a .clock) (a .address .now) (a .padding) (a .payload .now) (a .out .now) (a .answer .now)
+    (e .if1 .left) (i .is-session .result) (i .is-session .ensures) (c .if2 .left)
 
 pub relay-datagram-seal-spec : {M : Type 1} → statement M
 relay-datagram-seal-spec = tie.close (tie.spec returns (λ c κs. search needs) session-in-requires (λ c κs. search needs) (λ c. search needs) slice-write-session (λ c. search needs) (λ c. search needs) (λ c κs. search needs) (λ c. search needs) (λ c. search needs) (λ c. search needs) returns-2 (λ c. search needs) (λ c. search needs) returns-3 (λ c. search needs) returns-4)

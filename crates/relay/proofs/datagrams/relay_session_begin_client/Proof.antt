@@ -1,8 +1,7 @@
 use mathlib.Core.Path.{ap, _∙_}
-use lib.ListN.{length}
 use Rattle.datagram.specs.declared.Sender.{Sender}
 use Rattle.datagram.specs.declared.Begun.the-variants.{Ready}
-use Rattle.relay.specs.Datagrams.{begunIn, begunNumber, begunSession}
+use Rattle.relay.specs.Datagrams.{begins}
 use borrow.Author.Needs.{needs}
 use Rattle.relay.proofs.datagrams.relay_session_begin_client.Statement.{statement}
 use Rattle.relay.proofs.datagrams.relay_session_begin_client.Tie as tie
@@ -11,10 +10,7 @@ returns : tie.Need-returns
 returns c =
     let b = c .before .before in
     let d = b .before .before in
-    let w = d .before .before .args .session .now in (
-      b .begin .ensures .0 ∙ ap (λ (s : Sender). begunNumber (begunIn (length w) (Ready s))) (d .client .ensures),
-      b .begin .ensures .1 ∙ ap (λ (s : Sender). begunSession (begunIn (length w) (Ready s)) w) (d .client .ensures),
-    )
+    b .begin .ensures ∙ ap (λ (s : Sender). begins (Ready s) (d .before .before .args .session .now)) (d .client .ensures)
 
 pub relay-session-begin-client-spec : {M : Type 1} → statement M
 relay-session-begin-client-spec = tie.close (tie.spec (λ c κs. search needs) (λ c κs. search needs) (λ c. search needs) returns)

@@ -1,5 +1,4 @@
 use mathlib.Core.Path.{sym, _∙_}
-use Rattle.response_open.specs.Heads.{openedResponse}
 use Rattle.relay.proofs.StreamLaws.{fitting, response-unfit, response-fit}
 use borrow.Author.Needs.{needs}
 use Rattle.relay.proofs.streams.relay_stream_open_response.Statement.{statement}
@@ -18,7 +17,7 @@ returns c =
     let t = s .before in
     let f = t .before in
     let a = f .before .before .before .before .before .before .args in
-    response-fit (openedResponse (a .method) (a .key .now) (a .clock) (a .request-salt .now) (a .bytes .now)) (a .stream .now) (a .answer .now) _
+    response-fit (a .method) (a .key .now) (a .clock) (a .request-salt .now) (a .bytes .now) (a .stream .now) (a .answer .now) _
     (f .fits2 .ensures) (t .if1 .taken) _ _ _ _ (s .open-response .ensures) (d .tell-response .ensures .0) (d .tell-response .ensures .1 .0)
     (d .tell-response .ensures .1 .1)
 
@@ -26,7 +25,7 @@ returns-2 : tie.Need-returns-2
 returns-2 c =
     let f = c .before in
     let a = f .before .before .before .before .before .before .args in
-    response-unfit (openedResponse (a .method) (a .key .now) (a .clock) (a .request-salt .now) (a .bytes .now)) (a .stream .now) (a .answer .now) _
+    response-unfit (a .method) (a .key .now) (a .clock) (a .request-salt .now) (a .bytes .now) (a .stream .now) (a .answer .now) _
     (f .fits2 .ensures) (c .if1 .left)
 
 pub relay-stream-open-response-spec : {M : Type 1} → statement M

@@ -8,7 +8,7 @@ use Rattle.stream.specs.declared.Sealed.the-variants.{Refused}
 use Rattle.stream.specs.Sealing.{chunkAnswer, chunk, senderKey, sealOut}
 use Rattle.words.specs.Answers.{answerWords}
 use Rattle.words.specs.States.{streamSize, senderIn}
-use Rattle.relay.specs.Streams.{chunkSealed}
+use Rattle.relay.specs.Streams.{sealsChunk}
 use Rattle.relay.proofs.StreamLaws.{fitting, unfit, sealed-fit, unsealed-fit, at-sealing, not-at-sealing}
 use borrow.Author.Needs.{needs}
 use Rattle.relay.proofs.streams.relay_stream_seal_chunk.Statement.{statement}
@@ -34,6 +34,7 @@ slice-read-not-sealing-2 : tie.Need-slice-read-not-sealing-2
 slice-read-not-sealing-2 c = omega (arith, sizes (c .before .before .before .before) .0)
 
 returns : tie.Need-returns
+unfolding sealsChunk
 returns c =
     let d = c .before .before .before .before in
     let s = d .before .before .before .before .before in
@@ -42,8 +43,7 @@ returns c =
     let o = t .before .before in
     let f = o .before in
     let a = f .before .before .before .before .before .args in
-    let text = chunk (senderKey (senderIn (a .stream .now))) (senderIn (a .stream .now) .counter) (a .payload .now) in
-    sealed-fit (chunkSealed (a .stream .now) (length (a .payload .now)) (length (a .out .now))) text (a .out .now) (a .stream .now) (a .answer .now) _
+    sealed-fit _ _ (a .out .now) (a .stream .now) (a .answer .now) _
     (f .fits2 .ensures) (o .if1 .taken) _ _ _ _ _
     (s .seal-chunk .ensures .0 ∙ ap (λ (x : Sender). chunkAnswer x (length (a .payload .now)) (length (a .out .now))) (i .sender-in .ensures)
     ∙ at-sealing (a .stream .now) (length (a .payload .now)) (length (a .out .now)) (t .if2 .taken))
@@ -52,24 +52,24 @@ returns c =
     (d .tell-sealed .ensures .0) (d .tell-sealed .ensures .1 .0) (d .tell-sealed .ensures .1 .1)
 
 returns-2 : tie.Need-returns-2
+unfolding sealsChunk
 returns-2 c =
     let n = c .before in
     let e = n .before .before .before in
     let o = e .before .before in
     let f = o .before in
     let a = f .before .before .before .before .before .args in
-    unsealed-fit (chunkSealed (a .stream .now) (length (a .payload .now)) (length (a .out .now)))
-    (chunk (senderKey (senderIn (a .stream .now))) (senderIn (a .stream .now) .counter) (a .payload .now)) (a .out .now) (a .stream .now) (a .answer .now) _
+    unsealed-fit _ _ (a .out .now) (a .stream .now) (a .answer .now) _
     (f .fits2 .ensures) (o .if1 .taken) _ _
     (not-at-sealing (a .stream .now) (length (a .payload .now)) (length (a .out .now)) (e .if2 .left) ∙ ap Refused (sym (n .not-sealing .ensures)))
     (c .number .ensures)
 
 returns-3 : tie.Need-returns-3
+unfolding sealsChunk
 returns-3 c =
     let f = c .before in
     let a = f .before .before .before .before .before .args in
-    unfit (chunkSealed (a .stream .now) (length (a .payload .now)) (length (a .out .now)))
-    (chunk (senderKey (senderIn (a .stream .now))) (senderIn (a .stream .now) .counter) (a .payload .now)) (a .out .now) (a .stream .now) (a .answer .now) _
+    unfit _ _ (a .out .now) (a .stream .now) (a .answer .now) _
     (f .fits2 .ensures) (c .if1 .left)
 
 pub relay-stream-seal-chunk-spec : {M : Type 1} → statement M

@@ -1,6 +1,7 @@
 use mathlib.Core.Path.{sym, _∙_}
 use lib.ListN.{length}
 use Rattle.head_seal.specs.HeadSealing.{responseAnswer, response}
+use Rattle.relay.specs.Streams.{sealsResponse}
 use Rattle.relay.proofs.StreamLaws.{fitting, unfit, sealed-fit}
 use borrow.Author.Needs.{needs}
 use Rattle.relay.proofs.streams.relay_stream_seal_response.Statement.{statement}
@@ -13,6 +14,7 @@ tell-sealed-requires c κs =
     fitting _ _ (sym (f .fits2 .ensures) ∙ t .if1 .taken)
 
 returns : tie.Need-returns
+unfolding sealsResponse
 returns c =
     let d = c .before .before .before .before in
     let s = d .before .before .before .before .before in
@@ -25,12 +27,11 @@ returns c =
     (d .tell-sealed .ensures .0) (d .tell-sealed .ensures .1 .0) (d .tell-sealed .ensures .1 .1)
 
 returns-2 : tie.Need-returns-2
+unfolding sealsResponse
 returns-2 c =
     let f = c .before in
     let a = f .before .before .before .before .before .before .before .before .args in
-    unfit (responseAnswer (a .method) (a .key .now) (a .salt .now) (a .request-salt .now) (length (a .payload .now)) (length (a .out .now)))
-    (response (a .key .now) (a .salt .now) (a .request-salt .now) (a .clock) (a .payload .now)) (a .out .now)
-    (a .stream .now) (a .answer .now) _ (f .fits2 .ensures) (c .if1 .left)
+    unfit _ _ (a .out .now) (a .stream .now) (a .answer .now) _ (f .fits2 .ensures) (c .if1 .left)
 
 pub relay-stream-seal-response-spec : {M : Type 1} → statement M
 relay-stream-seal-response-spec = tie.close (tie.spec (λ c κs. search needs) (λ c κs. search needs) tell-sealed-requires (λ c. search needs) (λ c. search needs) (λ c. search needs) returns returns-2)
