@@ -2,7 +2,7 @@
 use Prim.Native.Nat.{ℕ, suc, _*_, _<_, _≤_}
 use mathlib.Core.Bool.{Bool, true, false, cond, _&&_}
 use mathlib.Core.List.{List, [], _∷_}
-use mathlib.Core.Option.{Option, none}
+use mathlib.Core.Option.{Option, none, Option·getD}
 use mathlib.Core.Path.{_≡_, sym, ap, ap₂, _∙_}
 use lib.Dec.{eqb}
 use lib.ListN.{length, getD, set, replicate}
@@ -13,8 +13,8 @@ use Rattle.protocol.specs.declared.Method.{Method}
 use Rattle.protocol.specs.declared.Numbered.the-variants.{Known, Unknown}
 use Rattle.protocol.specs.Method.{methodOf}
 use Rattle.pool.specs.declared.Met.the-variants.{Room, Replay, Full}
-use Rattle.pool.specs.Pool.{capacity, recordWords, poolWords, start, lawful, known, newPool, makeLawful, made, saltWords, saltPlace, freePlace, placeNumber, meetBy, meet, store}
-use Rattle.pool.proofs.PlaceLaws.{salt-there, salt-nowhere, free-there, free-nowhere}
+use Rattle.pool.specs.Pool.{capacity, recordWords, poolWords, start, lawful, known, newPool, makeLawful, made, saltWords, saltPlace, freePlace, meetBy, meet, store}
+use Rattle.pool.proofs.PlaceLaws.{salt-place, free-place}
 
 -- ---- a pool and a method
 
@@ -55,23 +55,23 @@ module _ (t : List ℕ) (method : ℕ) where
 
 -- ---- what a salt meets: s is the place of the salt as a number, r that of the free record
 
-module _ (t : List ℕ) (clock : ℕ) (salt w : List ℕ) (s : ℕ) (e : s ≡ placeNumber (saltPlace t clock w (length salt))) (f : w ≡ saltWords salt) where
+module _ (t : List ℕ) (clock : ℕ) (salt w : List ℕ) (s : ℕ) (e : s ≡ Option·getD (saltPlace t clock w (length salt)) capacity) (f : w ≡ saltWords salt) where
   met : meetBy (saltPlace t clock w (length salt)) (freePlace t clock) ≡ meet t clock salt
   unfolding meet
   met = ap (λ (v : List ℕ). meetBy (saltPlace t clock v (length salt)) (freePlace t clock)) f
 
   pub met-replay : s < capacity → Replay ≡ meet t clock salt
-  met-replay l = sym (ap (λ (o : Option ℕ). meetBy o (freePlace t clock)) (salt-there t clock s w (length salt) e l)) ∙ met
+  met-replay l = sym (ap (λ (o : Option ℕ). meetBy o (freePlace t clock)) (salt-place t clock w (length salt) .there s e l)) ∙ met
 
-  module _ (l : capacity ≤ s) (r : ℕ) (g : r ≡ placeNumber (freePlace t clock)) where
+  module _ (l : capacity ≤ s) (r : ℕ) (g : r ≡ Option·getD (freePlace t clock) capacity) where
     no-salt : saltPlace t clock w (length salt) ≡ none
-    no-salt = salt-nowhere t clock s w (length salt) e l
+    no-salt = salt-place t clock w (length salt) .nowhere s e l
 
     pub met-room : r < capacity → Room r ≡ meet t clock salt
-    met-room h = sym (ap₂ meetBy no-salt (free-there t clock r g h)) ∙ met
+    met-room h = sym (ap₂ meetBy no-salt (free-place t clock .there r g h)) ∙ met
 
     pub met-full : capacity ≤ r → Full ≡ meet t clock salt
-    met-full h = sym (ap₂ meetBy no-salt (free-nowhere t clock r g h)) ∙ met
+    met-full h = sym (ap₂ meetBy no-salt (free-place t clock .nowhere r g h)) ∙ met
 
 -- ---- writing one
 

@@ -80,11 +80,6 @@ saltPlace t clock w n = lowestFrom (λ i. kept t clock i && sameSalt w n t i) 0 
 unfoldable pub freePlace : List ℕ → (clock : ℕ) → Option ℕ
 freePlace t clock = lowestFrom (λ i. not (kept t clock i)) 0 capacity
 
--- a place as a number: `capacity` where there is none
-abbrev pub placeNumber : Option ℕ → ℕ
-placeNumber none = capacity
-placeNumber (some i) = i
-
 -- ---- what a salt meets
 
 abbrev pub meetBy : Option ℕ → Option ℕ → Met

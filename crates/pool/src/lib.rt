@@ -3,9 +3,10 @@
 use protocol::Method;
 use protocol::Numbered;
 ghost use mathlib.Core.Path.{_≡_};
+ghost use mathlib.Core.Option.{Option·getD};
 ghost use Prim.Native.Nat.{_<_};
 ghost use lib.ListN.{length};
-ghost use Rattle.pool.specs.Pool.{capacity, poolWords, lawful, makeLawful, made, saltWords, kept, sameSalt, saltPlace, freePlace, placeNumber, meet as meetOf, store as storeOf};
+ghost use Rattle.pool.specs.Pool.{capacity, poolWords, lawful, makeLawful, made, saltWords, kept, sameSalt, saltPlace, freePlace, meet as meetOf, store as storeOf};
 
 pub const SALTS: usize = 256;
 
@@ -80,7 +81,7 @@ fn has_salt(pool: &[u64], r: usize, w: [u64; 4], n: usize) -> bool
 // The record that keeps the salt, or SALTS.
 fn find(pool: &[u64], clock: u64, w: [u64; 4], n: usize) -> usize
     requires { ⌜ length (now pool) ≡ poolWords ⌝ }
-    ensures { λ r. ⌜ r ≡ placeNumber (saltPlace (now (pool .entry)) clock w n) ⌝ }
+    ensures { λ r. ⌜ r ≡ Option·getD (saltPlace (now (pool .entry)) clock w n) capacity ⌝ }
 {
     let mut r: usize = 0;
     while r < SALTS {
@@ -97,7 +98,7 @@ fn find(pool: &[u64], clock: u64, w: [u64; 4], n: usize) -> usize
 // The lowest record that is not kept, or SALTS.
 fn find_room(pool: &[u64], clock: u64) -> usize
     requires { ⌜ length (now pool) ≡ poolWords ⌝ }
-    ensures { λ r. ⌜ r ≡ placeNumber (freePlace (now (pool .entry)) clock) ⌝ }
+    ensures { λ r. ⌜ r ≡ Option·getD (freePlace (now (pool .entry)) clock) capacity ⌝ }
 {
     let mut r: usize = 0;
     while r < SALTS {

@@ -88,11 +88,6 @@ sessionPlace t clock id = lowest (λ i. holds (retention t) clock id (recordAt t
 unfoldable pub freePlace : List ℕ → (clock : ℕ) → Option ℕ
 freePlace t clock = lowest (λ i. not (live (retention t) clock (recordAt t i)))
 
--- a place as a number: `capacity` where there is none
-abbrev pub placeNumber : Option ℕ → ℕ
-placeNumber none = capacity
-placeNumber (some i) = i
-
 -- ---- what a packet ID meets
 
 pub data Entry : Type 0 where

@@ -6,12 +6,12 @@ use session_record::accept;
 use session_record::begin;
 use session_record::is_fresh;
 ghost use mathlib.Core.Path.{_≡_};
-ghost use mathlib.Core.Option.{none, some};
+ghost use mathlib.Core.Option.{none, some, Option·getD};
 ghost use Prim.Native.Nat.{_<_};
 ghost use lib.ListN.{length};
 ghost use Rattle.session_record.specs.Record.{recordOf};
 ghost use Rattle.session.specs.Sizes.{capacity};
-ghost use Rattle.session.specs.Table.{tableWords, retention, lawful, madeRetention, makeLawful, made, recordAt, wordsOf, store as storeOf, live, sessionPlace, freePlace, placeNumber, meetBy, meet, keep, admitted};
+ghost use Rattle.session.specs.Table.{tableWords, retention, lawful, madeRetention, makeLawful, made, recordAt, wordsOf, store as storeOf, live, sessionPlace, freePlace, meetBy, meet, keep, admitted};
 
 pub const SESSIONS: usize = 64;
 
@@ -60,7 +60,7 @@ fn is_alive(table: &[u64], clock: u64, r: usize) -> bool
 // The record that holds the session with this ID, or SESSIONS.
 fn find(table: &[u64], clock: u64, id: u64) -> usize
     requires { ⌜ length (now table) ≡ tableWords ⌝ }
-    ensures { λ r. ⌜ r ≡ placeNumber (sessionPlace (now (table .entry)) clock id) ⌝ }
+    ensures { λ r. ⌜ r ≡ Option·getD (sessionPlace (now (table .entry)) clock id) capacity ⌝ }
 {
     let mut r: usize = 0;
     while r < SESSIONS {
@@ -77,7 +77,7 @@ fn find(table: &[u64], clock: u64, id: u64) -> usize
 // The lowest record that is not alive, or SESSIONS.
 fn find_room(table: &[u64], clock: u64) -> usize
     requires { ⌜ length (now table) ≡ tableWords ⌝ }
-    ensures { λ r. ⌜ r ≡ placeNumber (freePlace (now (table .entry)) clock) ⌝ }
+    ensures { λ r. ⌜ r ≡ Option·getD (freePlace (now (table .entry)) clock) capacity ⌝ }
 {
     let mut r: usize = 0;
     while r < SESSIONS {

@@ -6,7 +6,7 @@ use mathlib.Core.Logic.{⊎-elim}
 use mathlib.Core.Path.{_≡_, sym, ap, ap₂, _∙_}
 use borrow.Author.Count.{below-none, below-more}
 use Rattle.pool.specs.Pool.{capacity, kept, sameSalt}
-use Rattle.pool.proofs.PlaceLaws.{salt-at, salt-none}
+use Rattle.pool.proofs.PlaceLaws.{salt-place}
 use borrow.Author.Needs.{needs}
 use Rattle.pool.proofs.find.Statement.{statement}
 use Rattle.pool.proofs.find.Tie as tie
@@ -26,7 +26,7 @@ returns c =
     let k = s .before .before in
     let l = k .before .before in
     let a = l .before .before .args in
-    salt-at (a .pool .now) (a .clock) (l .loop .r) (a .w) (a .n) (omega arith) (l .loop .inv .1)
+    salt-place (a .pool .now) (a .clock) (a .w) (a .n) .found (l .loop .r) (omega arith) (l .loop .inv .1)
     (ap₂ (λ (x y : Bool). x && y) (sym (k .is-kept .ensures) ∙ s .before .if1 .taken) (sym (s .has-salt .ensures) ∙ c .if2 .taken))
 
 loop-again : tie.Need-loop-again Inv-loop μ-loop
@@ -46,7 +46,7 @@ returns-2 : tie.Need-returns-2 Inv-loop μ-loop
 returns-2 c =
     let l = c .before in
     let a = l .before .before .args in
-    salt-none (a .pool .now) (a .clock) (l .loop .r) (a .w) (a .n) (omega arith) (l .loop .inv .1)
+    salt-place (a .pool .now) (a .clock) (a .w) (a .n) .passed (l .loop .r) (omega arith) (l .loop .inv .1)
 
 pub find-spec : {M : Type 1} → statement M
 find-spec =

@@ -5,7 +5,7 @@ use mathlib.Core.Bool.{false, not}
 use mathlib.Core.Path.{_≡_, sym, ap, _∙_}
 use borrow.Author.Count.{below-none, below-more}
 use Rattle.pool.specs.Pool.{capacity, kept}
-use Rattle.pool.proofs.PlaceLaws.{free-at, free-none}
+use Rattle.pool.proofs.PlaceLaws.{free-place}
 use borrow.Author.Needs.{needs}
 use Rattle.pool.proofs.find_room.Statement.{statement}
 use Rattle.pool.proofs.find_room.Tie as tie
@@ -23,7 +23,7 @@ returns : tie.Need-returns Inv-loop μ-loop
 returns c =
     let d = c .before in
     let a = d .before .before .before .before .args in
-    free-at (a .pool .now) (a .clock) (d .before .before .loop .r) (omega arith) (d .before .before .loop .inv .1)
+    free-place (a .pool .now) (a .clock) .found (d .before .before .loop .r) (omega arith) (d .before .before .loop .inv .1)
     (ap not (sym (d .is-kept .ensures)) ∙ c .if1 .taken)
 
 loop-again : tie.Need-loop-again Inv-loop μ-loop
@@ -34,7 +34,7 @@ loop-again c =
 returns-2 : tie.Need-returns-2 Inv-loop μ-loop
 returns-2 c =
     let a = c .before .before .before .args in
-    free-none (a .pool .now) (a .clock) (c .before .loop .r) (omega arith) (c .before .loop .inv .1)
+    free-place (a .pool .now) (a .clock) .passed (c .before .loop .r) (omega arith) (c .before .loop .inv .1)
 
 pub find-room-spec : {M : Type 1} → statement M
 find-room-spec =

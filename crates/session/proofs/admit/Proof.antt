@@ -1,7 +1,7 @@
 -- Each return is one case of what the packet ID meets.
 use mathlib.Core.Path.{ap, _∙_}
 use Rattle.session.specs.Table.{Entry, keep, admitted}
-use Rattle.session.proofs.PlaceLaws.{session-there, session-nowhere}
+use Rattle.session.proofs.PlaceLaws.{session-place}
 use Rattle.session.proofs.TableLaws.{met-known, met-new}
 use borrow.Author.Needs.{needs}
 use Rattle.session.proofs.admit.Statement.{statement}
@@ -14,7 +14,7 @@ returns c =
     let a = d .before .before .before .before .args in
     let t = a .table .now in
     let f = d .before .find in
-    let met = met-known t (a .clock) (a .peer) (a .p) (a .id) (f .result) (session-there t (a .clock) (f .result) (a .id) (f .ensures) (d .if1 .taken)) in
+    let met = met-known t (a .clock) (a .peer) (a .p) (a .id) (f .result) (session-place t (a .clock) (a .id) .there (f .result) (f .ensures) (d .if1 .taken)) in
     (b .admit-known .ensures .0 ∙ ap admitted met, b .admit-known .ensures .1 ∙ ap (λ (x : Entry). keep x t) met)
 
 returns-2 : tie.Need-returns-2
@@ -24,7 +24,7 @@ returns-2 c =
     let a = d .before .before .before .before .args in
     let t = a .table .now in
     let f = d .before .find in
-    let met = met-new t (a .clock) (a .peer) (a .p) (a .id) (session-nowhere t (a .clock) (f .result) (a .id) (f .ensures) (d .if1 .left)) in
+    let met = met-new t (a .clock) (a .peer) (a .p) (a .id) (session-place t (a .clock) (a .id) .nowhere (f .result) (f .ensures) (d .if1 .left)) in
     (b .admit-new .ensures .0 ∙ ap admitted met, b .admit-new .ensures .1 ∙ ap (λ (x : Entry). keep x t) met)
 
 pub admit-spec : {M : Type 1} → statement M

@@ -1,7 +1,7 @@
 -- Each return is one case of what a new session meets.
 use mathlib.Core.Path.{sym, ap, _∙_}
 use Rattle.session.specs.Table.{Entry, store as storeOf, keep, admitted}
-use Rattle.session.proofs.PlaceLaws.{free-there, free-nowhere}
+use Rattle.session.proofs.PlaceLaws.{free-place}
 use Rattle.session.proofs.TableLaws.{is-new, is-full}
 use borrow.Author.Needs.{needs}
 use Rattle.session.proofs.admit_new.Statement.{statement}
@@ -14,7 +14,7 @@ returns c =
     let a = d .before .before .before .before .args in
     let t = a .table .now in
     let r = d .before .find-room .result in
-    let met = is-new t (a .clock) (a .peer) (a .p) (a .id) r (free-there t (a .clock) r (d .before .find-room .ensures) (d .if1 .taken)) in (
+    let met = is-new t (a .clock) (a .peer) (a .p) (a .id) r (free-place t (a .clock) .there r (d .before .find-room .ensures) (d .if1 .taken)) in (
       sym (ap admitted met),
       c .before .before .store .ensures ∙ ap (storeOf t r) (e .begin .ensures) ∙ sym (ap (λ (x : Entry). keep x t) met),
     )
@@ -23,7 +23,7 @@ returns-2 : tie.Need-returns-2
 returns-2 c =
     let a = c .before .before .before .before .args in
     let t = a .table .now in
-    let met = is-full t (a .clock) (a .peer) (a .p) (a .id) (free-nowhere t (a .clock) (c .before .find-room .result) (c .before .find-room .ensures) (c .if1 .left)) in
+    let met = is-full t (a .clock) (a .peer) (a .p) (a .id) (free-place t (a .clock) .nowhere (c .before .find-room .result) (c .before .find-room .ensures) (c .if1 .left)) in
     (sym (ap admitted met), sym (ap (λ (x : Entry). keep x t) met))
 
 pub admit-new-spec : {M : Type 1} → statement M

@@ -7,7 +7,7 @@ use mathlib.Core.Path.{_≡_}
 use borrow.Author.Count.{below-none, below-more}
 use Rattle.session.specs.Sizes.{capacity}
 use Rattle.session.specs.Table.{retention, recordAt, holds}
-use Rattle.session.proofs.PlaceLaws.{holds-it, holds-other, holds-none, session-at, session-none}
+use Rattle.session.proofs.PlaceLaws.{holds-it, holds-other, holds-none, session-place}
 use borrow.Author.Needs.{needs}
 use Rattle.session.proofs.find.Statement.{statement}
 use Rattle.session.proofs.find.Tie as tie
@@ -27,7 +27,7 @@ returns c =
     let a = d .before .before .before .before .args in
     let t = a .table .now in
     let r = d .before .before .loop .r in
-    session-at t (a .clock) r (a .id) (omega arith) (d .before .before .loop .inv .1)
+    session-place t (a .clock) (a .id) .found r (omega arith) (d .before .before .loop .inv .1)
     (holds-it (retention t) (a .clock) (recordAt t r) (a .id) (d .is-alive .result) (d .is-alive .ensures) (c .before .before .if1 .taken) (c .if2 .taken))
 
 loop-again : tie.Need-loop-again Inv-loop μ-loop
@@ -48,7 +48,7 @@ loop-again c =
 returns-2 : tie.Need-returns-2 Inv-loop μ-loop
 returns-2 c =
     let a = c .before .before .before .args in
-    session-none (a .table .now) (a .clock) (c .before .loop .r) (a .id) (omega arith) (c .before .loop .inv .1)
+    session-place (a .table .now) (a .clock) (a .id) .passed (c .before .loop .r) (omega arith) (c .before .loop .inv .1)
 
 pub find-spec : {M : Type 1} → statement M
 find-spec =

@@ -6,7 +6,7 @@ use mathlib.Core.Path.{_≡_, sym, ap, _∙_}
 use borrow.Author.Count.{below-none, below-more}
 use Rattle.session.specs.Sizes.{capacity}
 use Rattle.session.specs.Table.{retention, recordAt, live}
-use Rattle.session.proofs.PlaceLaws.{free-at, free-none}
+use Rattle.session.proofs.PlaceLaws.{free-place}
 use borrow.Author.Needs.{needs}
 use Rattle.session.proofs.find_room.Statement.{statement}
 use Rattle.session.proofs.find_room.Tie as tie
@@ -24,7 +24,7 @@ returns : tie.Need-returns Inv-loop μ-loop
 returns c =
     let d = c .before in
     let a = d .before .before .before .before .args in
-    free-at (a .table .now) (a .clock) (d .before .before .loop .r) (omega arith) (d .before .before .loop .inv .1)
+    free-place (a .table .now) (a .clock) .found (d .before .before .loop .r) (omega arith) (d .before .before .loop .inv .1)
     (ap not (sym (d .is-alive .ensures)) ∙ c .if1 .taken)
 
 loop-again : tie.Need-loop-again Inv-loop μ-loop
@@ -35,7 +35,7 @@ loop-again c =
 returns-2 : tie.Need-returns-2 Inv-loop μ-loop
 returns-2 c =
     let a = c .before .before .before .args in
-    free-none (a .table .now) (a .clock) (c .before .loop .r) (omega arith) (c .before .loop .inv .1)
+    free-place (a .table .now) (a .clock) .passed (c .before .loop .r) (omega arith) (c .before .loop .inv .1)
 
 pub find-room-spec : {M : Type 1} → statement M
 find-room-spec =
