@@ -12,12 +12,14 @@ use Rattle.session_record.specs.declared.Peer.{Peer}
 use Rattle.book.specs.Call.{Answer, refused, opened}
 use Rattle.datagram.specs.declared.Sealed.{Sealed}
 use Rattle.datagram.specs.declared.Sealed.the-variants.{Datagram, Refused}
+use Rattle.datagram.specs.Sealing.{clientSender, sealAnswer, datagram, sealOut}
 use Rattle.datagram_read.specs.declared.Header.{Header}
 use Rattle.protocol.specs.Refusal.{refusalNumber}
 use Rattle.stream.specs.declared.Subkey.{Subkey}
 use Rattle.stream.specs.declared.Sender.{Sender}
 use Rattle.stream.specs.declared.Sealed.{Sealed as ChunkSealed}
 use Rattle.stream.specs.declared.Sealed.the-variants.{Bytes, Refused as ChunkRefused}
+use Rattle.stream.specs.Sealing.{chunkAnswer, chunk, senderKey, sealOut as chunkOut}
 use Rattle.stream_open.specs.declared.Turn.the-variants.{Payload}
 use Rattle.stream_open.specs.declared.Receiver.{Receiver}
 use Rattle.stream_open.specs.declared.Stepped.{Stepped}
@@ -49,6 +51,14 @@ subkeyLawful key salt out = leb (length key) 32 && (leb (length salt) 32 && leb 
 unfoldable pub subkeyOut : List ℕ → List ℕ → List ℕ → List ℕ
 subkeyOut key salt out = cond (subkeyLawful key salt out) (put out 0 (subkey key salt)) out
 
+-- what is answered to a client's first datagram, without padding, and what is written
+abbrev pub firstDatagram : (method : ℕ) → List ℕ → (id : ℕ) → (address payload out : List ℕ) → Sealed
+firstDatagram method key id address payload out = sealAnswer method (length key) (clientSender id) address 0 (length payload) (length out)
+
+abbrev pub firstDatagramOut : (method : ℕ) → List ℕ → (id clock : ℕ) → (address payload out : List ℕ) → List ℕ
+firstDatagramOut method key id clock address payload out =
+    sealOut (firstDatagram method key id address payload out) (datagram key (clientSender id) clock address 0 payload) out
+
 -- the length of a sealed datagram, and 0 for a refusal
 abbrev pub sealedNumber : Sealed → ℕ
 sealedNumber (Datagram n) = n
@@ -75,6 +85,14 @@ firstSender method w = record { method = method; counter = 0; subkey = w }
 -- before the second piece, a payload of n bytes
 abbrev pub payloadReceiver : ℕ → ℕ → Subkey → Receiver
 payloadReceiver method n w = record { method = method; turn = Payload n; counter = 1; subkey = w }
+
+-- what is answered to a stream's first chunk, and what is written
+abbrev pub firstChunk : (method : ℕ) → Subkey → (payload out : List ℕ) → ChunkSealed
+firstChunk method w payload out = chunkAnswer (firstSender method w) (length payload) (length out)
+
+abbrev pub firstChunkOut : (method : ℕ) → Subkey → (payload out : List ℕ) → List ℕ
+firstChunkOut method w payload out =
+    chunkOut (firstChunk method w payload out) (chunk (senderKey (firstSender method w)) 0 payload) out
 
 -- the number of bytes sealed, and 0 for a refusal
 abbrev pub chunkNumber : ChunkSealed → ℕ

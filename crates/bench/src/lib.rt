@@ -11,10 +11,10 @@ use stream_open::Turn;
 ghost use mathlib.Core.Path.{_≡_};
 ghost use mathlib.Core.Option.{none};
 ghost use lib.ListN.{length};
-ghost use Rattle.bench.specs.Answer.{answer, number, hashLawful, hashOut, subkeyLawful, subkeyOut, sealedNumber, openedNumber, nobody, subkeyIn, firstSender, payloadReceiver, chunkNumber, steppedNumber};
-ghost use Rattle.datagram.specs.Sealing as sealing;
+ghost use Rattle.bench.specs.Answer.{answer, number, hashLawful, hashOut, subkeyLawful, subkeyOut};
+ghost use Rattle.bench.specs.Answer.{firstDatagram, firstDatagramOut, sealedNumber, openedNumber, nobody};
+ghost use Rattle.bench.specs.Answer.{subkeyIn, firstChunk, firstChunkOut, chunkNumber, payloadReceiver, steppedNumber};
 ghost use Rattle.datagram_open.specs.Deciding as deciding;
-ghost use Rattle.stream.specs.Sealing as streams;
 ghost use Rattle.stream_open.specs.Chunks as chunks;
 ghost use Rattle.gcm.specs.Keyed.{sealLawful, sealed, openAnswer, openOut};
 ghost use Rattle.aes.specs.Keyed.{lawful};
@@ -113,8 +113,11 @@ pub extern "C" fn bench_datagram_seal(
     payload: &[u8],
     out: &mut [u8],
 ) -> usize
-    ensures { λ r. ⌜ r ≡ sealedNumber (sealing.sealAnswer method (length (now (key .entry))) (sealing.clientSender id) (now (address .entry)) 0 (length (now (payload .entry))) (length (now (out .entry)))) ⌝ }
-    ensures { λ r. ⌜ now (out .exit) ≡ sealing.sealOut (sealing.sealAnswer method (length (now (key .entry))) (sealing.clientSender id) (now (address .entry)) 0 (length (now (payload .entry))) (length (now (out .entry)))) (sealing.datagram (now (key .entry)) (sealing.clientSender id) clock (now (address .entry)) 0 (now (payload .entry))) (now (out .entry)) ⌝ }
+    ensures { λ r. ⌜ r ≡ sealedNumber
+        (firstDatagram method (now (key .entry)) id (now (address .entry)) (now (payload .entry)) (now (out .entry))) ⌝ }
+    ensures { λ r. ⌜ now (out .exit)
+        ≡ firstDatagramOut method (now (key .entry)) id clock (now (address .entry)) (now (payload .entry))
+        (now (out .entry)) ⌝ }
 {
     let done = datagram::seal(
         method,
@@ -143,9 +146,14 @@ pub extern "C" fn bench_datagram_open(
     table: &mut [u64],
     out: &mut [u8],
 ) -> u64
-    ensures { λ r. ⌜ r ≡ openedNumber (deciding.openAnswer method (now (key .entry)) none clock nobody (now (s .entry)) (now (table .entry)) (now (out .entry))) ⌝ }
-    ensures { λ r. ⌜ now (out .exit) ≡ deciding.openOut method (now (key .entry)) none clock nobody (now (s .entry)) (now (table .entry)) (now (out .entry)) ⌝ }
-    ensures { λ r. ⌜ now (table .exit) ≡ deciding.openTable method (now (key .entry)) none clock nobody (now (s .entry)) (now (table .entry)) (now (out .entry)) ⌝ }
+    ensures { λ r. ⌜ r ≡ openedNumber (deciding.openAnswer method (now (key .entry)) none clock nobody (now (s .entry))
+        (now (table .entry)) (now (out .entry))) ⌝ }
+    ensures { λ r. ⌜ now (out .exit)
+        ≡ deciding.openOut method (now (key .entry)) none clock nobody (now (s .entry)) (now (table .entry))
+        (now (out .entry)) ⌝ }
+    ensures { λ r. ⌜ now (table .exit)
+        ≡ deciding.openTable method (now (key .entry)) none clock nobody (now (s .entry)) (now (table .entry))
+        (now (out .entry)) ⌝ }
 {
     let peer = Peer {
         first: 0,
@@ -169,8 +177,8 @@ pub extern "C" fn bench_chunk_seal(
     payload: &[u8],
     out: &mut [u8],
 ) -> usize
-    ensures { λ r. ⌜ r ≡ chunkNumber (streams.chunkAnswer (firstSender method (subkeyIn a b c d)) (length (now (payload .entry))) (length (now (out .entry)))) ⌝ }
-    ensures { λ r. ⌜ now (out .exit) ≡ streams.sealOut (streams.chunkAnswer (firstSender method (subkeyIn a b c d)) (length (now (payload .entry))) (length (now (out .entry)))) (streams.chunk (streams.senderKey (firstSender method (subkeyIn a b c d))) 0 (now (payload .entry))) (now (out .entry)) ⌝ }
+    ensures { λ r. ⌜ r ≡ chunkNumber (firstChunk method (subkeyIn a b c d) (now (payload .entry)) (now (out .entry))) ⌝ }
+    ensures { λ r. ⌜ now (out .exit) ≡ firstChunkOut method (subkeyIn a b c d) (now (payload .entry)) (now (out .entry)) ⌝ }
 {
     let sender = stream::Sender {
         method: method,
@@ -200,8 +208,10 @@ pub extern "C" fn bench_chunk_open(
     s: &[u8],
     out: &mut [u8],
 ) -> u64
-    ensures { λ r. ⌜ r ≡ steppedNumber (chunks.stepAnswer (payloadReceiver method n (subkeyIn a b c d)) (now (s .entry)) (length (now (out .entry)))) ⌝ }
-    ensures { λ r. ⌜ now (out .exit) ≡ chunks.stepOut (payloadReceiver method n (subkeyIn a b c d)) (now (s .entry)) (now (out .entry)) ⌝ }
+    ensures { λ r. ⌜ r ≡ steppedNumber
+        (chunks.stepAnswer (payloadReceiver method n (subkeyIn a b c d)) (now (s .entry)) (length (now (out .entry)))) ⌝ }
+    ensures { λ r. ⌜ now (out .exit)
+        ≡ chunks.stepOut (payloadReceiver method n (subkeyIn a b c d)) (now (s .entry)) (now (out .entry)) ⌝ }
 {
     let receiver = Receiver {
         method: method,

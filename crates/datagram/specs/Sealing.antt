@@ -16,7 +16,7 @@ use Rattle.datagram.specs.declared.Begun.the-variants.{Ready, Refused as
 use Rattle.datagram.specs.declared.Sealed.{Sealed}
 use Rattle.datagram.specs.declared.Sealed.the-variants.{Datagram, Refused}
 use Rattle.datagram_parts.specs.Headers.{fixedLength, plaintext}
-use Rattle.datagram_parts.specs.Parts.{maxDatagram, separateBlock, sealBody}
+use Rattle.datagram_parts.specs.Parts.{overhead, maxDatagram, separateBlock, sealBody}
 
 -- ---- sending sessions begin at packet ID 0
 
@@ -38,7 +38,7 @@ idsDiffer sender = differs (sender .side) (sender .id)
 
 -- the separate header, the main header, padding, address, payload, and the tag
 unfoldable pub sealedLength : Side → ℕ → ℕ → ℕ → ℕ
-sealedLength side address padding payload = fixedLength side + padding + address + payload + 32
+sealedLength side address padding payload = fixedLength side + padding + address + payload + overhead
 
 -- a length, and 0 for one that no datagram has
 unfoldable pub capped : ℕ → ℕ

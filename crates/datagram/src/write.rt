@@ -3,6 +3,8 @@ use super::Sealed;
 use super::Sealing;
 use super::Sender;
 use datagram_parts::MAX_DATAGRAM;
+use datagram_parts::OVERHEAD;
+use datagram_parts::SEPARATE;
 use datagram_parts::Side;
 use datagram_parts::fixed_length;
 use datagram_parts::seal_body;
@@ -17,7 +19,7 @@ ghost use Rattle.aes_tables.specs.SBox.{sBox};
 ghost use Rattle.aes_tables.specs.Tables.{IsTable, mixEntry};
 ghost use Rattle.aes.specs.Keyed.{nkOf};
 ghost use Rattle.datagram_parts.specs.Headers.{fixedLength, plaintext};
-ghost use Rattle.datagram_parts.specs.Parts.{maxDatagram, sealBody};
+ghost use Rattle.datagram_parts.specs.Parts.{tagLength, maxDatagram, sealBody};
 ghost use Rattle.datagram.specs.Sealing.{idsDiffer, sealedLength, capped, lengthAnswer, argumentAnswer, sealAnswer, packetsOf, sealNext, datagram, sealOut};
 
 // ---- what is answered
@@ -46,7 +48,7 @@ fn sealed_length(side: Side, address: usize, padding: usize, payload: usize) -> 
     if MAX_DATAGRAM < payload {
         return 0;
     }
-    let n = fixed + padding + address + payload + 32;
+    let n = fixed + padding + address + payload + OVERHEAD;
     if MAX_DATAGRAM < n {
         return 0;
     }
@@ -148,11 +150,14 @@ fn write_body(
     payload: &[u8],
 )
     requires { ⌜ 0 < nkOf (length (now key)) ⌝ }
-    requires { ⌜ length (now body) ≡ fixedLength (sender .side) + padding + length (now address) + length (now payload) + 16 ⌝ }
+    requires { ⌜ length (now body)
+        ≡ fixedLength (sender .side) + padding + length (now address) + length (now payload) + tagLength ⌝ }
     requires { ⌜ length (now body) ≤ maxDatagram ⌝ }
     requires { ⌜ IsTable mixEntry (now t) ⌝ }
     requires { ⌜ IsTable sBox (now sbox) ⌝ }
-    ensures { λ _. ⌜ now (body .exit) ≡ sealBody (now (key .entry)) (sender .id) (sender .packet) (plaintext (sender .side) clock padding (now (address .entry)) (now (payload .entry))) ⌝ }
+    ensures { λ _. ⌜ now (body .exit)
+        ≡ sealBody (now (key .entry)) (sender .id) (sender .packet)
+        (plaintext (sender .side) clock padding (now (address .entry)) (now (payload .entry))) ⌝ }
 {
     let side = sender.side;
     write_plaintext(body, side, clock, address, padding, payload);
@@ -174,7 +179,9 @@ fn write_datagram(
     requires { ⌜ n ≡ sealedLength (sender .side) (length (now address)) padding (length (now payload)) ⌝ }
     requires { ⌜ n ≤ maxDatagram ⌝ }
     requires { ⌜ n ≤ length (now out) ⌝ }
-    ensures { λ _. ⌜ now (out .exit) ≡ put (now (out .entry)) 0 (datagram (now (key .entry)) sender clock (now (address .entry)) padding (now (payload .entry))) ⌝ }
+    ensures { λ _. ⌜ now (out .exit)
+        ≡ put (now (out .entry)) 0
+        (datagram (now (key .entry)) sender clock (now (address .entry)) padding (now (payload .entry))) ⌝ }
 {
     let sbox = aes_tables::sbox();
     let t = aes_tables::mix_table();
@@ -182,7 +189,7 @@ fn write_datagram(
     write_body(
         &t,
         &sbox,
-        &mut out[16..n],
+        &mut out[SEPARATE..n],
         key,
         sender,
         clock,
@@ -204,9 +211,13 @@ pub fn seal(
     payload: &[u8],
     out: &mut [u8],
 ) -> Sealing
-    ensures { λ r. ⌜ r .answer ≡ sealAnswer method (length (now (key .entry))) sender (now (address .entry)) padding (length (now (payload .entry))) (length (now (out .entry))) ⌝ }
+    ensures { λ r. ⌜ r .answer
+        ≡ sealAnswer method (length (now (key .entry))) sender (now (address .entry)) padding (length (now (payload .entry)))
+        (length (now (out .entry))) ⌝ }
     ensures { λ r. ⌜ r .sender ≡ sealNext sender (r .answer) ⌝ }
-    ensures { λ r. ⌜ now (out .exit) ≡ sealOut (r .answer) (datagram (now (key .entry)) sender clock (now (address .entry)) padding (now (payload .entry))) (now (out .entry)) ⌝ }
+    ensures { λ r. ⌜ now (out .exit)
+        ≡ sealOut (r .answer) (datagram (now (key .entry)) sender clock (now (address .entry)) padding (now (payload .entry)))
+        (now (out .entry)) ⌝ }
 {
     let answer = seal_answer(
         method,

@@ -17,6 +17,7 @@ use Rattle.protocol.specs.declared.Refusal.the-variants.{Replay as RefusedRepla
 use Rattle.protocol.specs.Refusal.{refusalNumber}
 use Rattle.datagram_parts.specs.declared.Side.{Side}
 use Rattle.datagram_parts.specs.declared.Side.the-variants.{Client, Server}
+use Rattle.datagram_parts.specs.Headers.{separateLength}
 use Rattle.datagram_read.specs.declared.Header.{Header}
 use Rattle.datagram_read.specs.declared.Opened.{Opened}
 use Rattle.datagram_read.specs.declared.Opened.the-variants.{Datagram, Refused}
@@ -29,7 +30,7 @@ expected (some client) = Server client
 
 -- the plaintext of a datagram
 abbrev pub plainOf : List ℕ → List ℕ → List ℕ
-plainOf key s = bodyText key (sessionOf key s) (packetOf key s) (drop 16 s)
+plainOf key s = bodyText key (sessionOf key s) (packetOf key s) (drop separateLength s)
 
 -- the client session ID that the opener of a side's datagrams brings
 abbrev pub openerOf : Side → Option ℕ
@@ -48,7 +49,7 @@ module _ (method : ℕ) (key : List ℕ) where
 
   -- the session that a datagram of 16 bytes or more names; none where the method or the key gives refusal 1
   unfoldable pub belongs : Call → Option ℕ
-  belongs c = cond (keyFits method (length key) && leb 16 (length (c .datagram))) (some (sessionOf key (c .datagram))) none
+  belongs c = cond (keyFits method (length key) && leb separateLength (length (c .datagram))) (some (sessionOf key (c .datagram))) none
 
 -- ---- a call of the code
 

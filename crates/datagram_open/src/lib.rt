@@ -1,4 +1,5 @@
 // Opening datagrams of SIP022, section 3.2: takes what was read to its session.
+use datagram_parts::OVERHEAD;
 use datagram_parts::Side;
 pub use datagram_read::Header;
 pub use datagram_read::Opened;
@@ -37,7 +38,8 @@ fn enter(
     requires { ⌜ length (now table) ≡ tableWords ⌝ }
     requires { ⌜ due ≤ length (now out) ⌝ }
     ensures { λ r. ⌜ r ≡ entered header (now (table .entry)) clock peer ⌝ }
-    ensures { λ r. ⌜ now (table .exit) ≡ keep (meet (now (table .entry)) clock peer (header .session) (header .packet)) (now (table .entry)) ⌝ }
+    ensures { λ r. ⌜ now (table .exit)
+        ≡ keep (meet (now (table .entry)) clock peer (header .session) (header .packet)) (now (table .entry)) ⌝ }
     ensures { λ r. ⌜ now (out .exit) ≡ settled (entered header (now (table .entry)) clock peer) due (now (out .entry)) ⌝ }
 {
     let met = session::admit(table, clock, header.session, header.packet, peer);
@@ -56,15 +58,21 @@ fn open(
     table: &mut [u64],
     out: &mut [u8],
 ) -> Opened
-    ensures { λ r. ⌜ answerOf r ≡ openAnswer method (now (key .entry)) (openerOf side) clock peer (now (s .entry)) (now (table .entry)) (now (out .entry)) ⌝ }
-    ensures { λ r. ⌜ now (out .exit) ≡ openOut method (now (key .entry)) (openerOf side) clock peer (now (s .entry)) (now (table .entry)) (now (out .entry)) ⌝ }
-    ensures { λ r. ⌜ now (table .exit) ≡ openTable method (now (key .entry)) (openerOf side) clock peer (now (s .entry)) (now (table .entry)) (now (out .entry)) ⌝ }
+    ensures { λ r. ⌜ answerOf r
+        ≡ openAnswer method (now (key .entry)) (openerOf side) clock peer (now (s .entry)) (now (table .entry))
+        (now (out .entry)) ⌝ }
+    ensures { λ r. ⌜ now (out .exit)
+        ≡ openOut method (now (key .entry)) (openerOf side) clock peer (now (s .entry)) (now (table .entry))
+        (now (out .entry)) ⌝ }
+    ensures { λ r. ⌜ now (table .exit)
+        ≡ openTable method (now (key .entry)) (openerOf side) clock peer (now (s .entry)) (now (table .entry))
+        (now (out .entry)) ⌝ }
 {
     if session::is_lawful(table) {
         let read = read_datagram(method, key, side, clock, s, out);
         return match read {
             Opened::Refused(_) => read,
-            Opened::Datagram(header) => enter(header, clock, peer, s.len() - 32, table, out),
+            Opened::Datagram(header) => enter(header, clock, peer, s.len() - OVERHEAD, table, out),
         };
     }
     Opened::Refused(Refusal::Settings)
@@ -82,9 +90,12 @@ pub fn open_server(
     table: &mut [u64],
     out: &mut [u8],
 ) -> Opened
-    ensures { λ r. ⌜ answerOf r ≡ openAnswer method (now (key .entry)) none clock peer (now (s .entry)) (now (table .entry)) (now (out .entry)) ⌝ }
-    ensures { λ r. ⌜ now (out .exit) ≡ openOut method (now (key .entry)) none clock peer (now (s .entry)) (now (table .entry)) (now (out .entry)) ⌝ }
-    ensures { λ r. ⌜ now (table .exit) ≡ openTable method (now (key .entry)) none clock peer (now (s .entry)) (now (table .entry)) (now (out .entry)) ⌝ }
+    ensures { λ r. ⌜ answerOf r
+        ≡ openAnswer method (now (key .entry)) none clock peer (now (s .entry)) (now (table .entry)) (now (out .entry)) ⌝ }
+    ensures { λ r. ⌜ now (out .exit)
+        ≡ openOut method (now (key .entry)) none clock peer (now (s .entry)) (now (table .entry)) (now (out .entry)) ⌝ }
+    ensures { λ r. ⌜ now (table .exit)
+        ≡ openTable method (now (key .entry)) none clock peer (now (s .entry)) (now (table .entry)) (now (out .entry)) ⌝ }
 {
     open(method, key, Side::Client, clock, peer, s, table, out)
 }
@@ -100,9 +111,15 @@ pub fn open_client(
     table: &mut [u64],
     out: &mut [u8],
 ) -> Opened
-    ensures { λ r. ⌜ answerOf r ≡ openAnswer method (now (key .entry)) (some client) clock peer (now (s .entry)) (now (table .entry)) (now (out .entry)) ⌝ }
-    ensures { λ r. ⌜ now (out .exit) ≡ openOut method (now (key .entry)) (some client) clock peer (now (s .entry)) (now (table .entry)) (now (out .entry)) ⌝ }
-    ensures { λ r. ⌜ now (table .exit) ≡ openTable method (now (key .entry)) (some client) clock peer (now (s .entry)) (now (table .entry)) (now (out .entry)) ⌝ }
+    ensures { λ r. ⌜ answerOf r
+        ≡ openAnswer method (now (key .entry)) (some client) clock peer (now (s .entry)) (now (table .entry))
+        (now (out .entry)) ⌝ }
+    ensures { λ r. ⌜ now (out .exit)
+        ≡ openOut method (now (key .entry)) (some client) clock peer (now (s .entry)) (now (table .entry))
+        (now (out .entry)) ⌝ }
+    ensures { λ r. ⌜ now (table .exit)
+        ≡ openTable method (now (key .entry)) (some client) clock peer (now (s .entry)) (now (table .entry))
+        (now (out .entry)) ⌝ }
 {
     open(
         method,

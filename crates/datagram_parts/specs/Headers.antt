@@ -1,12 +1,15 @@
 -- SIP022, section 3.2: the two headers of a datagram in the clear. An ID is the number of its 8 bytes, big-endian.
 use mathlib.Core.List.{List, [], _∷_, _++_}
-use Prim.Native.Nat.{ℕ}
+use Prim.Native.Nat.{ℕ, _+_}
 use lib.ListN.{length, drop, replicate}
 use Rattle.octets.specs.Numbers.{toBe}
 use Rattle.datagram_parts.specs.declared.Side.{Side}
 use Rattle.datagram_parts.specs.declared.Side.the-variants.{Client, Server}
 
 -- the separate header: session ID and packet ID
+abbrev pub separateLength : ℕ
+separateLength = 16
+
 unfoldable pub separateHeader : ℕ → ℕ → List ℕ
 separateHeader id packet = toBe 8 id ++ toBe 8 packet
 
@@ -28,9 +31,16 @@ clientField (Server client) = toBe 8 client
 unfoldable pub fixedPart : Side → ℕ → ℕ → List ℕ
 fixedPart side time padding = typeOf side ∷ (toBe 8 time ++ (clientField side ++ toBe 2 padding))
 
+-- type, time and padding length; a server's has a session ID more
+abbrev pub clientFixed : ℕ
+clientFixed = 11
+
+abbrev pub serverFixed : ℕ
+serverFixed = clientFixed + 8
+
 abbrev pub fixedLength : Side → ℕ
-fixedLength Client = 11
-fixedLength (Server client) = 19
+fixedLength Client = clientFixed
+fixedLength (Server client) = serverFixed
 
 -- the body: the main header with its padding of zeros and its address, and the payload
 unfoldable pub plaintext : Side → ℕ → ℕ → List ℕ → List ℕ → List ℕ

@@ -1,17 +1,22 @@
 -- SIP022, section 3.2: the parts of a datagram under its keys.
 use mathlib.Core.List.{List}
-use Prim.Native.Nat.{ℕ}
+use Prim.Native.Nat.{ℕ, _+_}
 use lib.ListN.{length}
 use Rattle.aes.specs.KeyExpansion.{aes}
 use Rattle.aes.specs.Keyed.{nkOf}
+pub use Rattle.gcm.specs.Gcm.{tagLength}
 use Rattle.gcm.specs.Gcm.{seal}
 use Rattle.gcm.specs.Keyed.{ciphOf}
 use Rattle.protocol.specs.Subkey.{sessionSubkey}
-use Rattle.datagram_parts.specs.Headers.{separateHeader, nonce}
+use Rattle.datagram_parts.specs.Headers.{separateLength, separateHeader, nonce}
 
 -- what UDP can carry over IPv4
 abbrev pub maxDatagram : ℕ
 maxDatagram = 65507
+
+-- how many bytes a datagram has more than its plaintext: the separate header and the tag
+abbrev pub overhead : ℕ
+overhead = separateLength + tagLength
 
 -- the separate header as one block under the shared key
 unfoldable pub separateBlock : List ℕ → ℕ → ℕ → List ℕ

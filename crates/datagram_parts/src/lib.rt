@@ -1,5 +1,7 @@
 // What a datagram of SIP022, section 3.2, is made of: a separate header, one AES block under the shared key, and a body in
 // AES-GCM under the session's subkey, whose plaintext is the main header and the payload.
+use gcm::TAG;
+use protocol::MAX_KEY;
 ghost use mathlib.Core.Path.{_≡_};
 ghost use mathlib.Core.List.{_∷_};
 ghost use Prim.Native.Nat.{_+_, _<_, _≤_};
@@ -10,11 +12,22 @@ ghost use Rattle.aes_tables.specs.SBox.{sBox};
 ghost use Rattle.aes_tables.specs.Tables.{IsTable, mixEntry};
 ghost use Rattle.aes.specs.Keyed.{nkOf};
 ghost use Rattle.gcm.specs.Gcm.{textOf};
-ghost use Rattle.datagram_parts.specs.Headers.{separateHeader, fixedLength, fixedPart, plaintext};
-ghost use Rattle.datagram_parts.specs.Parts.{maxDatagram, separateBlock, sealBody};
+ghost use Rattle.datagram_parts.specs.Headers.{separateLength, separateHeader, serverFixed, fixedLength, fixedPart, plaintext};
+ghost use Rattle.datagram_parts.specs.Parts.{tagLength, maxDatagram, separateBlock, sealBody};
 
 // The longest datagram: what UDP can carry over IPv4.
 pub const MAX_DATAGRAM: usize = 65507;
+
+// The separate header: session ID and packet ID.
+pub const SEPARATE: usize = 16;
+
+// How many bytes a datagram has more than its plaintext: the separate header and the tag.
+pub const OVERHEAD: usize = SEPARATE + TAG;
+
+// The main header before its padding: type, time and padding length; a server's has a session ID more.
+const CLIENT_FIXED: usize = 11;
+
+const SERVER_FIXED: usize = CLIENT_FIXED + 8;
 
 // Whose datagram it is: a client's, or a server's in reply to the client session of an ID.
 pub enum Side {
@@ -23,10 +36,10 @@ pub enum Side {
 }
 
 // The separate header in the clear.
-pub fn separate_header(id: u64, packet: u64) -> [u8; 16]
+pub fn separate_header(id: u64, packet: u64) -> [u8; SEPARATE]
     ensures { λ r. ⌜ r ≡ separateHeader id packet ⌝ }
 {
-    let mut header = [0u8; 16];
+    let mut header = [0u8; SEPARATE];
     octets::write_u64_be(&mut header, 0, id);
     octets::write_u64_be(&mut header, 8, packet);
     header
@@ -37,8 +50,8 @@ pub fn fixed_length(side: Side) -> usize
     ensures { λ r. ⌜ r ≡ fixedLength side ⌝ }
 {
     match side {
-        Side::Client => 11,
-        Side::Server(_) => 19,
+        Side::Client => CLIENT_FIXED,
+        Side::Server(_) => SERVER_FIXED,
     }
 }
 
@@ -53,7 +66,7 @@ fn write_start(out: &mut [u8], kind: u8, clock: u64)
 
 // The main header before its padding.
 fn write_fixed(out: &mut [u8], side: Side, clock: u64, padding: usize)
-    requires { ⌜ 19 ≤ length (now out) ⌝ }
+    requires { ⌜ serverFixed ≤ length (now out) ⌝ }
     requires { ⌜ padding ≤ maxDatagram ⌝ }
     ensures { λ _. ⌜ now (out .exit) ≡ put (now (out .entry)) 0 (fixedPart side clock padding) ⌝ }
 {
@@ -80,8 +93,9 @@ pub fn write_plaintext(
     payload: &[u8],
 )
     requires { ⌜ padding ≤ maxDatagram ⌝ }
-    requires { ⌜ fixedLength side + padding + length (now address) + length (now payload) + 16 ≤ length (now out) ⌝ }
-    ensures { λ _. ⌜ now (out .exit) ≡ put (now (out .entry)) 0 (plaintext side clock padding (now (address .entry)) (now (payload .entry))) ⌝ }
+    requires { ⌜ fixedLength side + padding + length (now address) + length (now payload) + tagLength ≤ length (now out) ⌝ }
+    ensures { λ _. ⌜ now (out .exit)
+        ≡ put (now (out .entry)) 0 (plaintext side clock padding (now (address .entry)) (now (payload .entry))) ⌝ }
 {
     write_fixed(out, side, clock, padding);
     let fixed = fixed_length(side);
@@ -101,7 +115,7 @@ pub fn write_separate(
     packet: u64,
 )
     requires { ⌜ 0 < nkOf (length (now key)) ⌝ }
-    requires { ⌜ 16 ≤ length (now out) ⌝ }
+    requires { ⌜ separateLength ≤ length (now out) ⌝ }
     requires { ⌜ IsTable mixEntry (now t) ⌝ }
     requires { ⌜ IsTable sBox (now sbox) ⌝ }
     ensures { λ _. ⌜ now (out .exit) ≡ put (now (out .entry)) 0 (separateBlock (now (key .entry)) id packet) ⌝ }
@@ -111,7 +125,7 @@ pub fn write_separate(
     octets::copy(out, 0, &header);
 }
 
-// Seals a body in place: its last 16 bytes are room for the tag.
+// Seals a body in place: its last bytes are room for the tag.
 pub fn seal_body(
     t: &[u32; 256],
     sbox: &[u8; 256],
@@ -121,14 +135,14 @@ pub fn seal_body(
     packet: u64,
 )
     requires { ⌜ 0 < nkOf (length (now key)) ⌝ }
-    requires { ⌜ 16 ≤ length (now body) ⌝ }
+    requires { ⌜ tagLength ≤ length (now body) ⌝ }
     requires { ⌜ length (now body) ≤ maxDatagram ⌝ }
     requires { ⌜ IsTable mixEntry (now t) ⌝ }
     requires { ⌜ IsTable sBox (now sbox) ⌝ }
     ensures { λ _. ⌜ now (body .exit) ≡ sealBody (now (key .entry)) id packet (textOf (now (body .entry))) ⌝ }
 {
     let header = separate_header(id, packet);
-    let mut subkey = [0u8; 32];
+    let mut subkey = [0u8; MAX_KEY];
     protocol::derive_session_subkey(key, id, &mut subkey);
     let n = key.len();
     gcm::seal_in_place_with(t, sbox, &subkey[..n], &header[4..16], body);

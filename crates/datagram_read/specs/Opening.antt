@@ -21,16 +21,16 @@ use Rattle.socks5.specs.declared.Parsed.the-variants.{Found, Malformed as NoAdd
 use Rattle.socks5.specs.Address.{parseAt}
 use Rattle.datagram_parts.specs.declared.Side.{Side}
 use Rattle.datagram_parts.specs.declared.Side.the-variants.{Client, Server}
-use Rattle.datagram_parts.specs.Headers.{nonce, typeOf, fixedLength}
-use Rattle.datagram_parts.specs.Parts.{maxDatagram}
+use Rattle.datagram_parts.specs.Headers.{separateLength, nonce, typeOf, fixedLength}
+use Rattle.datagram_parts.specs.Parts.{tagLength, overhead, maxDatagram}
 use Rattle.datagram_read.specs.declared.Opened.{Opened}
 use Rattle.datagram_read.specs.declared.Opened.the-variants.{Datagram, Refused}
 
 -- ---- the separate header
 
--- the first 16 bytes, decrypted under the shared key
+-- decrypted under the shared key
 unfoldable pub separateOf : List ℕ → List ℕ → List ℕ
-separateOf key s = invAes (nkOf (length key)) key (take 16 s)
+separateOf key s = invAes (nkOf (length key)) key (take separateLength s)
 
 unfoldable pub sessionOf : List ℕ → List ℕ → ℕ
 sessionOf key s = be 8 (separateOf key s)
@@ -90,7 +90,7 @@ readMain side clock id packet plain =
 -- ---- the whole, in the order 1, 2, 3, 4 and then the main header's
 
 unfoldable pub lengthLawful : List ℕ → Bool
-lengthLawful s = leb 32 (length s) && leb (length s) maxDatagram
+lengthLawful s = leb overhead (length s) && leb (length s) maxDatagram
 
 unfoldable pub readBody : Side → ℕ → List ℕ → ℕ → ℕ → List ℕ → Opened
 readBody side clock key id packet body =
@@ -100,7 +100,7 @@ unfoldable pub readAnswer : ℕ → List ℕ → Side → ℕ → List ℕ → L
 readAnswer method key side clock s out =
     cond (keyFits method (length key))
     (cond (lengthLawful s)
-    (cond (leb (length s - 32) (length out)) (readBody side clock key (sessionOf key s) (packetOf key s) (drop 16 s)) (Refused Room))
+    (cond (leb (length s - overhead) (length out)) (readBody side clock key (sessionOf key s) (packetOf key s) (drop separateLength s)) (Refused Room))
     (Refused Length)) (Refused Settings)
 
 -- a refusal clears what the plaintext has filled
@@ -112,9 +112,9 @@ settled (Refused r) due out = put out 0 (replicate due 0)
 unfoldable pub bodyOut : Side → ℕ → List ℕ → ℕ → ℕ → List ℕ → List ℕ → List ℕ
 bodyOut side clock key id packet body out =
     cond (bodyAuthentic key id packet body)
-    (settled (readMain side clock id packet (bodyText key id packet body)) (length body - 16) (put out 0 (bodyText key id packet body))) out
+    (settled (readMain side clock id packet (bodyText key id packet body)) (length body - tagLength) (put out 0 (bodyText key id packet body))) out
 
 unfoldable pub readOut : ℕ → List ℕ → Side → ℕ → List ℕ → List ℕ → List ℕ
 readOut method key side clock s out =
-    cond (keyFits method (length key) && (lengthLawful s && leb (length s - 32) (length out)))
-    (bodyOut side clock key (sessionOf key s) (packetOf key s) (drop 16 s) out) out
+    cond (keyFits method (length key) && (lengthLawful s && leb (length s - overhead) (length out)))
+    (bodyOut side clock key (sessionOf key s) (packetOf key s) (drop separateLength s) out) out

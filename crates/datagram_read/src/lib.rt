@@ -1,9 +1,13 @@
 // Opening datagrams of SIP022, section 3.2, as far as their own bytes decide it. What is read here has still to be fresh in a
 // session.
 use datagram_parts::MAX_DATAGRAM;
+use datagram_parts::OVERHEAD;
+use datagram_parts::SEPARATE;
 use datagram_parts::Side;
 use datagram_parts::fixed_length;
 use datagram_parts::separate_header;
+use gcm::TAG;
+use protocol::MAX_KEY;
 use protocol::Refusal;
 use socks5::Parsed;
 use socks5::Target;
@@ -15,8 +19,8 @@ ghost use mathlib.Core.Bool.{cond};
 ghost use Rattle.aes_tables.specs.SBox.{sBox};
 ghost use Rattle.aes_tables.specs.Tables.{IsTable};
 ghost use Rattle.aes.specs.Keyed.{nkOf};
-ghost use Rattle.datagram_parts.specs.Headers.{typeOf};
-ghost use Rattle.datagram_parts.specs.Parts.{maxDatagram};
+ghost use Rattle.datagram_parts.specs.Headers.{separateLength, typeOf};
+ghost use Rattle.datagram_parts.specs.Parts.{tagLength, maxDatagram};
 ghost use Rattle.datagram_read.specs.Opening.{sessionOf, packetOf, bodyAuthentic, bodyText, meant, readAddress, readMain, settled, readBody, bodyOut, readAnswer, readOut};
 
 // What an opened datagram says. A name's place and the payload's are places in the plaintext.
@@ -45,13 +49,13 @@ struct Separate {
 // The separate header of a datagram.
 fn read_separate(sbox: &[u8; 256], key: &[u8], s: &[u8]) -> Separate
     requires { ⌜ 0 < nkOf (length (now key)) ⌝ }
-    requires { ⌜ 16 ≤ length (now s) ⌝ }
+    requires { ⌜ separateLength ≤ length (now s) ⌝ }
     requires { ⌜ IsTable sBox (now sbox) ⌝ }
     ensures { λ r. ⌜ r .session ≡ sessionOf (now (key .entry)) (now (s .entry)) ⌝ }
     ensures { λ r. ⌜ r .packet ≡ packetOf (now (key .entry)) (now (s .entry)) ⌝ }
 {
-    let mut header = [0u8; 16];
-    octets::copy(&mut header, 0, &s[..16]);
+    let mut header = [0u8; SEPARATE];
+    octets::copy(&mut header, 0, &s[..SEPARATE]);
     aes_inverse::decrypt_with(sbox, key, &mut header);
     Separate {
         session: octets::read_u64_be(&header, 0),
@@ -69,15 +73,16 @@ fn open_body(
     out: &mut [u8],
 ) -> bool
     requires { ⌜ 0 < nkOf (length (now key)) ⌝ }
-    requires { ⌜ 16 ≤ length (now body) ⌝ }
+    requires { ⌜ tagLength ≤ length (now body) ⌝ }
     requires { ⌜ length (now body) ≤ maxDatagram ⌝ }
-    requires { ⌜ length (now body) - 16 ≤ length (now out) ⌝ }
+    requires { ⌜ length (now body) - tagLength ≤ length (now out) ⌝ }
     requires { ⌜ IsTable sBox (now sbox) ⌝ }
     ensures { λ r. ⌜ r ≡ bodyAuthentic (now (key .entry)) id packet (now (body .entry)) ⌝ }
-    ensures { λ r. ⌜ now (out .exit) ≡ cond r (put (now (out .entry)) 0 (bodyText (now (key .entry)) id packet (now (body .entry)))) (now (out .entry)) ⌝ }
+    ensures { λ r. ⌜ now (out .exit)
+        ≡ cond r (put (now (out .entry)) 0 (bodyText (now (key .entry)) id packet (now (body .entry)))) (now (out .entry)) ⌝ }
 {
     let header = separate_header(id, packet);
-    let mut subkey = [0u8; 32];
+    let mut subkey = [0u8; MAX_KEY];
     protocol::derive_session_subkey(key, id, &mut subkey);
     let n = key.len();
     let t = aes_tables::mix_table();
@@ -175,15 +180,15 @@ fn read_body(
     out: &mut [u8],
 ) -> Opened
     requires { ⌜ 0 < nkOf (length (now key)) ⌝ }
-    requires { ⌜ 16 ≤ length (now body) ⌝ }
+    requires { ⌜ tagLength ≤ length (now body) ⌝ }
     requires { ⌜ length (now body) ≤ maxDatagram ⌝ }
-    requires { ⌜ length (now body) - 16 ≤ length (now out) ⌝ }
+    requires { ⌜ length (now body) - tagLength ≤ length (now out) ⌝ }
     requires { ⌜ IsTable sBox (now sbox) ⌝ }
     ensures { λ r. ⌜ r ≡ readBody side clock (now (key .entry)) id packet (now (body .entry)) ⌝ }
     ensures { λ r. ⌜ now (out .exit) ≡ bodyOut side clock (now (key .entry)) id packet (now (body .entry)) (now (out .entry)) ⌝ }
 {
     if open_body(sbox, key, id, packet, body, out) {
-        let due = body.len() - 16;
+        let due = body.len() - TAG;
         let answer = read_main(side, clock, id, packet, &out[..due]);
         settle(answer, due, out);
         return answer;
@@ -204,13 +209,13 @@ pub fn read_datagram(
     ensures { λ r. ⌜ now (out .exit) ≡ readOut method (now (key .entry)) side clock (now (s .entry)) (now (out .entry)) ⌝ }
 {
     if protocol::key_fits(method, key.len()) {
-        if s.len() < 32 {
+        if s.len() < OVERHEAD {
             return Opened::Refused(Refusal::Length);
         }
         if MAX_DATAGRAM < s.len() {
             return Opened::Refused(Refusal::Length);
         }
-        if out.len() < s.len() - 32 {
+        if out.len() < s.len() - OVERHEAD {
             return Opened::Refused(Refusal::Room);
         }
         let sbox = aes_tables::sbox();
@@ -222,7 +227,7 @@ pub fn read_datagram(
             key,
             header.session,
             header.packet,
-            &s[16..],
+            &s[SEPARATE..],
             out,
         );
     }

@@ -32,12 +32,16 @@ crypt ciph nonce s = gctr ciph (inc32 (j0 nonce)) s
 unfoldable pub seal : (ℕ → List ℕ) → List ℕ → List ℕ → List ℕ
 seal ciph nonce p = crypt ciph nonce p ++ tag ciph nonce (crypt ciph nonce p)
 
+-- so many bytes at the end of a sealed text are its tag
+abbrev pub tagLength : ℕ
+tagLength = 16
+
 -- the C and the T of C || T
 unfoldable pub textOf : List ℕ → List ℕ
-textOf s = take (length s - 16) s
+textOf s = take (length s - tagLength) s
 
 unfoldable pub tagOf : List ℕ → List ℕ
-tagOf s = drop (length s - 16) s
+tagOf s = drop (length s - tagLength) s
 
 -- 7.2, Algorithm 5: C || T is authentic where T is the tag of C, so where it has 16 bytes at least, and then it opens to P
 pub record Authentic (ciph : ℕ → List ℕ) (nonce s : List ℕ) : Type 0 where

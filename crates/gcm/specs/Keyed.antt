@@ -7,7 +7,7 @@ use lib.ListN.{length}
 use Rattle.octets.specs.Buffers.{put, same}
 use Rattle.aes.specs.Keyed.{nkOf}
 use Rattle.ctr.specs.Gctr.{aesBlock}
-use Rattle.gcm.specs.Gcm.{tag, seal, textOf, tagOf, opened}
+use Rattle.gcm.specs.Gcm.{tagLength, tag, seal, textOf, tagOf, opened}
 use Rattle.gcm.specs.declared.Opened.{Opened}
 use Rattle.gcm.specs.declared.Opened.the-variants.{Text, Forged, Unlawful}
 
@@ -29,14 +29,14 @@ words k n len due room = cond (fits k n len due room) (nkOf k) 0
 
 -- sealing asks for room for the text and its tag, and fills that
 unfoldable pub sealLawful : List ℕ → List ℕ → List ℕ → List ℕ → Bool
-sealLawful key nonce text out = fits (length key) (length nonce) (length text) (length text + 16) (length out)
+sealLawful key nonce text out = fits (length key) (length nonce) (length text) (length text + tagLength) (length out)
 
 unfoldable pub sealed : List ℕ → List ℕ → List ℕ → List ℕ → List ℕ
 sealed key nonce text out = cond (sealLawful key nonce text out) (put out 0 (seal (ciphOf key) nonce text)) out
 
 -- opening asks for a tag at least, and for room for the text
 unfoldable pub openLawful : List ℕ → List ℕ → List ℕ → List ℕ → Bool
-openLawful key nonce s out = leb 16 (length s) && fits (length key) (length nonce) (length s - 16) (length s - 16) (length out)
+openLawful key nonce s out = leb tagLength (length s) && fits (length key) (length nonce) (length s - tagLength) (length s - tagLength) (length out)
 
 -- sealing in place asks for room for a tag behind the text
 unfoldable pub inPlaceLawful : List ℕ → List ℕ → List ℕ → Bool

@@ -15,6 +15,9 @@ ghost use Rattle.ctr.specs.Words.{nonceBytes};
 ghost use Rattle.gcm.specs.Gcm as spec;
 ghost use Rattle.gcm.specs.Keyed.{maxText, words, authentic, sealLawful, sealed as sealedOf, inPlaceLawful, sealedInPlace, openAnswer, openOut};
 
+// So many bytes at the end of a sealed text are its tag.
+pub const TAG: usize = 16;
+
 // What opening answers: the text is in the buffer; the tag is wrong; a length is wrong.
 pub enum Opened {
     Text,
@@ -102,7 +105,9 @@ fn crypt_front(
     requires { ⌜ 0 < rounds ⌝ }
     requires { ⌜ rounds < 15 ⌝ }
     requires { ⌜ len ≤ length (now out) ⌝ }
-    ensures { λ _. ⌜ now (out .exit) ≡ put (now (out .entry)) 0 (spec.crypt (ciphAt rounds (now (w .entry))) (nonceBytes n) (take len (now (out .entry)))) ⌝ }
+    ensures { λ _. ⌜ now (out .exit)
+        ≡ put (now (out .entry)) 0
+        (spec.crypt (ciphAt rounds (now (w .entry))) (nonceBytes n) (take len (now (out .entry)))) ⌝ }
 {
     ctr::gctr(t, sbox, w, rounds, n, 2, &mut out[..len]);
 }
@@ -122,7 +127,8 @@ fn crypt_into(
     requires { ⌜ 0 < rounds ⌝ }
     requires { ⌜ rounds < 15 ⌝ }
     requires { ⌜ length (now text) ≤ length (now out) ⌝ }
-    ensures { λ _. ⌜ now (out .exit) ≡ put (now (out .entry)) 0 (spec.crypt (ciphAt rounds (now (w .entry))) (nonceBytes n) (now (text .entry))) ⌝ }
+    ensures { λ _. ⌜ now (out .exit)
+        ≡ put (now (out .entry)) 0 (spec.crypt (ciphAt rounds (now (w .entry))) (nonceBytes n) (now (text .entry))) ⌝ }
 {
     octets::copy(out, 0, text);
     crypt_front(t, sbox, w, rounds, n, text.len(), out);
@@ -141,11 +147,12 @@ pub fn seal_in_place_at(
     requires { ⌜ IsTable sBox (now sbox) ⌝ }
     requires { ⌜ 0 < rounds ⌝ }
     requires { ⌜ rounds < 15 ⌝ }
-    requires { ⌜ 16 ≤ length (now body) ⌝ }
-    requires { ⌜ length (now body) - 16 ≤ maxText ⌝ }
-    ensures { λ _. ⌜ now (body .exit) ≡ spec.seal (ciphAt rounds (now (w .entry))) (nonceBytes n) (spec.textOf (now (body .entry))) ⌝ }
+    requires { ⌜ spec.tagLength ≤ length (now body) ⌝ }
+    requires { ⌜ length (now body) - spec.tagLength ≤ maxText ⌝ }
+    ensures { λ _. ⌜ now (body .exit)
+        ≡ spec.seal (ciphAt rounds (now (w .entry))) (nonceBytes n) (spec.textOf (now (body .entry))) ⌝ }
 {
-    let len = body.len() - 16;
+    let len = body.len() - TAG;
     crypt_front(t, sbox, w, rounds, n, len, body);
     let tag = tag_of(t, sbox, w, rounds, n, &body[..len]);
     octets::copy(body, len, &tag);
@@ -166,10 +173,11 @@ pub fn seal_at(
     requires { ⌜ 0 < rounds ⌝ }
     requires { ⌜ rounds < 15 ⌝ }
     requires { ⌜ length (now text) ≤ maxText ⌝ }
-    requires { ⌜ length (now text) + 16 ≤ length (now out) ⌝ }
-    ensures { λ _. ⌜ now (out .exit) ≡ put (now (out .entry)) 0 (spec.seal (ciphAt rounds (now (w .entry))) (nonceBytes n) (now (text .entry))) ⌝ }
+    requires { ⌜ length (now text) + spec.tagLength ≤ length (now out) ⌝ }
+    ensures { λ _. ⌜ now (out .exit)
+        ≡ put (now (out .entry)) 0 (spec.seal (ciphAt rounds (now (w .entry))) (nonceBytes n) (now (text .entry))) ⌝ }
 {
-    let due = text.len() + 16;
+    let due = text.len() + TAG;
     octets::copy(out, 0, text);
     seal_in_place_at(t, sbox, w, rounds, n, &mut out[..due]);
 }
@@ -188,13 +196,15 @@ pub fn open_at(
     requires { ⌜ IsTable sBox (now sbox) ⌝ }
     requires { ⌜ 0 < rounds ⌝ }
     requires { ⌜ rounds < 15 ⌝ }
-    requires { ⌜ 16 ≤ length (now s) ⌝ }
-    requires { ⌜ length (now s) - 16 ≤ maxText ⌝ }
-    requires { ⌜ length (now s) - 16 ≤ length (now out) ⌝ }
+    requires { ⌜ spec.tagLength ≤ length (now s) ⌝ }
+    requires { ⌜ length (now s) - spec.tagLength ≤ maxText ⌝ }
+    requires { ⌜ length (now s) - spec.tagLength ≤ length (now out) ⌝ }
     ensures { λ r. ⌜ r ≡ authentic (ciphAt rounds (now (w .entry))) (nonceBytes n) (now (s .entry)) ⌝ }
-    ensures { λ r. ⌜ now (out .exit) ≡ cond r (put (now (out .entry)) 0 (spec.opened (ciphAt rounds (now (w .entry))) (nonceBytes n) (now (s .entry)))) (now (out .entry)) ⌝ }
+    ensures { λ r. ⌜ now (out .exit)
+        ≡ cond r (put (now (out .entry)) 0 (spec.opened (ciphAt rounds (now (w .entry))) (nonceBytes n) (now (s .entry))))
+        (now (out .entry)) ⌝ }
 {
-    let len = s.len() - 16;
+    let len = s.len() - TAG;
     let tag = tag_of(t, sbox, w, rounds, n, &s[..len]);
     let good = octets::equal(&tag, &s[len..]);
     if good {
@@ -231,7 +241,7 @@ pub fn seal(key: &[u8], nonce: &[u8], text: &[u8], out: &mut [u8]) -> bool
         key.len(),
         nonce.len(),
         text.len(),
-        text.len() + 16,
+        text.len() + TAG,
         out.len(),
     );
     if nk == 0 {
@@ -259,10 +269,10 @@ pub fn seal_in_place_with(
     ensures { λ r. ⌜ r ≡ inPlaceLawful (now (key .entry)) (now (nonce .entry)) (now (body .entry)) ⌝ }
     ensures { λ r. ⌜ now (body .exit) ≡ sealedInPlace (now (key .entry)) (now (nonce .entry)) (now (body .entry)) ⌝ }
 {
-    if body.len() < 16 {
+    if body.len() < TAG {
         return false;
     }
-    let len = body.len() - 16;
+    let len = body.len() - TAG;
     let nk = lawful_words(key.len(), nonce.len(), len, len, body.len());
     if nk == 0 {
         return false;
@@ -297,10 +307,10 @@ pub fn open_with(
     ensures { λ r. ⌜ r ≡ openAnswer (now (key .entry)) (now (nonce .entry)) (now (s .entry)) (now (out .entry)) ⌝ }
     ensures { λ r. ⌜ now (out .exit) ≡ openOut (now (key .entry)) (now (nonce .entry)) (now (s .entry)) (now (out .entry)) ⌝ }
 {
-    if s.len() < 16 {
+    if s.len() < TAG {
         return Opened::Unlawful;
     }
-    let due = s.len() - 16;
+    let due = s.len() - TAG;
     let nk = lawful_words(key.len(), nonce.len(), due, due, out.len());
     if nk == 0 {
         return Opened::Unlawful;

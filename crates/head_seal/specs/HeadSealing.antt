@@ -12,9 +12,10 @@ use Rattle.socks5.specs.Address.{isAddress}
 use Rattle.stream.specs.declared.Sender.{Sender}
 use Rattle.stream.specs.declared.Sealed.{Sealed}
 use Rattle.stream.specs.declared.Sealed.the-variants.{Refused}
-use Rattle.stream.specs.Pieces.{sealAt, subkeyWords}
+use Rattle.stream.specs.Pieces.{fixedPiece, sealAt, subkeyWords}
 use Rattle.stream.specs.Sealing.{sizeAnswer}
 
+-- the cap of a request's padding
 abbrev pub maxPadding : ℕ
 maxPadding = 900
 
@@ -59,7 +60,7 @@ begun method key salt = record { method = method; counter = 2; subkey = subkeyWo
 unfoldable pub sizesFit : ℕ → ℕ → ℕ → Bool
 sizesFit method key salt = keyFits method key && eqb salt (saltLength method)
 
--- padding of at most 900, and none only where there is a payload
+-- padding within its cap, and none only where there is a payload
 unfoldable pub paddingLawful : ℕ → ℕ → Bool
 paddingLawful padding payload = leb padding maxPadding && ltb 0 (padding + payload)
 
@@ -68,11 +69,11 @@ unfoldable pub requestAnswer : ℕ → List ℕ → List ℕ → List ℕ → �
 requestAnswer method key salt address padding payload room =
     cond (sizesFit method (length key) (length salt))
     (cond (isAddress address && paddingLawful padding payload)
-    (sizeAnswer (variableLength (length address) padding payload) (length salt + 27) room (begun method key salt)) (Refused Argument))
+    (sizeAnswer (variableLength (length address) padding payload) (length salt + fixedPiece) room (begun method key salt)) (Refused Argument))
     (Refused Settings)
 
 -- 1, 2, 3; the request's salt is as long as the response's
 unfoldable pub responseAnswer : ℕ → List ℕ → List ℕ → List ℕ → ℕ → ℕ → Sealed
 responseAnswer method key salt binding payload room =
     cond (sizesFit method (length key) (length salt) && eqb (length binding) (length salt))
-    (sizeAnswer payload (length salt + 27 + length binding) room (begun method key salt)) (Refused Settings)
+    (sizeAnswer payload (length salt + fixedPiece + length binding) room (begun method key salt)) (Refused Settings)

@@ -1,10 +1,14 @@
 // Sealing the heads of streams of SIP022, section 3.1: the salt, a piece with the fixed header, and a piece behind it, which is a
 // request's variable header or a response's first payload.
 use protocol::Refusal;
+use stream::FIXED;
+use stream::FIXED_PIECE;
 use stream::MAX_CHUNK;
+use stream::MAX_FIXED;
 use stream::Sealed;
 use stream::Sender;
 use stream::Subkey;
+use stream::TAG;
 use stream::derive;
 use stream::seal_piece;
 use stream::seal_text;
@@ -14,10 +18,12 @@ ghost use Prim.Native.Nat.{_+_, _<_, _≤_, min};
 ghost use lib.ListN.{length};
 ghost use Rattle.octets.specs.Buffers.{put};
 ghost use Rattle.aes.specs.Keyed.{nkOf};
-ghost use Rattle.stream.specs.Pieces.{sealAt, keyOf};
+ghost use Rattle.protocol.specs.Method.{maxKey};
+ghost use Rattle.stream.specs.Pieces.{tagLength, fixedLength, fixedPiece, sealAt, keyOf};
 ghost use Rattle.stream.specs.Sealing.{maxChunk, sealOut};
 ghost use Rattle.head_seal.specs.HeadSealing.{fixedPart, front, variablePart, variableLength, requestAt, request, responseOf, response, begun, sizesFit, paddingLawful, requestAnswer, responseAnswer};
 
+// The cap of a request's padding.
 pub const MAX_PADDING: usize = 900;
 
 // ---- what is answered
@@ -66,8 +72,8 @@ fn sizes_fit(method: u64, key: usize, salt: usize) -> bool
 
 // The stream behind a head.
 fn begin(method: u64, key: &[u8], salt: &[u8]) -> Sender
-    requires { ⌜ length (now key) ≤ 32 ⌝ }
-    requires { ⌜ length (now salt) ≤ 32 ⌝ }
+    requires { ⌜ length (now key) ≤ maxKey ⌝ }
+    requires { ⌜ length (now salt) ≤ maxKey ⌝ }
     ensures { λ r. ⌜ r ≡ begun method (now (key .entry)) (now (salt .entry)) ⌝ }
 {
     Sender {
@@ -87,13 +93,14 @@ fn request_answer(
     payload: usize,
     room: usize,
 ) -> Sealed
-    ensures { λ r. ⌜ r ≡ requestAnswer method (now (key .entry)) (now (salt .entry)) (now (address .entry)) padding payload room ⌝ }
+    ensures { λ r. ⌜ r ≡ requestAnswer method (now (key .entry)) (now (salt .entry)) (now (address .entry)) padding payload
+        room ⌝ }
 {
     if sizes_fit(method, key.len(), salt.len()) {
         if socks5::is_address(address) {
             if padding_lawful(padding, payload) {
                 let n = variable_length(address.len(), padding, payload);
-                return size_answer(n, salt.len() + 27, room, begin(method, key, salt));
+                return size_answer(n, salt.len() + FIXED_PIECE, room, begin(method, key, salt));
             }
         }
         return Sealed::Refused(Refusal::Argument);
@@ -114,7 +121,7 @@ fn response_answer(
 {
     if sizes_fit(method, key.len(), salt.len()) {
         if binding.len() == salt.len() {
-            let before = salt.len() + 27 + binding.len();
+            let before = salt.len() + FIXED_PIECE + binding.len();
             return size_answer(payload, before, room, begin(method, key, salt));
         }
     }
@@ -125,7 +132,7 @@ fn response_answer(
 
 // The fixed header.
 fn write_fixed(out: &mut [u8], kind: u8, clock: u64, binding: &[u8], n: u16)
-    requires { ⌜ 11 + length (now binding) ≤ length (now out) ⌝ }
+    requires { ⌜ fixedLength + length (now binding) ≤ length (now out) ⌝ }
     ensures { λ _. ⌜ now (out .exit) ≡ put (now (out .entry)) 0 (fixedPart kind clock (now (binding .entry)) n) ⌝ }
 {
     out[0] = kind;
@@ -137,23 +144,26 @@ fn write_fixed(out: &mut [u8], kind: u8, clock: u64, binding: &[u8], n: u16)
 // The salt and the fixed header, sealed, to the front of a buffer. The key is as long as the salt.
 fn write_front(out: &mut [u8], w: Subkey, salt: &[u8], kind: u8, clock: u64, binding: &[u8], n: u16)
     requires { ⌜ 0 < nkOf (length (now salt)) ⌝ }
-    requires { ⌜ length (now binding) ≤ 32 ⌝ }
-    requires { ⌜ length (now salt) + 27 + length (now binding) ≤ length (now out) ⌝ }
-    ensures { λ _. ⌜ now (out .exit) ≡ put (now (out .entry)) 0 (front (keyOf w (length (now (salt .entry)))) (now (salt .entry)) kind clock (now (binding .entry)) n) ⌝ }
+    requires { ⌜ length (now binding) ≤ maxKey ⌝ }
+    requires { ⌜ length (now salt) + fixedPiece + length (now binding) ≤ length (now out) ⌝ }
+    ensures { λ _. ⌜ now (out .exit)
+        ≡ put (now (out .entry)) 0
+        (front (keyOf w (length (now (salt .entry)))) (now (salt .entry)) kind clock (now (binding .entry)) n) ⌝ }
 {
-    let mut fixed = [0u8; 43];
+    let mut fixed = [0u8; MAX_FIXED];
     write_fixed(&mut fixed, kind, clock, binding, n);
-    let m = 11 + binding.len();
+    let m = FIXED + binding.len();
     let at = salt.len();
     octets::copy(out, 0, salt);
-    seal_text(w, at, 0, &fixed[..m], &mut out[at..at + m + 16]);
+    seal_text(w, at, 0, &fixed[..m], &mut out[at..at + m + TAG]);
 }
 
 // The plaintext of a variable header, to the front of a buffer.
 fn write_variable(out: &mut [u8], address: &[u8], padding: usize, payload: &[u8])
     requires { ⌜ padding ≤ maxChunk ⌝ }
-    requires { ⌜ variableLength (length (now address)) padding (length (now payload)) + 16 ≤ length (now out) ⌝ }
-    ensures { λ _. ⌜ now (out .exit) ≡ put (now (out .entry)) 0 (variablePart (now (address .entry)) padding (now (payload .entry))) ⌝ }
+    requires { ⌜ variableLength (length (now address)) padding (length (now payload)) + tagLength ≤ length (now out) ⌝ }
+    ensures { λ _. ⌜ now (out .exit)
+        ≡ put (now (out .entry)) 0 (variablePart (now (address .entry)) padding (now (payload .entry))) ⌝ }
 {
     let at = address.len();
     octets::copy(out, 0, address);
@@ -173,8 +183,9 @@ fn seal_variable(
 )
     requires { ⌜ 0 < nkOf k ⌝ }
     requires { ⌜ variableLength (length (now address)) padding (length (now payload)) ≤ maxChunk ⌝ }
-    requires { ⌜ length (now body) ≡ variableLength (length (now address)) padding (length (now payload)) + 16 ⌝ }
-    ensures { λ _. ⌜ now (body .exit) ≡ sealAt (keyOf w k) 1 (variablePart (now (address .entry)) padding (now (payload .entry))) ⌝ }
+    requires { ⌜ length (now body) ≡ variableLength (length (now address)) padding (length (now payload)) + tagLength ⌝ }
+    ensures { λ _. ⌜ now (body .exit)
+        ≡ sealAt (keyOf w k) 1 (variablePart (now (address .entry)) padding (now (payload .entry))) ⌝ }
 {
     write_variable(body, address, padding, payload);
     seal_piece(w, k, 1, body);
@@ -193,14 +204,24 @@ fn write_request(
 )
     requires { ⌜ 0 < nkOf (length (now salt)) ⌝ }
     requires { ⌜ variableLength (length (now address)) padding (length (now payload)) ≤ maxChunk ⌝ }
-    requires { ⌜ n ≡ length (now salt) + 27 + variableLength (length (now address)) padding (length (now payload)) + 16 ⌝ }
+    requires { ⌜ n ≡ length (now salt) + fixedPiece + variableLength (length (now address)) padding (length (now payload)) +
+        tagLength ⌝ }
     requires { ⌜ n ≤ length (now out) ⌝ }
-    ensures { λ _. ⌜ now (out .exit) ≡ put (now (out .entry)) 0 (requestAt (keyOf w (length (now (salt .entry)))) (now (salt .entry)) clock (now (address .entry)) padding (now (payload .entry))) ⌝ }
+    ensures { λ _. ⌜ now (out .exit)
+        ≡ put (now (out .entry)) 0 (requestAt (keyOf w (length (now (salt .entry)))) (now (salt .entry)) clock
+        (now (address .entry)) padding (now (payload .entry))) ⌝ }
 {
     let v = address.len() + 2 + padding + payload.len();
     let k = salt.len();
     write_front(out, w, salt, 0, clock, &salt[..0], v as u16);
-    seal_variable(&mut out[k + 27..n], w, k, address, padding, payload);
+    seal_variable(
+        &mut out[k + FIXED_PIECE..n],
+        w,
+        k,
+        address,
+        padding,
+        payload,
+    );
 }
 
 // The head of a response with its first payload, of n bytes, to the front of a buffer.
@@ -216,12 +237,14 @@ fn write_response(
     requires { ⌜ 0 < nkOf (length (now salt)) ⌝ }
     requires { ⌜ length (now binding) ≡ length (now salt) ⌝ }
     requires { ⌜ length (now payload) ≤ maxChunk ⌝ }
-    requires { ⌜ n ≡ length (now salt) + 27 + length (now binding) + length (now payload) + 16 ⌝ }
+    requires { ⌜ n ≡ length (now salt) + fixedPiece + length (now binding) + length (now payload) + tagLength ⌝ }
     requires { ⌜ n ≤ length (now out) ⌝ }
-    ensures { λ _. ⌜ now (out .exit) ≡ put (now (out .entry)) 0 (responseOf (keyOf w (length (now (salt .entry)))) (now (salt .entry)) (now (binding .entry)) clock (now (payload .entry))) ⌝ }
+    ensures { λ _. ⌜ now (out .exit)
+        ≡ put (now (out .entry)) 0 (responseOf (keyOf w (length (now (salt .entry)))) (now (salt .entry)) (now (binding .entry))
+        clock (now (payload .entry))) ⌝ }
 {
     let k = salt.len();
-    let at = k + 27 + binding.len();
+    let at = k + FIXED_PIECE + binding.len();
     write_front(out, w, salt, 1, clock, binding, payload.len() as u16);
     seal_text(w, k, 1, payload, &mut out[at..n]);
 }
@@ -240,8 +263,11 @@ pub fn seal_request(
     payload: &[u8],
     out: &mut [u8],
 ) -> Sealed
-    ensures { λ r. ⌜ r ≡ requestAnswer method (now (key .entry)) (now (salt .entry)) (now (address .entry)) padding (length (now (payload .entry))) (length (now (out .entry))) ⌝ }
-    ensures { λ r. ⌜ now (out .exit) ≡ sealOut r (request (now (key .entry)) (now (salt .entry)) clock (now (address .entry)) padding (now (payload .entry))) (now (out .entry)) ⌝ }
+    ensures { λ r. ⌜ r ≡ requestAnswer method (now (key .entry)) (now (salt .entry)) (now (address .entry)) padding
+        (length (now (payload .entry))) (length (now (out .entry))) ⌝ }
+    ensures { λ r. ⌜ now (out .exit)
+        ≡ sealOut r (request (now (key .entry)) (now (salt .entry)) clock (now (address .entry)) padding (now (payload .entry)))
+        (now (out .entry)) ⌝ }
 {
     let answer = request_answer(
         method,
@@ -273,8 +299,11 @@ pub fn seal_response(
     payload: &[u8],
     out: &mut [u8],
 ) -> Sealed
-    ensures { λ r. ⌜ r ≡ responseAnswer method (now (key .entry)) (now (salt .entry)) (now (binding .entry)) (length (now (payload .entry))) (length (now (out .entry))) ⌝ }
-    ensures { λ r. ⌜ now (out .exit) ≡ sealOut r (response (now (key .entry)) (now (salt .entry)) (now (binding .entry)) clock (now (payload .entry))) (now (out .entry)) ⌝ }
+    ensures { λ r. ⌜ r ≡ responseAnswer method (now (key .entry)) (now (salt .entry)) (now (binding .entry))
+        (length (now (payload .entry))) (length (now (out .entry))) ⌝ }
+    ensures { λ r. ⌜ now (out .exit)
+        ≡ sealOut r (response (now (key .entry)) (now (salt .entry)) (now (binding .entry)) clock (now (payload .entry)))
+        (now (out .entry)) ⌝ }
 {
     let answer = response_answer(method, key, salt, binding, payload.len(), out.len());
     match answer {

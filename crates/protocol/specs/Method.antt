@@ -15,6 +15,10 @@ aes128 = record { number = 1; key = 16; salt = 16; rounds = 10 }
 abbrev pub aes256 : Method
 aes256 = record { number = 2; key = 32; salt = 32; rounds = 14 }
 
+-- the longest key, and so the longest salt and subkey
+abbrev pub maxKey : ℕ
+maxKey = 32
+
 -- the method of a number, compared as the whole number
 unfoldable pub methodOf : ℕ → Numbered
 methodOf n = cond (eqb n 1) (Known aes128) (cond (eqb n 2) (Known aes256) Unknown)

@@ -1,6 +1,6 @@
 // What the layers of SIP022 share: methods, refusals, the time rule.
 ghost use mathlib.Core.Path.{_≡_};
-ghost use Rattle.protocol.specs.Method.{aes128, aes256, methodOf, keyFits, keyLength, saltLength};
+ghost use Rattle.protocol.specs.Method.{maxKey, aes128, aes256, methodOf, keyFits, keyLength, saltLength};
 ghost use Rattle.protocol.specs.Refusal.{refusalNumber, wantedBytes};
 ghost use Rattle.protocol.specs.Subkey.{subkey, sessionSubkey};
 ghost use Rattle.protocol.specs.Time.{timeValid};
@@ -15,6 +15,9 @@ pub struct Method {
     pub salt: usize,
     pub rounds: usize,
 }
+
+// The longest key, and so the longest salt and subkey.
+pub const MAX_KEY: usize = 32;
 
 // The method of a number, if there is one.
 pub enum Numbered {
@@ -167,9 +170,9 @@ pub fn time_valid(time: u64, clock: u64) -> bool
 
 // The subkey of a key and a salt, as long as the key, to the front of a lent buffer with room for the longest.
 pub fn derive_subkey(key: &[u8], salt: &[u8], out: &mut [u8])
-    requires { ⌜ length (now key) ≤ 32 ⌝ }
-    requires { ⌜ length (now salt) ≤ 32 ⌝ }
-    requires { ⌜ 32 ≤ length (now out) ⌝ }
+    requires { ⌜ length (now key) ≤ maxKey ⌝ }
+    requires { ⌜ length (now salt) ≤ maxKey ⌝ }
+    requires { ⌜ maxKey ≤ length (now out) ⌝ }
     ensures { λ _. ⌜ now (out .exit) ≡ put (now (out .entry)) 0 (subkey (now (key .entry)) (now (salt .entry))) ⌝ }
 {
     let n = key.len();
@@ -183,8 +186,8 @@ pub fn derive_subkey(key: &[u8], salt: &[u8], out: &mut [u8])
 
 // The subkey of a key and a session ID.
 pub fn derive_session_subkey(key: &[u8], id: u64, out: &mut [u8])
-    requires { ⌜ length (now key) ≤ 32 ⌝ }
-    requires { ⌜ 32 ≤ length (now out) ⌝ }
+    requires { ⌜ length (now key) ≤ maxKey ⌝ }
+    requires { ⌜ maxKey ≤ length (now out) ⌝ }
     ensures { λ _. ⌜ now (out .exit) ≡ put (now (out .entry)) 0 (sessionSubkey (now (key .entry)) id) ⌝ }
 {
     let mut salt = [0u8; 8];

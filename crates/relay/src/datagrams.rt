@@ -55,7 +55,8 @@ fn begin(begun: Begun, session: &mut [u64]) -> u64
 // Begins a client's sending session, in 4 words.
 #[no_mangle]
 pub extern "C" fn relay_session_begin_client(id: u64, session: &mut [u64]) -> u64
-    ensures { λ r. ⌜ record { number = r; session = now (session .exit) } ≡ begins (Ready (clientSender id)) (now (session .entry)) ⌝ }
+    ensures { λ r. ⌜ record { number = r; session = now (session .exit) }
+        ≡ begins (Ready (clientSender id)) (now (session .entry)) ⌝ }
 {
     begin(Begun::Ready(Sender::client(id)), session)
 }

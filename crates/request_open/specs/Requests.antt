@@ -17,7 +17,7 @@ use Rattle.pool.specs.declared.Met.{Met}
 use Rattle.pool.specs.declared.Met.the-variants.{Room as Free, Replay as Known, Full as NoRoom}
 use Rattle.pool.specs.Pool.{lawful, meet, store}
 use Rattle.stream.specs.declared.Subkey.{Subkey}
-use Rattle.stream.specs.Pieces.{authenticAt, openAt, subkeyWords}
+use Rattle.stream.specs.Pieces.{tagLength, authenticAt, openAt, subkeyWords}
 use Rattle.head_seal.specs.HeadSealing.{maxPadding}
 use Rattle.stream_open.specs.declared.Turn.the-variants.{Length}
 use Rattle.response_open.specs.declared.Fixed.{Fixed}
@@ -29,7 +29,7 @@ use Rattle.request_open.specs.declared.RequestOpened.{RequestOpened}
 use Rattle.request_open.specs.declared.RequestOpened.the-variants.{Accepted, Refused}
 use Rattle.response_open.specs.Heads.{frontLength, fixedOf, receiver, openFixed}
 
--- ---- the variable header: an address, a padding length of at most 900, the padding, and the first payload, which only a
+-- ---- the variable header: an address, a padding length within the cap, the padding, and the first payload, which only a
 -- padded request may lack
 
 -- the padding length behind an address that ends at the place e
@@ -59,13 +59,13 @@ headerWith f used plain NoAddress = Unheaded Malformed
 unfoldable pub readVariable : Fixed → ℕ → List ℕ → RequestRead
 readVariable f used plain = headerWith f used plain (parseAt plain 0)
 
--- ---- the piece with the variable header, behind the front of n + 27 bytes: 10, 3, 4, 5
+-- ---- the piece with the variable header, behind the front: 10, 3, 4, 5
 
 abbrev pub headLength : ℕ → Fixed → ℕ
-headLength n f = frontLength n 0 + f .length + 16
+headLength n f = frontLength n 0 + f .length + tagLength
 
 abbrev pub variableOf : ℕ → Fixed → List ℕ → List ℕ
-variableOf n f s = take (f .length + 16) (drop (frontLength n 0) s)
+variableOf n f s = take (f .length + tagLength) (drop (frontLength n 0) s)
 
 unfoldable pub openVariable : List ℕ → ℕ → Fixed → List ℕ → (room : ℕ) → RequestRead
 openVariable key n f s room =

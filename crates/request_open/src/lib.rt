@@ -7,7 +7,10 @@ use response_open::FixedRead;
 use response_open::open_fixed;
 use socks5::Parsed;
 use socks5::Target;
+use stream::FIXED;
+use stream::FIXED_PIECE;
 use stream::Subkey;
+use stream::TAG;
 use stream::derive;
 use stream::open_piece;
 use stream_open::Receiver;
@@ -109,14 +112,14 @@ fn open_variable(w: Subkey, n: usize, fixed: Fixed, s: &[u8], out: &mut [u8]) ->
     ensures { λ r. ⌜ now (out .exit) ≡ variableOut (keyOf w n) n fixed (now (s .entry)) (now (out .entry)) ⌝ }
 {
     let due = fixed.length as usize;
-    let used = n + 27 + due + 16;
+    let used = n + FIXED_PIECE + due + TAG;
     if s.len() < used {
         return RequestRead::Refused(Refusal::More(used as u64));
     }
     if out.len() < due {
         return RequestRead::Refused(Refusal::Room);
     }
-    if open_piece(w, n, 1, &s[n + 27..used], out) {
+    if open_piece(w, n, 1, &s[n + FIXED_PIECE..used], out) {
         let answer = read_variable(fixed, used, &out[..due]);
         settle(answer, due, out);
         return answer;
@@ -147,9 +150,14 @@ fn enter(
     requires { ⌜ 0 < nkOf n ⌝ }
     requires { ⌜ frontLength n 0 ≤ length (now s) ⌝ }
     requires { ⌜ length (now pool) ≡ poolWords ⌝ }
-    ensures { λ r. ⌜ r ≡ metAs (meet (now (pool .entry)) clock (take n (now (s .entry)))) (openVariable (keyOf w n) n fixed (now (s .entry)) (length (now (out .entry)))) ⌝ }
-    ensures { λ r. ⌜ now (out .exit) ≡ metOut (meet (now (pool .entry)) clock (take n (now (s .entry)))) (variableOut (keyOf w n) n fixed (now (s .entry)) (now (out .entry))) (now (out .entry)) ⌝ }
-    ensures { λ r. ⌜ now (pool .exit) ≡ storedIn (meet (now (pool .entry)) clock (take n (now (s .entry)))) r clock (take n (now (s .entry))) (now (pool .entry)) ⌝ }
+    ensures { λ r. ⌜ r ≡ metAs (meet (now (pool .entry)) clock (take n (now (s .entry))))
+        (openVariable (keyOf w n) n fixed (now (s .entry)) (length (now (out .entry)))) ⌝ }
+    ensures { λ r. ⌜ now (out .exit)
+        ≡ metOut (meet (now (pool .entry)) clock (take n (now (s .entry))))
+        (variableOut (keyOf w n) n fixed (now (s .entry)) (now (out .entry))) (now (out .entry)) ⌝ }
+    ensures { λ r. ⌜ now (pool .exit)
+        ≡ storedIn (meet (now (pool .entry)) clock (take n (now (s .entry)))) r clock (take n (now (s .entry)))
+        (now (pool .entry)) ⌝ }
 {
     match pool::meet(pool, clock, &s[..n]) {
         Met::Room(place) => {
@@ -176,10 +184,11 @@ fn read_head(
     requires { ⌜ length (now pool) ≡ poolWords ⌝ }
     ensures { λ r. ⌜ r ≡ readHead (keyOf w n) clock n (now (s .entry)) (now (pool .entry)) (length (now (out .entry))) ⌝ }
     ensures { λ r. ⌜ now (out .exit) ≡ headOut (keyOf w n) clock n (now (s .entry)) (now (pool .entry)) (now (out .entry)) ⌝ }
-    ensures { λ r. ⌜ now (pool .exit) ≡ headPool (keyOf w n) clock n (now (s .entry)) (now (pool .entry)) (length (now (out .entry))) ⌝ }
+    ensures { λ r. ⌜ now (pool .exit)
+        ≡ headPool (keyOf w n) clock n (now (s .entry)) (now (pool .entry)) (length (now (out .entry))) ⌝ }
 {
-    let mut plain = [0u8; 11];
-    match open_fixed(w, n, 0, clock, &s[n..n + 27], &mut plain) {
+    let mut plain = [0u8; FIXED];
+    match open_fixed(w, n, 0, clock, &s[n..n + FIXED_PIECE], &mut plain) {
         FixedRead::Read(fixed) => enter(w, n, clock, fixed, s, pool, out),
         FixedRead::Refused(r) => RequestRead::Refused(r),
     }
@@ -224,13 +233,15 @@ pub fn open_request(
     out: &mut [u8],
 ) -> RequestOpened
     ensures { λ r. ⌜ r ≡ openedRequest method (now (key .entry)) clock (now (s .entry)) (now (pool .entry)) (now (out .entry)) ⌝ }
-    ensures { λ r. ⌜ now (out .exit) ≡ requestOut method (now (key .entry)) clock (now (s .entry)) (now (pool .entry)) (now (out .entry)) ⌝ }
-    ensures { λ r. ⌜ now (pool .exit) ≡ requestPool method (now (key .entry)) clock (now (s .entry)) (now (pool .entry)) (now (out .entry)) ⌝ }
+    ensures { λ r. ⌜ now (out .exit)
+        ≡ requestOut method (now (key .entry)) clock (now (s .entry)) (now (pool .entry)) (now (out .entry)) ⌝ }
+    ensures { λ r. ⌜ now (pool .exit)
+        ≡ requestPool method (now (key .entry)) clock (now (s .entry)) (now (pool .entry)) (now (out .entry)) ⌝ }
 {
     if settings_fit(method, key.len(), pool) {
         let n = protocol::salt_length(method);
-        if s.len() < n + 27 {
-            return RequestOpened::Refused(Refusal::More((n + 27) as u64));
+        if s.len() < n + FIXED_PIECE {
+            return RequestOpened::Refused(Refusal::More((n + FIXED_PIECE) as u64));
         }
         let w = derive(key, &s[..n]);
         return opened_as(method, w, read_head(w, n, clock, s, pool, out));

@@ -11,7 +11,7 @@ use Rattle.protocol.specs.Method.{keyFits, saltLength}
 use Rattle.protocol.specs.Subkey.{subkey}
 use Rattle.protocol.specs.Time.{timeValid}
 use Rattle.stream.specs.declared.Subkey.{Subkey}
-use Rattle.stream.specs.Pieces.{authenticAt, openAt, subkeyWords}
+use Rattle.stream.specs.Pieces.{fixedPiece, authenticAt, openAt, subkeyWords}
 use Rattle.stream_open.specs.declared.Turn.{Turn}
 use Rattle.stream_open.specs.declared.Turn.the-variants.{Payload}
 use Rattle.stream_open.specs.declared.Receiver.{Receiver}
@@ -23,10 +23,10 @@ use Rattle.response_open.specs.declared.ResponseOpened.the-variants.{Acc
 
 -- the first bytes of a head: its salt of n bytes, and its fixed header, with its tag and with a binding of b bytes
 abbrev pub frontLength : (n b : ℕ) → ℕ
-frontLength n b = n + 27 + b
+frontLength n b = n + fixedPiece + b
 
 abbrev pub fixedOf : (n b : ℕ) → List ℕ → List ℕ
-fixedOf n b s = take (27 + b) (drop n s)
+fixedOf n b s = take (fixedPiece + b) (drop n s)
 
 -- the state of a stream that was begun by a head
 abbrev pub receiver : ℕ → Turn → ℕ → Subkey → Receiver

@@ -1,5 +1,8 @@
 // Opening the fixed header of a head of SIP022, section 3.1, and the head of a response.
 use protocol::Refusal;
+use stream::FIXED;
+use stream::FIXED_PIECE;
+use stream::MAX_FIXED;
 use stream::Subkey;
 use stream::derive;
 use stream::open_piece;
@@ -10,7 +13,8 @@ ghost use Prim.Native.Nat.{_+_, _-_, _<_, _≤_};
 ghost use lib.ListN.{length};
 ghost use mathlib.Core.Bool.{cond};
 ghost use Rattle.aes.specs.Keyed.{nkOf};
-ghost use Rattle.stream.specs.Pieces.{authenticAt, openAt, keyOf};
+ghost use Rattle.stream.specs.Pieces.{tagLength, fixedLength, fixedPiece, authenticAt, openAt, keyOf};
+ghost use Rattle.stream.specs.Sealing.{maxChunk};
 ghost use Rattle.response_open.specs.Heads.{readFixed, openFixed, frontLength, boundOf, responseAt, openedResponse};
 
 // What the head of a response says: its time, the length of its first payload, and how many bytes were used.
@@ -65,10 +69,11 @@ pub fn open_fixed(
 ) -> FixedRead
     requires { ⌜ 0 < nkOf k ⌝ }
     requires { ⌜ 2 ≤ length (now plain) ⌝ }
-    requires { ⌜ length (now plain) ≤ 65535 ⌝ }
-    requires { ⌜ length (now s) ≡ length (now plain) + 16 ⌝ }
+    requires { ⌜ length (now plain) ≤ maxChunk ⌝ }
+    requires { ⌜ length (now s) ≡ length (now plain) + tagLength ⌝ }
     ensures { λ r. ⌜ r ≡ openFixed (keyOf w k) kind clock (now (s .entry)) ⌝ }
-    ensures { λ r. ⌜ now (plain .exit) ≡ cond (authenticAt (keyOf w k) 0 (now (s .entry))) (openAt (keyOf w k) 0 (now (s .entry))) (now (plain .entry)) ⌝ }
+    ensures { λ r. ⌜ now (plain .exit)
+        ≡ cond (authenticAt (keyOf w k) 0 (now (s .entry))) (openAt (keyOf w k) 0 (now (s .entry))) (now (plain .entry)) ⌝ }
 {
     if open_piece(w, k, 0, s, plain) {
         return read_fixed(kind, clock, plain);
@@ -89,8 +94,8 @@ fn open_bound(
 ) -> ResponseOpened
     requires { ⌜ 0 < nkOf n ⌝ }
     requires { ⌜ length (now «request_salt») ≡ n ⌝ }
-    requires { ⌜ length (now plain) ≡ 11 + n ⌝ }
-    requires { ⌜ length (now s) ≡ 27 + n ⌝ }
+    requires { ⌜ length (now plain) ≡ fixedLength + n ⌝ }
+    requires { ⌜ length (now s) ≡ fixedPiece + n ⌝ }
     ensures { λ r. ⌜ r ≡ boundOf method w (keyOf w n) clock n (now («request_salt» .entry)) (now (s .entry)) ⌝ }
 {
     match open_fixed(w, n, 1, clock, s, plain) {
@@ -101,7 +106,7 @@ fn open_bound(
                     Response {
                         time: fixed.time,
                         length: fixed.length,
-                        used: n + 27 + n,
+                        used: n + FIXED_PIECE + n,
                     },
                     Receiver {
                         method: method,
@@ -131,15 +136,15 @@ fn open_response_at(
     requires { ⌜ frontLength n n ≤ length (now s) ⌝ }
     ensures { λ r. ⌜ r ≡ responseAt method w (keyOf w n) clock n (now («request_salt» .entry)) (now (s .entry)) ⌝ }
 {
-    let mut plain = [0u8; 43];
+    let mut plain = [0u8; MAX_FIXED];
     open_bound(
         method,
         w,
         n,
         clock,
         request_salt,
-        &s[n..n + 27 + n],
-        &mut plain[..11 + n],
+        &s[n..n + FIXED_PIECE + n],
+        &mut plain[..FIXED + n],
     )
 }
 
@@ -159,8 +164,8 @@ pub fn open_response(
         if request_salt.len() != n {
             return ResponseOpened::Refused(Refusal::Settings);
         }
-        if s.len() < n + 27 + n {
-            return ResponseOpened::Refused(Refusal::More((n + 27 + n) as u64));
+        if s.len() < n + FIXED_PIECE + n {
+            return ResponseOpened::Refused(Refusal::More((n + FIXED_PIECE + n) as u64));
         }
         let w = derive(key, &s[..n]);
         return open_response_at(method, w, n, clock, request_salt, s);

@@ -9,33 +9,33 @@ use lib.Dec.{leb, eqb}
 use lib.ListN.{length, set, replicate}
 use borrow.Author.Tests.{eq-eqb, ne-eqb, le-leb, lt-leb}
 use Rattle.session_record.specs.declared.Peer.{Peer}
-use Rattle.session.specs.Sizes.{capacity}
+use Rattle.session.specs.Sizes.{capacity, leastRetention, greatestRetention, defaultRetention}
 use Rattle.session_record.specs.Record.{freshIn, acceptIn, newRecord}
-use Rattle.session.specs.Table.{tableWords, recordWords, newTable, madeRetention, makeLawful, made, recordAt, sessionPlace, freePlace, stores, replay, full, meetBy, meet}
+use Rattle.session.specs.Table.{tableWords, recordWords, inRange, newTable, madeRetention, makeLawful, made, recordAt, sessionPlace, freePlace, stores, replay, full, meetBy, meet}
 
 -- ---- a length n and an R
 
 module _ (n R : ℕ) where
-  pub wrong-length : (n ≡ tableWords → ⊥) → (eqb n tableWords && (leb 60 R && leb R 3600)) ≡ false
-  wrong-length e = ap (λ (b : Bool). b && (leb 60 R && leb R 3600)) (ne-eqb n tableWords e)
+  pub wrong-length : (n ≡ tableWords → ⊥) → (eqb n tableWords && inRange R) ≡ false
+  wrong-length e = ap (λ (b : Bool). b && inRange R) (ne-eqb n tableWords e)
 
   module _ (e : n ≡ tableWords) where
-    right : (eqb n tableWords && (leb 60 R && leb R 3600)) ≡ leb 60 R && leb R 3600
-    right = ap (λ (b : Bool). b && (leb 60 R && leb R 3600)) (eq-eqb n tableWords e)
+    right : (eqb n tableWords && inRange R) ≡ inRange R
+    right = ap (λ (b : Bool). b && inRange R) (eq-eqb n tableWords e)
 
-    pub too-short : R < 60 → (eqb n tableWords && (leb 60 R && leb R 3600)) ≡ false
-    too-short l = right ∙ ap (λ (b : Bool). b && leb R 3600) (lt-leb 60 R l)
+    pub too-short : R < leastRetention → (eqb n tableWords && inRange R) ≡ false
+    too-short l = right ∙ ap (λ (b : Bool). b && leb R greatestRetention) (lt-leb leastRetention R l)
 
-    pub long-enough : 60 ≤ R → (eqb n tableWords && (leb 60 R && leb R 3600)) ≡ leb R 3600
-    long-enough l = right ∙ ap (λ (b : Bool). b && leb R 3600) (le-leb 60 R l)
+    pub long-enough : leastRetention ≤ R → (eqb n tableWords && inRange R) ≡ leb R greatestRetention
+    long-enough l = right ∙ ap (λ (b : Bool). b && leb R greatestRetention) (le-leb leastRetention R l)
 
 -- ---- making
 
-pub zero-is-60 : (R : ℕ) → R ≡ 0 → 60 ≡ madeRetention R
-zero-is-60 R e = sym (ap (λ (b : Bool). cond b 60 R) (eq-eqb R 0 e))
+pub zero-is-default : (R : ℕ) → R ≡ 0 → defaultRetention ≡ madeRetention R
+zero-is-default R e = sym (ap (λ (b : Bool). cond b defaultRetention R) (eq-eqb R 0 e))
 
 pub else-itself : (R : ℕ) → (R ≡ 0 → ⊥) → R ≡ madeRetention R
-else-itself R n = sym (ap (λ (b : Bool). cond b 60 R) (ne-eqb R 0 n))
+else-itself R n = sym (ap (λ (b : Bool). cond b defaultRetention R) (ne-eqb R 0 n))
 
 pub not-made : (R : ℕ) (t : List ℕ) → makeLawful R t ≡ false → (false ≡ makeLawful R t) × (t ≡ made R t)
 not-made R t e = (sym e, sym (ap (λ (b : Bool). cond b (newTable (madeRetention R)) t) e))

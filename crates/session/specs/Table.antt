@@ -11,7 +11,7 @@ use Rattle.window.specs.Window.{join4}
 use Rattle.session_record.specs.declared.Peer.{Peer}
 use Rattle.session.specs.declared.Admitted.{Admitted}
 use Rattle.session.specs.declared.Admitted.the-variants.{Accepted, Replay, Full}
-use Rattle.session.specs.Sizes.{capacity}
+use Rattle.session.specs.Sizes.{capacity, leastRetention, greatestRetention, defaultRetention}
 pub use Rattle.session_record.specs.Record.{Record, freshIn, markedWith, acceptIn, newRecord}
 
 -- ---- the layout: R, then a record of `recordWords` words for each session
@@ -29,20 +29,23 @@ start i = 1 + i * recordWords
 abbrev pub retention : List ℕ → ℕ
 retention t = getD t 0 0
 
+abbrev pub inRange : ℕ → Bool
+inRange R = leb leastRetention R && leb R greatestRetention
+
 -- a table of the right length, its R in range
 abbrev pub lawful : List ℕ → Bool
-lawful t = eqb (length t) tableWords && (leb 60 (retention t) && leb (retention t) 3600)
+lawful t = eqb (length t) tableWords && inRange (retention t)
 
--- ---- making: R and zeros; 0 stands for 60
+-- ---- making: R and zeros; 0 stands for `defaultRetention`
 
 abbrev pub newTable : ℕ → List ℕ
 newTable R = R ∷ replicate (capacity * recordWords) 0
 
 abbrev pub madeRetention : ℕ → ℕ
-madeRetention R = cond (eqb R 0) 60 R
+madeRetention R = cond (eqb R 0) defaultRetention R
 
 abbrev pub makeLawful : ℕ → List ℕ → Bool
-makeLawful R t = eqb (length t) tableWords && (leb 60 (madeRetention R) && leb (madeRetention R) 3600)
+makeLawful R t = eqb (length t) tableWords && inRange (madeRetention R)
 
 abbrev pub made : ℕ → List ℕ → List ℕ
 made R t = cond (makeLawful R t) (newTable (madeRetention R)) t

@@ -19,6 +19,13 @@ pub const WORDS: usize = 11;
 
 pub const TABLE: usize = 1 + SESSIONS * WORDS;
 
+// The retention in seconds: the least, the greatest, and the one that 0 stands for when a table is made.
+const LEAST_RETENTION: u64 = 60;
+
+const GREATEST_RETENTION: u64 = 3600;
+
+const DEFAULT_RETENTION: u64 = 60;
+
 // The words of a record behind the first, which tells whether it is in use.
 const ID: usize = 1;
 
@@ -151,10 +158,10 @@ pub fn is_lawful(table: &[u64]) -> bool
         return false;
     }
     let keep = table[0];
-    if keep < 60 {
+    if keep < LEAST_RETENTION {
         return false;
     }
-    keep <= 3600
+    keep <= GREATEST_RETENTION
 }
 
 // ---- one packet
@@ -177,7 +184,9 @@ fn admit_known(table: &mut [u64], r: usize, clock: u64, p: u64, peer: Peer) -> A
 fn admit_new(table: &mut [u64], clock: u64, id: u64, p: u64, peer: Peer) -> Admitted
     requires { ⌜ length (now table) ≡ tableWords ⌝ }
     ensures { λ a. ⌜ a ≡ admitted (meetBy none (freePlace (now (table .entry)) clock) (now (table .entry)) clock peer id p) ⌝ }
-    ensures { λ a. ⌜ now (table .exit) ≡ keep (meetBy none (freePlace (now (table .entry)) clock) (now (table .entry)) clock peer id p) (now (table .entry)) ⌝ }
+    ensures { λ a. ⌜ now (table .exit)
+        ≡ keep (meetBy none (freePlace (now (table .entry)) clock) (now (table .entry)) clock peer id p)
+        (now (table .entry)) ⌝ }
 {
     let r = find_room(table, clock);
     if r < SESSIONS {
@@ -202,18 +211,18 @@ pub fn admit(table: &mut [u64], clock: u64, id: u64, p: u64, peer: Peer) -> Admi
 
 // ---- making
 
-// 0 stands for 60.
+// 0 stands for the default.
 fn made_retention(retention: u64) -> u64
     ensures { λ r. ⌜ r ≡ madeRetention retention ⌝ }
 {
     if retention == 0 {
-        return 60;
+        return DEFAULT_RETENTION;
     }
     retention
 }
 
-// Makes a table of the lent words: the retention, 60 for 0, and zeros. False, and nothing written, where the length is wrong
-// or the retention is neither 0 nor 60 to 3,600.
+// Makes a table of the lent words: the retention, the default for 0, and zeros. False, and nothing written, where the length is
+// wrong or the retention is neither 0 nor in its range.
 pub fn make(retention: u64, table: &mut [u64]) -> bool
     ensures { λ r. ⌜ r ≡ makeLawful retention (now (table .entry)) ⌝ }
     ensures { λ r. ⌜ now (table .exit) ≡ made retention (now (table .entry)) ⌝ }
@@ -222,10 +231,10 @@ pub fn make(retention: u64, table: &mut [u64]) -> bool
     if table.len() != TABLE {
         return false;
     }
-    if keep < 60 {
+    if keep < LEAST_RETENTION {
         return false;
     }
-    if 3600 < keep {
+    if GREATEST_RETENTION < keep {
         return false;
     }
     records::clear(table);

@@ -2,16 +2,30 @@
 -- them from 0.
 use mathlib.Core.Bool.{Bool}
 use mathlib.Core.List.{List, _++_}
-use Prim.Native.Nat.{ℕ}
+use Prim.Native.Nat.{ℕ, _+_}
 use lib.ListN.{take, drop}
 use Rattle.octets.specs.Numbers.{be, toBe, toLe}
 use Rattle.gcm.specs.Gcm as gcm
+pub use Rattle.gcm.specs.Gcm.{tagLength}
 use Rattle.gcm.specs.Keyed.{ciphOf, authentic}
 use Rattle.stream.specs.declared.Subkey.{Subkey}
 
 -- the nonce: the counter in 12 bytes, little-endian
 unfoldable pub nonce : ℕ → List ℕ
 nonce counter = toLe 12 counter
+
+-- ---- how long pieces are
+
+-- the piece of a length, which has two bytes
+abbrev pub lengthPiece : ℕ
+lengthPiece = 2 + tagLength
+
+-- a head's fixed header: type, time and length; a response's has the request's salt more
+abbrev pub fixedLength : ℕ
+fixedLength = 11
+
+abbrev pub fixedPiece : ℕ
+fixedPiece = fixedLength + tagLength
 
 -- ---- one piece, under a key and a counter
 

@@ -11,7 +11,7 @@ use Rattle.protocol.specs.Method.{keyLength}
 use Rattle.stream.specs.declared.Sender.{Sender}
 use Rattle.stream.specs.declared.Sealed.{Sealed}
 use Rattle.stream.specs.declared.Sealed.the-variants.{Bytes, Refused}
-use Rattle.stream.specs.Pieces.{sealAt, keyOf}
+use Rattle.stream.specs.Pieces.{tagLength, lengthPiece, sealAt, keyOf}
 
 -- the longest plaintext of a piece with a length of its own
 abbrev pub maxChunk : ℕ
@@ -39,13 +39,13 @@ senderKey s = keyOf (s .subkey) (keyLength (s .method))
 -- refusals 2 and 3, of a piece of n bytes behind `before` bytes
 unfoldable pub sizeAnswer : (n before room : ℕ) → Sender → Sealed
 sizeAnswer n before room s =
-    cond (leb n maxChunk) (cond (leb (before + n + 16) room) (Bytes (before + n + 16) s) (Refused Room)) (Refused Length)
+    cond (leb n maxChunk) (cond (leb (before + n + tagLength) room) (Bytes (before + n + tagLength) s) (Refused Room)) (Refused Length)
 
 -- 1, 11, 2, 3
 unfoldable pub chunkAnswer : Sender → ℕ → ℕ → Sealed
 chunkAnswer s payload room =
     cond (eqb (keyLength (s .method)) 0) (Refused Settings)
-    (cond (ltb (s .counter) (lastCounter - 1)) (sizeAnswer payload 18 room (moved s)) (Refused Counter))
+    (cond (ltb (s .counter) (lastCounter - 1)) (sizeAnswer payload lengthPiece room (moved s)) (Refused Counter))
 
 -- what is written goes to the front of the buffer; a refusal writes nothing
 abbrev pub sealOut : Sealed → List ℕ → List ℕ → List ℕ

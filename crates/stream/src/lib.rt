@@ -1,6 +1,8 @@
 // Streams of SIP022, section 3.1: a head with the stream's salt, then lengths and payloads by turns. Each piece is sealed in
 // AES-GCM under the stream's subkey and its own counter. Here are the pieces (pieces.rt) and sealing chunks (sealing.rt); the
 // crate head_seal seals heads, and stream_open opens chunks.
+pub use gcm::TAG;
+use protocol::MAX_KEY;
 use protocol::Refusal;
 
 mod pieces;
@@ -15,6 +17,16 @@ pub use sealing::size_answer;
 
 // The longest plaintext of a piece with a length of its own.
 pub const MAX_CHUNK: usize = 65535;
+
+// The piece of a length, which has two bytes.
+pub const LENGTH_PIECE: usize = 2 + TAG;
+
+// A head's fixed header: type, time and length; a response's has the request's salt more.
+pub const FIXED: usize = 11;
+
+pub const FIXED_PIECE: usize = FIXED + TAG;
+
+pub const MAX_FIXED: usize = FIXED + MAX_KEY;
 
 // The counter that is never used.
 pub const LAST_COUNTER: u64 = 0xffff_ffff_ffff_ffff;

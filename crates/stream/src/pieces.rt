@@ -1,5 +1,6 @@
 // One piece of a stream, under its subkey and its counter.
 use super::Subkey;
+use protocol::MAX_KEY;
 ghost use mathlib.Core.Path.{_≡_};
 ghost use Prim.Native.Nat.{_+_, _-_, _<_, _≤_};
 ghost use lib.ListN.{length};
@@ -7,8 +8,10 @@ ghost use Rattle.octets.specs.Buffers.{put};
 ghost use mathlib.Core.Bool.{cond};
 ghost use Rattle.aes.specs.Keyed.{nkOf};
 ghost use Rattle.gcm.specs.Gcm.{textOf};
+ghost use Rattle.protocol.specs.Method.{maxKey};
 ghost use Rattle.protocol.specs.Subkey.{subkey as subkeyOf};
-ghost use Rattle.stream.specs.Pieces.{nonce as nonceOf, sealAt, authenticAt, openAt, subkeyWords, subkeyBytes, keyOf};
+ghost use Rattle.stream.specs.Pieces.{nonce as nonceOf, tagLength, sealAt, authenticAt, openAt, subkeyWords, subkeyBytes, keyOf};
+ghost use Rattle.stream.specs.Sealing.{maxChunk};
 
 // The counter in 12 bytes, little-endian.
 fn nonce(counter: u64) -> [u8; 12]
@@ -30,10 +33,10 @@ fn subkey_words(s: &[u8]) -> Subkey
     }
 }
 
-fn subkey_bytes(w: Subkey) -> [u8; 32]
+fn subkey_bytes(w: Subkey) -> [u8; MAX_KEY]
     ensures { λ r. ⌜ r ≡ subkeyBytes w ⌝ }
 {
-    let mut s = [0u8; 32];
+    let mut s = [0u8; MAX_KEY];
     octets::write_u64_be(&mut s, 0, w.a);
     octets::write_u64_be(&mut s, 8, w.b);
     octets::write_u64_be(&mut s, 16, w.c);
@@ -43,20 +46,20 @@ fn subkey_bytes(w: Subkey) -> [u8; 32]
 
 // The subkey of a key and a salt.
 pub fn derive(key: &[u8], salt: &[u8]) -> Subkey
-    requires { ⌜ length (now key) ≤ 32 ⌝ }
-    requires { ⌜ length (now salt) ≤ 32 ⌝ }
+    requires { ⌜ length (now key) ≤ maxKey ⌝ }
+    requires { ⌜ length (now salt) ≤ maxKey ⌝ }
     ensures { λ r. ⌜ r ≡ subkeyWords (subkeyOf (now (key .entry)) (now (salt .entry))) ⌝ }
 {
-    let mut s = [0u8; 32];
+    let mut s = [0u8; MAX_KEY];
     protocol::derive_subkey(key, salt, &mut s);
     subkey_words(&s)
 }
 
-// Seals a piece in place, under a key of k bytes: its last 16 bytes are room for the tag.
+// Seals a piece in place, under a key of k bytes: its last bytes are room for the tag.
 pub fn seal_piece(w: Subkey, k: usize, counter: u64, body: &mut [u8])
     requires { ⌜ 0 < nkOf k ⌝ }
-    requires { ⌜ 16 ≤ length (now body) ⌝ }
-    requires { ⌜ length (now body) ≤ 65551 ⌝ }
+    requires { ⌜ tagLength ≤ length (now body) ⌝ }
+    requires { ⌜ length (now body) ≤ maxChunk + tagLength ⌝ }
     ensures { λ _. ⌜ now (body .exit) ≡ sealAt (keyOf w k) counter (textOf (now (body .entry))) ⌝ }
 {
     let key = subkey_bytes(w);
@@ -67,8 +70,8 @@ pub fn seal_piece(w: Subkey, k: usize, counter: u64, body: &mut [u8])
 // Seals a text into a buffer that it fills with its tag.
 pub fn seal_text(w: Subkey, k: usize, counter: u64, text: &[u8], body: &mut [u8])
     requires { ⌜ 0 < nkOf k ⌝ }
-    requires { ⌜ length (now body) ≡ length (now text) + 16 ⌝ }
-    requires { ⌜ length (now text) ≤ 65535 ⌝ }
+    requires { ⌜ length (now body) ≡ length (now text) + tagLength ⌝ }
+    requires { ⌜ length (now text) ≤ maxChunk ⌝ }
     ensures { λ _. ⌜ now (body .exit) ≡ sealAt (keyOf w k) counter (now (text .entry)) ⌝ }
 {
     octets::copy(body, 0, text);
@@ -78,11 +81,12 @@ pub fn seal_text(w: Subkey, k: usize, counter: u64, text: &[u8], body: &mut [u8]
 // Opens a piece to the front of a buffer: whether its tag is good; if not, nothing is written.
 pub fn open_piece(w: Subkey, k: usize, counter: u64, s: &[u8], out: &mut [u8]) -> bool
     requires { ⌜ 0 < nkOf k ⌝ }
-    requires { ⌜ 16 ≤ length (now s) ⌝ }
-    requires { ⌜ length (now s) ≤ 65551 ⌝ }
-    requires { ⌜ length (now s) - 16 ≤ length (now out) ⌝ }
+    requires { ⌜ tagLength ≤ length (now s) ⌝ }
+    requires { ⌜ length (now s) ≤ maxChunk + tagLength ⌝ }
+    requires { ⌜ length (now s) - tagLength ≤ length (now out) ⌝ }
     ensures { λ r. ⌜ r ≡ authenticAt (keyOf w k) counter (now (s .entry)) ⌝ }
-    ensures { λ r. ⌜ now (out .exit) ≡ cond r (put (now (out .entry)) 0 (openAt (keyOf w k) counter (now (s .entry)))) (now (out .entry)) ⌝ }
+    ensures { λ r. ⌜ now (out .exit)
+        ≡ cond r (put (now (out .entry)) 0 (openAt (keyOf w k) counter (now (s .entry)))) (now (out .entry)) ⌝ }
 {
     let key = subkey_bytes(w);
     let n = nonce(counter);

@@ -1,30 +1,32 @@
 // Sealing chunks.
 use super::LAST_COUNTER;
+use super::LENGTH_PIECE;
 use super::MAX_CHUNK;
 use super::Sealed;
 use super::Sender;
 use super::Subkey;
 use super::pieces::seal_text;
+use gcm::TAG;
 use protocol::Refusal;
 ghost use mathlib.Core.Path.{_≡_};
 ghost use Prim.Native.Nat.{_+_, _-_, _<_, _≤_};
 ghost use lib.ListN.{length};
 ghost use Rattle.octets.specs.Buffers.{put};
 ghost use Rattle.aes.specs.Keyed.{nkOf};
-ghost use Rattle.stream.specs.Pieces.{keyOf};
+ghost use Rattle.stream.specs.Pieces.{tagLength, lengthPiece, keyOf};
 ghost use Rattle.stream.specs.Sealing.{maxChunk, lastCounter, chunk, moved as movedOf, senderKey, sizeAnswer, chunkAnswer, sealOut};
 
 // ---- what is answered
 
 // Refusals 2 and 3, in this order, of a piece of n bytes behind others.
 pub fn size_answer(n: usize, before: usize, room: usize, stream: Sender) -> Sealed
-    requires { ⌜ before ≤ 65535 ⌝ }
+    requires { ⌜ before ≤ maxChunk ⌝ }
     ensures { λ r. ⌜ r ≡ sizeAnswer n before room stream ⌝ }
 {
     if MAX_CHUNK < n {
         return Sealed::Refused(Refusal::Length);
     }
-    let due = before + n + 16;
+    let due = before + n + TAG;
     if room < due {
         return Sealed::Refused(Refusal::Room);
     }
@@ -52,7 +54,7 @@ fn chunk_answer(stream: Sender, payload: usize, room: usize) -> Sealed
         return Sealed::Refused(Refusal::Settings);
     }
     if stream.counter < LAST_COUNTER - 1 {
-        return size_answer(payload, 18, room, moved(stream));
+        return size_answer(payload, LENGTH_PIECE, room, moved(stream));
     }
     Sealed::Refused(Refusal::Counter)
 }
@@ -64,20 +66,21 @@ fn write_chunk(out: &mut [u8], n: usize, w: Subkey, k: usize, counter: u64, payl
     requires { ⌜ 0 < nkOf k ⌝ }
     requires { ⌜ counter < lastCounter ⌝ }
     requires { ⌜ length (now payload) ≤ maxChunk ⌝ }
-    requires { ⌜ n ≡ 18 + length (now payload) + 16 ⌝ }
+    requires { ⌜ n ≡ lengthPiece + length (now payload) + tagLength ⌝ }
     requires { ⌜ n ≤ length (now out) ⌝ }
     ensures { λ _. ⌜ now (out .exit) ≡ put (now (out .entry)) 0 (chunk (keyOf w k) counter (now (payload .entry))) ⌝ }
 {
     let mut text = [0u8; 2];
     octets::write_u16_be(&mut text, 0, payload.len() as u16);
-    seal_text(w, k, counter, &text, &mut out[..18]);
-    seal_text(w, k, counter + 1, payload, &mut out[18..n]);
+    seal_text(w, k, counter, &text, &mut out[..LENGTH_PIECE]);
+    seal_text(w, k, counter + 1, payload, &mut out[LENGTH_PIECE..n]);
 }
 
 // Seals a length with its payload to the front of the lent buffer. A refusal writes nothing, and the stream stays as it was.
 pub fn seal_chunk(stream: Sender, payload: &[u8], out: &mut [u8]) -> Sealed
     ensures { λ r. ⌜ r ≡ chunkAnswer stream (length (now (payload .entry))) (length (now (out .entry))) ⌝ }
-    ensures { λ r. ⌜ now (out .exit) ≡ sealOut r (chunk (senderKey stream) (stream .counter) (now (payload .entry))) (now (out .entry)) ⌝ }
+    ensures { λ r. ⌜ now (out .exit)
+        ≡ sealOut r (chunk (senderKey stream) (stream .counter) (now (payload .entry))) (now (out .entry)) ⌝ }
 {
     let answer = chunk_answer(stream, payload.len(), out.len());
     match answer {

@@ -10,7 +10,7 @@ use Rattle.protocol.specs.declared.Refusal.{Refusal}
 use Rattle.protocol.specs.declared.Refusal.the-variants.{Settings, Room, NotAuthentic, More, Counter}
 use Rattle.protocol.specs.Method.{keyLength}
 use Rattle.protocol.specs.Refusal.{refusalNumber}
-use Rattle.stream.specs.Pieces.{authenticAt, openAt, keyOf}
+use Rattle.stream.specs.Pieces.{tagLength, lengthPiece, authenticAt, openAt, keyOf}
 use Rattle.stream.specs.Sealing.{lastCounter}
 use Rattle.stream_open.specs.declared.Turn.{Turn}
 use Rattle.stream_open.specs.declared.Turn.the-variants.{Length, Payload, Ended}
@@ -28,18 +28,18 @@ streamKey st = keyOf (st .subkey) (keyLength (st .method))
 unfoldable pub pieceAnswer : Receiver → (n : ℕ) → List ℕ → (asked room : ℕ) → Stepped → Stepped
 pieceAnswer st n s asked room good =
     cond (eqb (st .counter) lastCounter) (Refused Counter)
-    (cond (leb (n + 16) (length s))
+    (cond (leb (n + tagLength) (length s))
     (cond (leb asked room)
-    (cond (authenticAt (streamKey st) (st .counter) (take (n + 16) s)) good (Refused NotAuthentic)) (Refused Room))
-    (Refused (More (n + 16))))
+    (cond (authenticAt (streamKey st) (st .counter) (take (n + tagLength) s)) good (Refused NotAuthentic)) (Refused Room))
+    (Refused (More (n + tagLength))))
 
 -- what was read as a length
 unfoldable pub lengthRead : Receiver → List ℕ → ℕ
-lengthRead st s = be 2 (openAt (streamKey st) (st .counter) (take 18 s))
+lengthRead st s = be 2 (openAt (streamKey st) (st .counter) (take lengthPiece s))
 
 abbrev pub turnAnswer : Turn → Receiver → List ℕ → ℕ → Stepped
-turnAnswer Length st s room = pieceAnswer st 2 s 0 room (Opened (record { used = 18; length = lengthRead st s }))
-turnAnswer (Payload n) st s room = pieceAnswer st n s n room (Opened (record { used = n + 16; length = n }))
+turnAnswer Length st s room = pieceAnswer st 2 s 0 room (Opened (record { used = lengthPiece; length = lengthRead st s }))
+turnAnswer (Payload n) st s room = pieceAnswer st n s n room (Opened (record { used = n + tagLength; length = n }))
 turnAnswer Ended st s room = Refused NotAuthentic
 
 -- 1, 4 of a stream that has ended, and the piece's
@@ -55,7 +55,7 @@ writtenBy (Opened c) Ended plain out = out
 writtenBy (Refused r) turn plain out = out
 
 abbrev pub payloadPiece : Turn → List ℕ → List ℕ
-payloadPiece (Payload n) s = take (n + 16) s
+payloadPiece (Payload n) s = take (n + tagLength) s
 payloadPiece Length s = s
 payloadPiece Ended s = s
 

@@ -1,14 +1,16 @@
 // Opening a stream of SIP022, section 3.1, behind its head: its state, and one piece a step, a length and its payload by turns.
 use protocol::Refusal;
 use stream::LAST_COUNTER;
+use stream::LENGTH_PIECE;
 use stream::Subkey;
+use stream::TAG;
 use stream::open_piece;
 ghost use mathlib.Core.Path.{_≡_};
 ghost use Prim.Native.Nat.{_+_, _<_};
 ghost use lib.ListN.{length, take};
 ghost use Rattle.aes.specs.Keyed.{nkOf};
 ghost use Rattle.protocol.specs.Method.{keyLength};
-ghost use Rattle.stream.specs.Pieces.{openAt};
+ghost use Rattle.stream.specs.Pieces.{tagLength, openAt};
 ghost use Rattle.stream.specs.Sealing.{lastCounter};
 ghost use Rattle.stream_open.specs.declared.Turn.the-variants.{Length, Payload};
 ghost use Rattle.stream_open.specs.Chunks.{streamKey, turnAnswer, writtenBy, stepAnswer, stepOut, turnAfter, advances, refusedNext, stepNext};
@@ -54,14 +56,14 @@ fn open_length(stream: Receiver, k: usize, s: &[u8], room: usize) -> Stepped
     if stream.counter == LAST_COUNTER {
         return Stepped::Refused(Refusal::Counter);
     }
-    if s.len() < 18 {
-        return Stepped::Refused(Refusal::More(18));
+    if s.len() < LENGTH_PIECE {
+        return Stepped::Refused(Refusal::More(LENGTH_PIECE as u64));
     }
     let mut text = [0u8; 2];
     let w = stream.subkey;
-    if open_piece(w, k, stream.counter, &s[..18], &mut text) {
+    if open_piece(w, k, stream.counter, &s[..LENGTH_PIECE], &mut text) {
         return Stepped::Opened(Chunk {
-            used: 18,
+            used: LENGTH_PIECE,
             length: octets::read_u16_be(&text, 0),
         });
     }
@@ -73,22 +75,24 @@ fn open_payload(stream: Receiver, k: usize, n: u16, s: &[u8], out: &mut [u8]) ->
     requires { ⌜ 0 < nkOf k ⌝ }
     requires { ⌜ k ≡ keyLength (stream .method) ⌝ }
     ensures { λ r. ⌜ r ≡ turnAnswer (Payload n) stream (now (s .entry)) (length (now (out .entry))) ⌝ }
-    ensures { λ r. ⌜ now (out .exit) ≡ writtenBy r (Payload n) (openAt (streamKey stream) (stream .counter) (take (n + 16) (now (s .entry)))) (now (out .entry)) ⌝ }
+    ensures { λ r. ⌜ now (out .exit)
+        ≡ writtenBy r (Payload n) (openAt (streamKey stream) (stream .counter) (take (n + tagLength) (now (s .entry))))
+        (now (out .entry)) ⌝ }
 {
     let due = n as usize;
     if stream.counter == LAST_COUNTER {
         return Stepped::Refused(Refusal::Counter);
     }
-    if s.len() < due + 16 {
-        return Stepped::Refused(Refusal::More((due + 16) as u64));
+    if s.len() < due + TAG {
+        return Stepped::Refused(Refusal::More((due + TAG) as u64));
     }
     if out.len() < due {
         return Stepped::Refused(Refusal::Room);
     }
     let w = stream.subkey;
-    if open_piece(w, k, stream.counter, &s[..due + 16], out) {
+    if open_piece(w, k, stream.counter, &s[..due + TAG], out) {
         return Stepped::Opened(Chunk {
-            used: due + 16,
+            used: due + TAG,
             length: n,
         });
     }

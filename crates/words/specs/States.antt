@@ -7,6 +7,7 @@ use lib.ListN.{length, getD}
 use Rattle.datagram_parts.specs.declared.Side.{Side}
 use Rattle.datagram_parts.specs.declared.Side.the-variants.{Client, Server}
 use Rattle.datagram.specs.declared.Sender.{Sender as Session}
+use Rattle.stream.specs.Sealing.{maxChunk}
 use Rattle.stream.specs.declared.Subkey.{Subkey}
 use Rattle.stream.specs.declared.Sender.{Sender}
 use Rattle.stream_open.specs.declared.Turn.{Turn}
@@ -60,7 +61,7 @@ senderWords s =
 
 -- at a turn of opening, or ended; a payload has at most 65,535 bytes
 abbrev pub turnLawful : (turn n : ℕ) → Bool
-turnLawful turn n = cond (eqb turn 2) (leb n 65535) (leb turn 1)
+turnLawful turn n = cond (eqb turn 2) (leb n maxChunk) (leb turn 1)
 
 abbrev pub receiverLawful : List ℕ → Bool
 receiverLawful w = eqb (length w) streamSize && turnLawful (turnOf w) (getD w 3 0)

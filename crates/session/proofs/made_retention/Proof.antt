@@ -1,10 +1,10 @@
--- 60 for 0, and any other number itself.
-use Rattle.session.proofs.TableLaws.{zero-is-60, else-itself}
+-- The default for 0, and any other number itself.
+use Rattle.session.proofs.TableLaws.{zero-is-default, else-itself}
 use Rattle.session.proofs.made_retention.Statement.{statement}
 use Rattle.session.proofs.made_retention.Tie as tie
 
 returns : tie.Need-returns
-returns c = zero-is-60 _ (c .if1 .taken)
+returns c = zero-is-default _ (c .if1 .taken)
 
 returns-2 : tie.Need-returns-2
 returns-2 c = else-itself _ (c .if1 .left)

@@ -4,6 +4,7 @@ use native.Mathlib.Omega.{arith}
 use Prim.Native.Nat.{ℕ, _≤_, _<_}
 use lib.ListN.{length}
 use borrow.Author.Tests.{le-leb, lt-leb}
+use Rattle.session.specs.Sizes.{leastRetention, greatestRetention}
 use Rattle.session.specs.Table.{tableWords, madeRetention}
 use Rattle.session.proofs.TableLaws.{wrong-length, too-short, long-enough, not-made, is-made}
 use borrow.Author.Needs.{needs}
@@ -19,7 +20,7 @@ returns-2 : tie.Need-returns-2
 returns-2 c =
     let d = c .before .before in
     let a = d .before .before .args in
-    let l : madeRetention (a .retention) < 60 = omega (arith, d .made-retention .ensures) in
+    let l : madeRetention (a .retention) < leastRetention = omega (arith, d .made-retention .ensures) in
     not-made (a .retention) (a .table .now) (too-short (length (a .table .now)) (madeRetention (a .retention)) (c .before .if1 .left) l)
 
 returns-3 : tie.Need-returns-3
@@ -27,10 +28,10 @@ returns-3 c =
     let d = c .before .before .before in
     let a = d .before .before .args in
     let k : ℕ = madeRetention (a .retention) in
-    let l : 60 ≤ madeRetention (a .retention) = omega (arith, d .made-retention .ensures) in
-    let m : 3600 < madeRetention (a .retention) = omega (arith, d .made-retention .ensures) in
+    let l : leastRetention ≤ madeRetention (a .retention) = omega (arith, d .made-retention .ensures) in
+    let m : greatestRetention < madeRetention (a .retention) = omega (arith, d .made-retention .ensures) in
     not-made (a .retention) (a .table .now)
-    (long-enough (length (a .table .now)) k (c .before .before .if1 .left) l ∙ lt-leb k 3600 m)
+    (long-enough (length (a .table .now)) k (c .before .before .if1 .left) l ∙ lt-leb k greatestRetention m)
 
 returns-4 : tie.Need-returns-4
 returns-4 c =
@@ -40,10 +41,10 @@ returns-4 c =
     let a = d .before .before .args in
     let k : ℕ = madeRetention (a .retention) in
     let n : length (a .table .now) ≡ tableWords = e .before .before .if1 .left in
-    let l : 60 ≤ madeRetention (a .retention) = omega (arith, d .made-retention .ensures) in
-    let m : madeRetention (a .retention) ≤ 3600 = omega (arith, d .made-retention .ensures) in
+    let l : leastRetention ≤ madeRetention (a .retention) = omega (arith, d .made-retention .ensures) in
+    let m : madeRetention (a .retention) ≤ greatestRetention = omega (arith, d .made-retention .ensures) in
     is-made (a .retention) _ (a .table .now) _
-    (long-enough (length (a .table .now)) k n l ∙ le-leb k 3600 m) (d .made-retention .ensures) n (b .clear .ensures)
+    (long-enough (length (a .table .now)) k n l ∙ le-leb k greatestRetention m) (d .made-retention .ensures) n (b .clear .ensures)
 
 pub make-spec : {M : Type 1} → statement M
 make-spec =
