@@ -2,13 +2,14 @@
 -- Assumes nothing.
 use mathlib.Core.Path.{_≡_, refl, sym, ap, ap₂, _∙_, subst}
 use mathlib.Core.Bool.{Bool, true, false, cond, _&&_}
-use mathlib.Core.List.{List, [], _∷_, _++_, map}
+use mathlib.Core.List.{List, [], _++_, map}
+use mathlib.Core.Logic.{_⊎_, inl, inr}
 use Prim.Native.Nat.{ℕ, zero, suc, _+_, _-_, _*_, _≤_, _<_}
 use native.Mathlib.Omega.{arith}
-use lib.Dec.{T, eqb, ltb, eqb→eq}
-use lib.ListN.{length, getD, take}
+use lib.Dec.{T, eqb, ltb, eqb→eq, lit<}
+use lib.ListN.{length, take}
 use lib.Seq.{getD-take, take-all}
-use borrow.Author.Tests.{eq-eqb, ne-eqb, lt-ltb, le-ltb}
+use borrow.Author.Tests.{eq-eqb, ne-eqb, lt-ltb}
 use Rattle.octets.specs.Buffers.{put, _⊞_}
 use Rattle.octets.proofs.BufferLaws.{put-whole}
 use Rattle.aes.specs.Cipher.{subBytes, shiftRows, mixColumns, word, roundKey, addRoundKey, rounds, cipher}
@@ -77,6 +78,12 @@ key-length n = go (eqb n 16) (eqb n 24) (eqb n 32) (eqb→eq n 16) (eqb→eq n 2
     go false true c e f g h = record { words = f tt; least = omega arith; most = omega arith }
     go false false true e f g h = record { words = g tt; least = omega arith; most = omega arith }
     go false false false e f g h = absurd (h refl)
+
+-- a string of 16 or of 32 bytes is a key of AES
+pub key-of-size : (n : ℕ) → (n ≡ 16) ⊎ (n ≡ 32) → 0 < nkOf n
+unfolding nkOf
+key-of-size n (inl e) = subst (λ (k : ℕ). 0 < nkOf k) (sym e) (lit< tt)
+key-of-size n (inr e) = subst (λ (k : ℕ). 0 < nkOf k) (sym e) (lit< tt)
 
 -- no key of AES is longer than 32 bytes
 pub key-most : (n : ℕ) → 0 < nkOf n → n ≤ 32

@@ -1,6 +1,6 @@
 -- The key words of the subkey's context, computed; what a derivation answers.
 -- Assumes nothing.
-use mathlib.Core.Bool.{Bool, true, false, _&&_}
+use mathlib.Core.Bool.{Bool, true, false, _&&_, and-false}
 use mathlib.Core.Path.{_≡_, refl, sym, ap, _∙_}
 use mathlib.Core.List.{List, [], _∷_}
 use Prim.Native.Nat.{ℕ, _<_, _≤_}
@@ -50,10 +50,6 @@ octets-deriveKey context material = octets-output (rootOf (contextKey context) 6
 
 -- ---- the answers
 
-both-false : (x : Bool) → (x && false) ≡ false
-both-false true = refl
-both-false false = refl
-
 module _ (context material : List ℕ) where
   pub refused-context : 64 < length context → record { ok = false; bytes = replicate 64 0 } ≡ derived context material
   unfolding derived short
@@ -64,7 +60,7 @@ module _ (context material : List ℕ) where
   unfolding derived short
   refused-material p =
       sym (ap (λ (x : Bool). answer (leb (length context) 64 && x) (deriveKey context material)) (lt-leb (length material) 64 p)
-      ∙ ap (λ (x : Bool). answer x (deriveKey context material)) (both-false (leb (length context) 64)))
+      ∙ ap (λ (x : Bool). answer x (deriveKey context material)) (and-false (leb (length context) 64)))
 
   pub derived-short : length context ≤ 64 → length material ≤ 64
       → record { ok = true; bytes = deriveKey context material } ≡ derived context material

@@ -11,7 +11,7 @@ use lib.Pow.{shr-shr, pow-pos}
 use lib.Bits.{block-half, block-odd, shifted-half, shifted-even}
 use lib.Dec.{eqb}
 use Rattle.window.specs.Window.{bit}
-use Rattle.book.proofs.Tests.{eqb-true, eqb-ne}
+use borrow.Author.Tests.{eqb-false, eq-eqb}
 
 pub bit-zero : (m : ℕ) → bit m 0 ≡ eqb (m % 2) 1
 bit-zero m = ap (λ (x : ℕ). eqb (x % 2) 1) (div-one m)
@@ -63,7 +63,7 @@ bit-cut (suc n) (suc d) x h =
 -- ---- one more bit set
 
 even : (m : ℕ) → bit m 0 ≡ false → m % 2 ≡ 0
-even m e = let n : m % 2 ≢ 1 = eqb-ne {m = m % 2} {n = 1} (sym (bit-zero m) ∙ e) in omega arith
+even m e = let n : m % 2 ≢ 1 = eqb-false (m % 2) 1 (sym (bit-zero m) ∙ e) in omega arith
 
 half-set : (m e : ℕ) → (m + 2 ^ suc e) / 2 ≡ m / 2 + 2 ^ e
 half-set m e = ap (λ (w : ℕ). (m + w) / 2) (pow-suc 2 e) ∙ (let f : (m + 2 ^ e * 2) / 2 ≡ m / 2 + 2 ^ e = omega arith in f)
@@ -72,7 +72,7 @@ low-set : (m e : ℕ) → (m + 2 ^ suc e) % 2 ≡ m % 2
 low-set m e = ap (λ (w : ℕ). (m + w) % 2) (pow-suc 2 e) ∙ (let f : (m + 2 ^ e * 2) % 2 ≡ m % 2 = omega arith in f)
 
 pub set-same : (e m : ℕ) → bit m e ≡ false → bit (m + 2 ^ e) e ≡ true
-set-same zero m f = bit-zero (m + 1) ∙ eqb-true {m = (m + 1) % 2} {n = 1} (omega (arith, even m f))
+set-same zero m f = bit-zero (m + 1) ∙ eq-eqb ((m + 1) % 2) 1 (omega (arith, even m f))
 set-same (suc e) m f =
     bit-suc (m + 2 ^ suc e) e ∙ ap (λ (x : ℕ). bit x e) (half-set m e) ∙ set-same e (m / 2) (sym (bit-suc m e) ∙ f)
 

@@ -2,22 +2,23 @@
 use mathlib.Core.Path.{_≡_, refl, sym, ap, ap₂, _∙_, subst, fun-ext}
 use mathlib.Core.Bool.{Bool, true, false, cond, not, _&&_, true≢false}
 use mathlib.Core.List.{List, [], _∷_}
-use mathlib.Core.Option.{Option, none, some}
+use mathlib.Core.Option.{Option, none, some, Option·none-ne-some, Option·map}
 use Prim.Native.Nat.{ℕ, zero, suc, _-_, _≤_, zero-le}
 use native.Mathlib.Omega.{arith}
 use lib.Dec.{leb, ltb, eqb}
 use Rattle.records.proofs.SearchLaws.{lowest-found, lowest-none}
 use Rattle.window.specs.Window.{window, bit}
 use Rattle.session.specs.Sizes.{capacity}
-use Rattle.session.specs.Table.{Record, retention, newTable, recordAt, lowest, live, holds, sessionPlace}
+use Rattle.session.proofs.TableLaws.{new-length}
+use Rattle.session.specs.Table.{Record, newTable, recordAt, lowest, live, holds, sessionPlace}
 use Rattle.book.specs.Call.{Call, Outcome, refused, Decision}
 use Rattle.book.specs.Book.{Page, one, page, member, bookNext, bookOutcomes, bookAfter}
 use Rattle.book.specs.Runs.{tableOutcomeBy, tableNextBy, tableOutcomes, tableAfter}
-use Rattle.book.specs.Demand3.{Each, Pairs, clocks, PortFits, lastOf, lastReading, View, viewOfPage, viewOfRecord, mapOption, bookSession, tableSession, OneRecordEach, FollowsBook}
-use Rattle.book.proofs.Tests.{T→true, leb-le, leb-lt, some≢none}
+use Rattle.book.specs.Demand3.{Each, Pairs, clocks, PortFits, lastOf, lastReading, View, viewOfPage, viewOfRecord, bookSession, tableSession, OneRecordEach, FollowsBook}
+use borrow.Author.Tests.{ltb-true, leb-true, leb-false}
 use Rattle.book.proofs.Search.{tally}
 use Rattle.book.proofs.Window.{Match}
-use Rattle.book.proofs.Words.{new-length, new-unused, lawful-table}
+use Rattle.book.proofs.Words.{new-unused, lawful-table}
 use Rattle.book.proofs.Refine.{alive, holds-live, holds-id}
 use Rattle.book.proofs.Step.{State, step}
 
@@ -37,7 +38,7 @@ new-state R =
       retains = refl;
       related = record {
         forth = λ i l e. absurd (true≢false (sym e ∙ new-dead R 0 i));
-        back = λ id q e. absurd (some≢none (sym e));
+        back = λ id q e. absurd (Option·none-ne-some _ e);
         unique = λ i j id _ _ e _. absurd (true≢false (sym (holds-live R 0 id (recordAt (newTable R) i) e) ∙ new-dead R 0 i));
         counts = λ u _. nothing (λ i. live R u (recordAt (newTable R) i)) 0 capacity (new-dead R u);
         distinct = λ id. zero-le;
@@ -70,13 +71,13 @@ session-same r q m = λ k. record { h = m .h k; marked = marked k; last = m .las
     at : (p : ℕ) (x : Bool) → leb p (q .h) ≡ x → (y : Bool) → ltb (q .h - p) window ≡ y
         → x && (y && bit (r .marks) (q .h - p)) ≡ y && member p (q .accepted)
     at p true e true f =
-        m .marks (q .h - p) (leb-le {m = suc (q .h - p)} {n = window} f) (omega arith)
-        ∙ ap (λ (k : ℕ). member k (q .accepted)) (let s : q .h - (q .h - p) ≡ p = omega (arith, leb-le {m = p} {n = q .h} e) in s)
+        m .marks (q .h - p) (ltb-true (q .h - p) window f) (omega arith)
+        ∙ ap (λ (k : ℕ). member k (q .accepted)) (let s : q .h - (q .h - p) ≡ p = omega (arith, leb-true p (q .h) e) in s)
     at p true e false f = refl
     at p false e true f = sym (pick (member p (q .accepted)) refl)
       where
         pick : (z : Bool) → member p (q .accepted) ≡ z → member p (q .accepted) ≡ false
-        pick true g = absurd (omega (arith, m .below p g, leb-lt {m = p} {n = q .h} e))
+        pick true g = absurd (omega (arith, m .below p g, leb-false p (q .h) e))
         pick false g = g
     at p false e false f = refl
 
@@ -88,19 +89,19 @@ session-same r q m = λ k. record { h = m .h k; marked = marked k; last = m .las
 sessions : (R u : ℕ) (t : List ℕ) (b : List Page) → State R u t b → (id : ℕ) → tableSession t u id ≡ bookSession R b u id
 unfolding sessionPlace
 sessions R u t b s id =
-    subst (λ (r : ℕ). mapOption (λ i. viewOfRecord (recordAt t i)) (lowest (λ i. holds r u id (recordAt t i))) ≡ bookSession R b u id) (sym (s .retains))
+    subst (λ (r : ℕ). Option·map (λ i. viewOfRecord (recordAt t i)) (lowest (λ i. holds r u id (recordAt t i))) ≡ bookSession R b u id) (sym (s .retains))
     (go (lowest (λ i. holds R u id (recordAt t i))) refl)
   where
-    go : (o : Option ℕ) → lowest (λ i. holds R u id (recordAt t i)) ≡ o → mapOption (λ i. viewOfRecord (recordAt t i)) o ≡ bookSession R b u id
+    go : (o : Option ℕ) → lowest (λ i. holds R u id (recordAt t i)) ≡ o → Option·map (λ i. viewOfRecord (recordAt t i)) o ≡ bookSession R b u id
     go (some i) e =
         let k = lowest-found (λ i. holds R u id (recordAt t i)) 0 capacity i e in
         let f = s .related .forth i (omega (arith, k .1)) (holds-live R u id (recordAt t i) (k .2)) in
         ap {B = Option View} some (session-same (recordAt t i) (f .it) (f .matches))
-        ∙ sym (ap (mapOption viewOfPage) (ap (λ (n : ℕ). page R u n b) (sym (holds-id R u id (recordAt t i) (k .2))) ∙ f .isIt))
+        ∙ sym (ap (Option·map viewOfPage) (ap (λ (n : ℕ). page R u n b) (sym (holds-id R u id (recordAt t i) (k .2))) ∙ f .isIt))
     go none e = pick (page R u id b) refl
       where
         pick : (o : Option Page) → page R u id b ≡ o → none ≡ bookSession R b u id
-        pick none f = sym (ap (mapOption viewOfPage) f)
+        pick none f = sym (ap (Option·map viewOfPage) f)
         pick (some q) f =
             let k = s .related .back id q f in
             absurd (true≢false (sym (k .has) ∙ lowest-none (λ i. holds R u id (recordAt t i)) 0 capacity e (k .at) zero-le (omega (arith, k .inside))))
@@ -108,8 +109,8 @@ sessions R u t b s id =
 one-each : (R u : ℕ) (t : List ℕ) (b : List Page) → State R u t b → OneRecordEach t u
 one-each R u t b s i j id l m e f =
     s .related .unique i j id l m
-    (ap (λ (r : ℕ). holds r u id (recordAt t i)) (sym (s .retains)) ∙ T→true (holds (retention t) u id (recordAt t i)) e)
-    (ap (λ (r : ℕ). holds r u id (recordAt t j)) (sym (s .retains)) ∙ T→true (holds (retention t) u id (recordAt t j)) f)
+    (ap (λ (r : ℕ). holds r u id (recordAt t i)) (sym (s .retains)) ∙ e)
+    (ap (λ (r : ℕ). holds r u id (recordAt t j)) (sym (s .retains)) ∙ f)
 
 -- ---- the theorem
 

@@ -1,4 +1,3 @@
-pub mod Tests
 pub mod Pages
 pub mod Swap
 pub mod Shuffle
@@ -12,5 +11,3 @@ pub mod Refine
 pub mod Step
 pub mod First
 pub mod Demand3
-pub mod MarkWords
-pub mod Example

@@ -1,14 +1,14 @@
 -- The book's pages: lookup, count and removal, and books that differ only in the order of their pages. Assumes nothing.
 use mathlib.Core.Path.{_≡_, refl, sym, ap, _∙_, subst}
 use mathlib.Core.Logic.{_≢_}
-use mathlib.Core.Bool.{Bool, true, false, cond, _&&_}
+use mathlib.Core.Bool.{Bool, true, false, cond, _&&_, and-eq-true-iff}
 use mathlib.Core.List.{List, [], _∷_}
-use mathlib.Core.Option.{none, some}
+use mathlib.Core.Option.{none, some, Option·none-ne-some, Option·some-ne-none, Option·some-injective}
 use Prim.Native.Nat.{ℕ, _+_, _≤_, zero-le}
 use native.Mathlib.Omega.{arith}
 use lib.Dec.{eqb}
 use Rattle.book.specs.Book.{Page, one, pageAlive, page, living, without}
-use Rattle.book.proofs.Tests.{eqb-false, eqb-eq, and-true-left, and-true-right, some≢none, some-inj}
+use borrow.Author.Tests.{eqb-true, ne-eqb}
 
 -- ---- removal
 
@@ -18,17 +18,8 @@ page-without R t id id′ (q ∷ b) n = go (eqb (q .id) id′) refl (page-withou
   where
     go : (x : Bool) → eqb (q .id) id′ ≡ x → page R t id (without id′ b) ≡ page R t id b
         → page R t id (cond x (without id′ b) (q ∷ without id′ b)) ≡ page R t id (q ∷ b)
-    go true e ih = rw (eqb-false {m = q .id} {n = id} (λ h. n (sym (eqb-eq e) ∙ h))) ih
+    go true e ih = rw (ne-eqb (q .id) id (λ h. n (sym (eqb-true _ _ e) ∙ h))) ih
     go false e ih = ap (cond (eqb (q .id) id && pageAlive R t q) (some q)) ih
-
-pub page-without-same : (R t id : ℕ) (b : List Page) → page R t id (without id b) ≡ none
-page-without-same R t id [] = refl
-page-without-same R t id (q ∷ b) = go (eqb (q .id) id) refl (page-without-same R t id b)
-  where
-    go : (x : Bool) → eqb (q .id) id ≡ x → page R t id (without id b) ≡ none
-        → page R t id (cond x (without id b) (q ∷ without id b)) ≡ none
-    go true e ih = ih
-    go false e ih = rw e ih
 
 pub without-comm : (i j : ℕ) (b : List Page) → without i (without j b) ≡ without j (without i b)
 without-comm i j [] = refl
@@ -66,11 +57,11 @@ livingOf-none R t id [] e = refl
 livingOf-none R t id (q ∷ b) e = go (livingOf-none R t id b) (eqb (q .id) id && pageAlive R t q) e
   where
     go : (page R t id b ≡ none → livingOf R t id b ≡ 0) → (x : Bool) → cond x (some q) (page R t id b) ≡ none → one x + livingOf R t id b ≡ 0
-    go ih true f = absurd (some≢none f)
+    go ih true f = absurd (Option·some-ne-none _ f)
     go ih false f = omega (arith, ih f)
 
 pub livingOf-some : (R t id : ℕ) (b : List Page) (q : Page) → page R t id b ≡ some q → 1 ≤ livingOf R t id b
-livingOf-some R t id [] p e = absurd (some≢none (sym e))
+livingOf-some R t id [] p e = absurd (Option·none-ne-some _ e)
 livingOf-some R t id (q ∷ b) p e = go (livingOf-some R t id b p) (eqb (q .id) id && pageAlive R t q) e
   where
     go : (page R t id b ≡ some p → 1 ≤ livingOf R t id b) → (x : Bool) → cond x (some q) (page R t id b) ≡ some p → 1 ≤ one x + livingOf R t id b
@@ -78,12 +69,12 @@ livingOf-some R t id (q ∷ b) p e = go (livingOf-some R t id b p) (eqb (q .id) 
     go ih false f = omega (arith, ih f)
 
 pub page-alive : (R t id : ℕ) (b : List Page) (q : Page) → page R t id b ≡ some q → pageAlive R t q ≡ true
-page-alive R t id [] q e = absurd (some≢none (sym e))
+page-alive R t id [] q e = absurd (Option·none-ne-some _ e)
 page-alive R t id (x ∷ b) q e = go (page-alive R t id b q) (eqb (x .id) id && pageAlive R t x) refl e
   where
     go : (page R t id b ≡ some q → pageAlive R t q ≡ true) → (y : Bool) → eqb (x .id) id && pageAlive R t x ≡ y
         → cond y (some x) (page R t id b) ≡ some q → pageAlive R t q ≡ true
-    go ih true f g = ap (λ (w : Page). pageAlive R t w) (sym (some-inj g)) ∙ and-true-right (eqb (x .id) id) _ f
+    go ih true f g = ap (λ (w : Page). pageAlive R t w) (sym (Option·some-injective _ _ g)) ∙ and-eq-true-iff (eqb (x .id) id) _ .0 f .1
     go ih false f g = ih g
 
 one-and : (x y : Bool) → one (x && y) ≤ one x
@@ -119,13 +110,13 @@ pub distinct-put : (q : Page) (b : List Page) → Distinct b → Distinct (q ∷
 distinct-put q b d id = go (eqb (q .id) id) refl
   where
     go : (x : Bool) → eqb (q .id) id ≡ x → one x + held id (without (q .id) b) ≤ 1
-    go true e = omega (arith, subst (λ (k : ℕ). held k (without (q .id) b) ≡ 0) (eqb-eq {m = q .id} {n = id} e) (held-without-same (q .id) b))
+    go true e = omega (arith, subst (λ (k : ℕ). held k (without (q .id) b) ≡ 0) (eqb-true (q .id) id e) (held-without-same (q .id) b))
     go false e = omega (arith, held-without id (q .id) b, d id)
 
 -- ---- a page put into a book
 
 pub page-put : (R t id : ℕ) (q : Page) (b : List Page) → q .id ≢ id → page R t id (q ∷ without (q .id) b) ≡ page R t id b
-page-put R t id q b n = rw (eqb-false {m = q .id} {n = id} n) (page-without R t id (q .id) b n)
+page-put R t id q b n = rw (ne-eqb (q .id) id n) (page-without R t id (q .id) b n)
 
 pub living-put-new : (R t : ℕ) (q : Page) (b : List Page) → pageAlive R t q ≡ true → page R t (q .id) b ≡ none
     → living R t (q ∷ without (q .id) b) ≡ 1 + living R t b
@@ -157,7 +148,7 @@ page-same R t id (swap {q = q} {r = r} {b = b} n) =
     go : (x y : Bool) → eqb (q .id) id && pageAlive R t q ≡ x → eqb (r .id) id && pageAlive R t r ≡ y
         → cond x (some q) (cond y (some r) (page R t id b)) ≡ cond y (some r) (cond x (some q) (page R t id b))
     go true true e f =
-        absurd (n (eqb-eq (and-true-left (eqb (q .id) id) _ e) ∙ sym (eqb-eq (and-true-left (eqb (r .id) id) _ f))))
+        absurd (n (eqb-true _ _ (and-eq-true-iff (eqb (q .id) id) _ .0 e .0) ∙ sym (eqb-true _ _ (and-eq-true-iff (eqb (r .id) id) _ .0 f .0))))
     go true false e f = refl
     go false true e f = refl
     go false false e f = refl
@@ -190,5 +181,5 @@ without-same id (after s s′) = after (without-same id s) (without-same id s′
 pub put-put : (q r : Page) (b : List Page) → q .id ≢ r .id
     → Same (q ∷ without (q .id) (r ∷ without (r .id) b)) (r ∷ without (r .id) (q ∷ without (q .id) b))
 put-put q r b n =
-    rw (eqb-false {m = r .id} {n = q .id} (λ e. n (sym e)), eqb-false {m = q .id} {n = r .id} n)
+    rw (ne-eqb (r .id) (q .id) (λ e. n (sym e)), ne-eqb (q .id) (r .id) n)
     (rw (without-comm (q .id) (r .id) b) (swap n))

@@ -12,7 +12,7 @@ use lib.ListN.{length, getD}
 use Rattle.book.specs.Call.{Call, noCall, Outcome, refused, Decision}
 use Rattle.book.specs.Book.{Page, one, bookNext, bookOutcomes, bookAfter}
 use Rattle.book.specs.Demand3.{Each, Pairs, times, clocks, Forward, callAt, Named, Rearranges, NotFull}
-use Rattle.book.proofs.Tests.{eqb-true, eqb-false, eqb-eq, eqb-ne, leb-le, leb-lt}
+use borrow.Author.Tests.{ltb-true, ltb-false, eqb-true, eqb-false, eq-eqb, ne-eqb}
 use Rattle.book.proofs.Pages.{Same}
 use Rattle.book.proofs.Shuffle.{In, Moved, shuffle}
 
@@ -33,32 +33,32 @@ map-getD {A} (x ∷ l) d = ap {B = List A} (λ r. x ∷ r) (map-up (λ i. getD (
 
 times-out : (i k n : ℕ) → i < k → times i (upTo k n) ≡ 0
 times-out i k zero h = refl
-times-out i k (suc n) h = rw (eqb-false {m = k} {n = i} (omega arith)) (omega (arith, times-out i (suc k) n (omega arith)))
+times-out i k (suc n) h = rw (ne-eqb k i (omega arith)) (omega (arith, times-out i (suc k) n (omega arith)))
 
 times-past : (i k n : ℕ) → k + n ≤ i → times i (upTo k n) ≡ 0
 times-past i k zero h = refl
-times-past i k (suc n) h = rw (eqb-false {m = k} {n = i} (omega arith)) (omega (arith, times-past i (suc k) n (omega arith)))
+times-past i k (suc n) h = rw (ne-eqb k i (omega arith)) (omega (arith, times-past i (suc k) n (omega arith)))
 
 times-within : (i k n : ℕ) → k ≤ i → i < k + n → times i (upTo k n) ≡ 1
 times-within i k zero h l = absurd (omega arith)
 times-within i k (suc n) h l = go (times-within i (suc k) n) (eqb k i) refl
   where
     go : (suc k ≤ i → i < suc k + n → times i (upTo (suc k) n) ≡ 1) → (x : Bool) → eqb k i ≡ x → one x + times i (upTo (suc k) n) ≡ 1
-    go ih true e = omega (arith, times-out i (suc k) n (omega (arith, eqb-eq {m = k} {n = i} e)))
-    go ih false e = omega (arith, ih (omega (arith, eqb-ne {m = k} {n = i} e)) (omega arith))
+    go ih true e = omega (arith, times-out i (suc k) n (omega (arith, eqb-true k i e)))
+    go ih false e = omega (arith, ih (omega (arith, eqb-false k i e)) (omega arith))
 
 pub times-upTo : (i n : ℕ) → one (ltb i n) ≡ times i (upTo 0 n)
 times-upTo i n = go (ltb i n) refl
   where
     go : (x : Bool) → ltb i n ≡ x → one x ≡ times i (upTo 0 n)
-    go true e = sym (times-within i 0 n zero-le (omega (arith, leb-le {m = suc i} {n = n} e)))
-    go false e = sym (times-past i 0 n (omega (arith, leb-lt {m = suc i} {n = n} e)))
+    go true e = sym (times-within i 0 n zero-le (omega (arith, ltb-true i n e)))
+    go false e = sym (times-past i 0 n (omega (arith, ltb-false i n e)))
 
 -- ---- lists
 
 pub each-from : (P : ℕ → Type 0) (l : List ℕ) → ((y : ℕ) → In y l → P y) → Each P l
 each-from P [] f = tt
-each-from P (x ∷ l) f = (f x (rw (eqb-true {m = x} {n = x} refl) (omega arith)), each-from P l (λ y h. f y (omega arith)))
+each-from P (x ∷ l) f = (f x (rw (eq-eqb x x refl) (omega arith)), each-from P l (λ y h. f y (omega arith)))
 
 pub each-map : {A B : Type 0} (P : B → Type 0) (f : A → B) (l : List A) → Each (λ x. P (f x)) l → Each P (map f l)
 each-map P f [] e = tt
@@ -101,7 +101,7 @@ pub in-order : (belongs : Call → Option ℕ) (cs : List Call) (order : List �
 in-order belongs cs order re i h = go (ltb i (length cs)) refl
   where
     go : (x : Bool) → ltb i (length cs) ≡ x → i < length cs
-    go true e = leb-le {m = suc i} {n = length cs} e
+    go true e = ltb-true i (length cs) e
     go false e = absurd (omega (arith, re .once i ∙ ap one e))
 
 module _ {H : Type 0} (decide : Call → Decision H) (belongs : Call → Option ℕ) (named : Named decide belongs) (R : ℕ) where

@@ -2,16 +2,16 @@
 -- holds after an acceptance. `ρ i` is record i. Assumes nothing.
 use mathlib.Core.Path.{_≡_, refl, sym, ap, ap₂, _∙_, subst}
 use mathlib.Core.Logic.{_≢_}
-use mathlib.Core.Bool.{Bool, true, false, cond, not, _&&_, true≢false}
+use mathlib.Core.Bool.{Bool, true, false, cond, not, _&&_, true≢false, and-eq-true-iff}
 use mathlib.Core.List.{List, [], _∷_}
-use mathlib.Core.Option.{Option, none, some}
+use mathlib.Core.Option.{Option, none, some, Option·none-ne-some, Option·some-ne-none, Option·some-injective}
 use Prim.Native.Nat.{ℕ, _+_, _≤_, _<_, zero-le}
 use native.Mathlib.Omega.{arith}
 use lib.Dec.{eqb, leb}
 use Rattle.session.specs.Sizes.{capacity}
 use Rattle.session.specs.Table.{Record, live, holds}
 use Rattle.book.specs.Book.{Page, one, until, pageAlive, page, living, without}
-use Rattle.book.proofs.Tests.{eqb-true, eqb-eq, eqb-ne, leb-true, leb-le, leb-lt, leb-false, and-true-left, and-true-right, some≢none, some-inj}
+use borrow.Author.Tests.{leb-true, leb-false, eqb-true, eqb-false, eq-eqb, le-leb, lt-leb}
 use Rattle.book.proofs.Pages.{page-alive, livingOf, held, livingOf-held, living-split, Distinct, distinct-put, page-put}
 use Rattle.book.proofs.Search.{tally, tally-but}
 use Rattle.book.proofs.Window.{Match}
@@ -23,10 +23,10 @@ abbrev pub alive : (R clock last : ℕ) → Bool
 alive R clock last = leb clock (last + R)
 
 pub alive-before : (R t u last : ℕ) → t ≤ u → alive R u last ≡ true → alive R t last ≡ true
-alive-before R t u last h e = leb-true {m = t} {n = last + R} (omega (arith, leb-le {m = u} {n = last + R} e))
+alive-before R t u last h e = le-leb t (last + R) (omega (arith, leb-true u (last + R) e))
 
 pub dead-after : (R t u : ℕ) (q : Page) → t ≤ u → pageAlive R t q ≡ false → pageAlive R u q ≡ false
-dead-after R t u q h e = leb-false {m = u} {n = until R q} (omega (arith, leb-lt {m = t} {n = until R q} e))
+dead-after R t u q h e = lt-leb u (until R q) (omega (arith, leb-false t (until R q) e))
 
 -- a record is alive as long as its page
 pub alive-same : (R u : ℕ) (r : Record) (q : Page) → Match r q → alive R u (r .last) ≡ pageAlive R u q
@@ -40,7 +40,7 @@ page-later R t u id (x ∷ b) q h e a = go (page-later R t u id b q h) (eqb (x .
     go : (page R t id b ≡ some q → pageAlive R u q ≡ true → page R u id b ≡ some q) → (y z : Bool) → pageAlive R t x ≡ z
         → cond (y && z) (some x) (page R t id b) ≡ some q → cond (y && pageAlive R u x) (some x) (page R u id b) ≡ some q
     go ih true true f g =
-        let s : x ≡ q = some-inj g in rw (ap (pageAlive R u) s ∙ a) g
+        let s : x ≡ q = Option·some-injective _ _ g in rw (ap (pageAlive R u) s ∙ a) g
     go ih true false f g = rw (dead-after R t u x h f) (ih g a)
     go ih false z f g = ih g a
 
@@ -51,19 +51,19 @@ livingOf-none-later R t u id (x ∷ b) h e = go (livingOf-none-later R t u id b 
   where
     go : (page R t id b ≡ none → livingOf R u id b ≡ 0) → (y z : Bool) → pageAlive R t x ≡ z
         → cond (y && z) (some x) (page R t id b) ≡ none → one (y && pageAlive R u x) + livingOf R u id b ≡ 0
-    go ih true true f g = absurd (some≢none g)
+    go ih true true f g = absurd (Option·some-ne-none _ g)
     go ih true false f g = rw (dead-after R t u x h f) (omega (arith, ih g))
     go ih false z f g = omega (arith, ih g)
 
 -- with one page for the ID, it is the one that counts
 pub livingOf-some-later : (R t u id : ℕ) (b : List Page) (q : Page) → t ≤ u → held id b ≤ 1 → page R t id b ≡ some q → livingOf R u id b ≡ one (pageAlive R u q)
-livingOf-some-later R t u id [] q h d e = absurd (some≢none (sym e))
+livingOf-some-later R t u id [] q h d e = absurd (Option·none-ne-some _ e)
 livingOf-some-later R t u id (x ∷ b) q h d e = go (livingOf-some-later R t u id b q h) (eqb (x .id) id) (pageAlive R t x) refl d e
   where
     go : (held id b ≤ 1 → page R t id b ≡ some q → livingOf R u id b ≡ one (pageAlive R u q)) → (y z : Bool) → pageAlive R t x ≡ z → one y + held id b ≤ 1
         → cond (y && z) (some x) (page R t id b) ≡ some q → one (y && pageAlive R u x) + livingOf R u id b ≡ one (pageAlive R u q)
     go ih true true f k g =
-        let s : one (pageAlive R u x) ≡ one (pageAlive R u q) = ap (λ (w : Page). one (pageAlive R u w)) (some-inj g) in
+        let s : one (pageAlive R u x) ≡ one (pageAlive R u q) = ap (λ (w : Page). one (pageAlive R u w)) (Option·some-injective _ _ g) in
         omega (arith, livingOf-held R u id b)
     go ih true false f k g = rw (dead-after R t u x h f) (omega (arith, ih (omega arith) g))
     go ih false z f k g = omega (arith, ih (omega arith) g)
@@ -115,7 +115,7 @@ inUse r = not (eqb (r .used) 0)
 
 live-before : (R t u : ℕ) (r : Record) → t ≤ u → live R u r ≡ true → live R t r ≡ true
 live-before R t u r h e =
-    ap₂ (λ (x y : Bool). x && y) (and-true-left (inUse r) _ e) (alive-before R t u (r .last) h (and-true-right (inUse r) _ e))
+    ap₂ (λ (x y : Bool). x && y) (and-eq-true-iff (inUse r) _ .0 e .0) (alive-before R t u (r .last) h (and-eq-true-iff (inUse r) _ .0 e .1))
 
 pub live-after : (R t u : ℕ) (r : Record) → t ≤ u → live R t r ≡ false → live R u r ≡ false
 live-after R t u r h e = go (live R u r) refl
@@ -125,13 +125,13 @@ live-after R t u r h e = go (live R u r) refl
     go false f = f
 
 pub holds-live : (R t id : ℕ) (r : Record) → holds R t id r ≡ true → live R t r ≡ true
-holds-live R t id r e = and-true-left (live R t r) _ e
+holds-live R t id r e = and-eq-true-iff (live R t r) _ .0 e .0
 
 pub holds-id : (R t id : ℕ) (r : Record) → holds R t id r ≡ true → r .id ≡ id
-holds-id R t id r e = eqb-eq {m = r .id} {n = id} (and-true-right (live R t r) _ e)
+holds-id R t id r e = eqb-true (r .id) id (and-eq-true-iff (live R t r) _ .0 e .1)
 
 pub holds-of : (R t id : ℕ) (r : Record) → live R t r ≡ true → r .id ≡ id → holds R t id r ≡ true
-holds-of R t id r e f = ap₂ (λ (x y : Bool). x && y) e (eqb-true {m = r .id} {n = id} f)
+holds-of R t id r e f = ap₂ (λ (x y : Bool). x && y) e (eq-eqb (r .id) id f)
 
 -- it still holds at any later reading
 pub later : (R t u : ℕ) (ρ : ℕ → Record) (b : List Page) → t ≤ u → Rel R t ρ b → Rel R u ρ b
@@ -142,7 +142,7 @@ later R t u ρ b h rel =
           record {
             it = f .it;
             isIt = page-later R t u (ρ i .id) b (f .it) h (f .isIt)
-                (sym (alive-same R u (ρ i) (f .it) (f .matches)) ∙ and-true-right (inUse (ρ i)) _ e);
+                (sym (alive-same R u (ρ i) (f .it) (f .matches)) ∙ and-eq-true-iff (inUse (ρ i)) _ .0 e .1);
             matches = f .matches;
             past = omega (arith, f .past);
           };
@@ -160,12 +160,12 @@ later R t u ρ b h rel =
         let e′ = page-earlier R t u id b q h (rel .distinct id) e in
         let k = rel .back id q e′ in
         let f = rel .forth (k .at) (k .inside) (holds-live R t id (ρ (k .at)) (k .has)) in
-        let same : f .it ≡ q = some-inj (sym (f .isIt) ∙ ap (λ (n : ℕ). page R t n b) (holds-id R t id (ρ (k .at)) (k .has)) ∙ e′) in
+        let same : f .it ≡ q = Option·some-injective _ _ (sym (f .isIt) ∙ ap (λ (n : ℕ). page R t n b) (holds-id R t id (ρ (k .at)) (k .has)) ∙ e′) in
         record {
           at = k .at;
           inside = k .inside;
           has = holds-of R u id (ρ (k .at))
-              (ap₂ (λ (x y : Bool). x && y) (and-true-left (inUse (ρ (k .at))) _ (holds-live R t id (ρ (k .at)) (k .has)))
+              (ap₂ (λ (x y : Bool). x && y) (and-eq-true-iff (inUse (ρ (k .at))) _ .0 (holds-live R t id (ρ (k .at)) (k .has)) .0)
               (alive-same R u (ρ (k .at)) (f .it) (f .matches) ∙ ap (pageAlive R u) same ∙ page-alive R u id b q e))
               (holds-id R t id (ρ (k .at)) (k .has));
         }
@@ -190,7 +190,7 @@ module _ (R t : ℕ) (ρ ρ′ : ℕ → Record) (b : List Page) (rel : Rel R t 
       record {
         it = q;
         isIt = ap (λ (x : Bool). cond x (some q) (page R t (r .id) (without (q .id) b)))
-            (ap₂ (λ (x y : Bool). x && y) (eqb-true {m = q .id} {n = r .id} (sym (m .id))) alive-now);
+            (ap₂ (λ (x y : Bool). x && y) (eq-eqb (q .id) (r .id) (sym (m .id))) alive-now);
         matches = m;
         past = past;
       }
@@ -199,11 +199,11 @@ module _ (R t : ℕ) (ρ ρ′ : ℕ → Record) (b : List Page) (rel : Rel R t 
   forth′ j l e = go (eqb j i) refl
     where
       go : (x : Bool) → eqb j i ≡ x → Found R t (ρ′ j) (q ∷ without (q .id) b)
-      go true f = subst (λ (s : Record). Found R t s (q ∷ without (q .id) b)) (sym (ap ρ′ (eqb-eq {m = j} {n = i} f) ∙ isR)) found-r
+      go true f = subst (λ (s : Record). Found R t s (q ∷ without (q .id) b)) (sym (ap ρ′ (eqb-true j i f) ∙ isR)) found-r
       go false f = subst (λ (s : Record). Found R t s (q ∷ without (q .id) b)) (sym same) there
         where
           n : j ≢ i
-          n = eqb-ne {m = j} {n = i} f
+          n = eqb-false j i f
 
           same : ρ′ j ≡ ρ j
           same = others j l n
@@ -225,16 +225,16 @@ module _ (R t : ℕ) (ρ ρ′ : ℕ → Record) (b : List Page) (rel : Rel R t 
           record {
             at = i;
             inside = inside;
-            has = ap (holds R t id) isR ∙ holds-of R t id r (live-r t ∙ alive-now) (m .id ∙ eqb-eq {m = q .id} {n = id} f);
+            has = ap (holds R t id) isR ∙ holds-of R t id r (live-r t ∙ alive-now) (m .id ∙ eqb-true (q .id) id f);
           }
       go false f = record { at = k .at; inside = k .inside; has = ap (holds R t id) (others (k .at) (k .inside) n) ∙ k .has }
         where
           k : Held R t id ρ
-          k = rel .back id p (sym (page-put R t id q b (eqb-ne {m = q .id} {n = id} f)) ∙ e)
+          k = rel .back id p (sym (page-put R t id q b (eqb-false (q .id) id f)) ∙ e)
 
           n : k .at ≢ i
           n h =
-              eqb-ne {m = q .id} {n = id} f
+              eqb-false (q .id) id f
               (sym (own (ap (λ (s : ℕ). live R t (ρ s)) (sym h) ∙ holds-live R t id (ρ (k .at)) (k .has)))
               ∙ ap (λ (s : ℕ). ρ s .id) (sym h) ∙ holds-id R t id (ρ (k .at)) (k .has))
 
@@ -248,14 +248,14 @@ module _ (R t : ℕ) (ρ ρ′ : ℕ → Record) (b : List Page) (rel : Rel R t 
   unique′ j k id lj lk ej ek = go (eqb j i) (eqb k i) refl refl
     where
       go : (x y : Bool) → eqb j i ≡ x → eqb k i ≡ y → j ≡ k
-      go true true f g = eqb-eq {m = j} {n = i} f ∙ sym (eqb-eq {m = k} {n = i} g)
+      go true true f g = eqb-true j i f ∙ sym (eqb-true k i g)
       go true false f g =
-          absurd (not-both k id lk (eqb-ne {m = k} {n = i} g) (ap (λ (s : ℕ). holds R t id (ρ′ s)) (sym (eqb-eq {m = j} {n = i} f)) ∙ ej) ek)
+          absurd (not-both k id lk (eqb-false k i g) (ap (λ (s : ℕ). holds R t id (ρ′ s)) (sym (eqb-true j i f)) ∙ ej) ek)
       go false true f g =
-          absurd (not-both j id lj (eqb-ne {m = j} {n = i} f) (ap (λ (s : ℕ). holds R t id (ρ′ s)) (sym (eqb-eq {m = k} {n = i} g)) ∙ ek) ej)
+          absurd (not-both j id lj (eqb-false j i f) (ap (λ (s : ℕ). holds R t id (ρ′ s)) (sym (eqb-true k i g)) ∙ ek) ej)
       go false false f g =
-          rel .unique j k id lj lk (ap (holds R t id) (sym (others j lj (eqb-ne {m = j} {n = i} f))) ∙ ej)
-          (ap (holds R t id) (sym (others k lk (eqb-ne {m = k} {n = i} g))) ∙ ek)
+          rel .unique j k id lj lk (ap (holds R t id) (sym (others j lj (eqb-false j i f))) ∙ ej)
+          (ap (holds R t id) (sym (others k lk (eqb-false k i g))) ∙ ek)
 
   counts′ : (u : ℕ) → t ≤ u → tally (λ j. live R u (ρ′ j)) 0 capacity ≡ living R u (q ∷ without (q .id) b)
   counts′ u h =

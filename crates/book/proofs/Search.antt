@@ -1,14 +1,14 @@
 -- How many numbers pass a test. Assumes nothing.
-use mathlib.Core.Path.{_≡_, refl, sym, ap, ap₂, subst}
+use mathlib.Core.Path.{_≡_, refl, ap, ap₂, subst}
 use mathlib.Core.Logic.{_≢_}
 use mathlib.Core.Bool.{Bool, true, false, cond, not}
-use mathlib.Core.Option.{none, some}
+use mathlib.Core.Option.{none, some, Option·none-ne-some, Option·some-ne-none}
 use Prim.Native.Nat.{ℕ, zero, suc, _+_, _≤_, _<_, zero-le}
 use native.Mathlib.Omega.{arith}
 use lib.Dec.{eqb}
 use Rattle.records.specs.Records.{lowestFrom}
 use Rattle.book.specs.Book.{one}
-use Rattle.book.proofs.Tests.{some≢none, eqb-eq, eqb-ne}
+use borrow.Author.Tests.{eqb-true, eqb-false}
 
 -- how many of the numbers from, .., from + n - 1 pass
 abbrev pub tally : (ℕ → Bool) → (from n : ℕ) → ℕ
@@ -31,10 +31,10 @@ tally-all f i (suc n) e = go (tally-all f (suc i) n) (f i) e
     go : (lowestFrom (λ k. not (f k)) (suc i) n ≡ none → tally f (suc i) n ≡ n) → (x : Bool)
         → cond (not x) (some i) (lowestFrom (λ k. not (f k)) (suc i) n) ≡ none → one x + tally f (suc i) n ≡ suc n
     go ih true h = omega (arith, ih h)
-    go ih false h = absurd (some≢none h)
+    go ih false h = absurd (Option·some-ne-none _ h)
 
 pub tally-some : (f : ℕ → Bool) (i n k : ℕ) → lowestFrom (λ k. not (f k)) i n ≡ some k → tally f i n < n
-tally-some f i zero k e = absurd (some≢none (sym e))
+tally-some f i zero k e = absurd (Option·none-ne-some _ e)
 tally-some f i (suc n) k e = go (tally-some f (suc i) n k) (f i) e
   where
     go : (lowestFrom (λ k. not (f k)) (suc i) n ≡ some k → tally f (suc i) n < n) → (x : Bool)
@@ -58,10 +58,10 @@ tally-but f g i (suc n) k l u h = go (tally-but f g (suc i) n k) (eqb i k) refl
         → tally f (suc i) n + one (g k) ≡ tally g (suc i) n + one (f k)) → (x : Bool) → eqb i k ≡ x
         → (one (f i) + tally f (suc i) n) + one (g k) ≡ (one (g i) + tally g (suc i) n) + one (f k)
     go ih true e =
-        let s : i ≡ k = eqb-eq {m = i} {n = k} e in
+        let s : i ≡ k = eqb-true i k e in
         let same = tally-same f g (suc i) n (λ j a b. h j (omega arith) (omega arith) (omega arith)) in
         subst (λ (m : ℕ). (one (f i) + tally f (suc i) n) + one (g m) ≡ (one (g i) + tally g (suc i) n) + one (f m)) s (omega arith)
     go ih false e =
-        let s : i ≢ k = eqb-ne {m = i} {n = k} e in
+        let s : i ≢ k = eqb-false i k e in
         let r = ih (omega arith) (omega arith) (λ j a b d. h j (omega arith) (omega arith) d) in
         let head : one (f i) ≡ one (g i) = ap one (h i (omega arith) (omega arith) s) in omega arith

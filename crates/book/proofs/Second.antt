@@ -2,14 +2,14 @@
 -- Assumes nothing.
 use mathlib.Core.Path.{_≡_, sym, ap, _∙_, subst}
 use mathlib.Core.List.{List, [], map}
-use mathlib.Core.Option.{Option}
+use mathlib.Core.Option.{Option, Option·map}
 use Prim.Native.Nat.{ℕ, _≤_}
 use lib.ListN.{getD}
 use Rattle.session.specs.Table.{newTable}
 use Rattle.book.specs.Call.{Call, noCall, refused, Outcome, Decision}
 use Rattle.book.specs.Book.{bookOutcomes, bookAfter}
 use Rattle.book.specs.Runs.{tableOutcomes}
-use Rattle.book.specs.Demand3.{Each, Pairs, PortFits, callAt, lastOf, lastReading, mapOption, viewOfPage, bookSession, Named, NotFull, LikeBook, FollowsBook, Rearrangement}
+use Rattle.book.specs.Demand3.{Each, Pairs, PortFits, callAt, lastOf, lastReading, viewOfPage, bookSession, Named, NotFull, LikeBook, FollowsBook, Rearrangement}
 use Rattle.book.proofs.Pages.{page-same}
 use Rattle.book.proofs.Rearrange.{each-map, each-from, each-getD, in-order, rearranged-outcomes, rearranged-room, rearranged-pages}
 
@@ -48,4 +48,4 @@ rearrangement {H} decide belongs named follows R lo hi cs ports forward room ord
         ≡ bookSession R (bookAfter decide R [] cs) (lastReading cs) id
     pages id =
         ap (λ (l : List ℕ). bookSession R (bookAfter decide R [] (map (callAt cs) order)) (lastOf 0 l) id) (re .sameClocks)
-        ∙ ap (mapOption viewOfPage) (sym (page-same R (lastReading cs) id (rearranged-pages decide belongs named R cs forward room′ order re any)))
+        ∙ ap (Option·map viewOfPage) (sym (page-same R (lastReading cs) id (rearranged-pages decide belongs named R cs forward room′ order re any)))

@@ -11,7 +11,7 @@ use lib.Dec.{eqb}
 use Rattle.book.specs.Call.{Call, Outcome, refused, Decision, early, reaches}
 use Rattle.book.specs.Book.{Page, one, bookOutcome, bookNext, bookOutcomes, bookAfter}
 use Rattle.book.specs.Demand3.{Each, Pairs, times, Named}
-use Rattle.book.proofs.Tests.{eqb-true, eqb-eq}
+use borrow.Author.Tests.{eqb-true, eq-eqb}
 use Rattle.book.proofs.Pages.{Distinct, Same, after, same-refl}
 use Rattle.book.proofs.Swap.{outcome-same, next-same, distinct-next, Apart, Swapped, swap-calls}
 
@@ -28,7 +28,7 @@ abbrev pub In : ℕ → List ℕ → Type 0
 In y l = 1 ≤ times y l
 
 in-head : (y : ℕ) (l : List ℕ) → In y (y ∷ l)
-in-head y l = rw (eqb-true {m = y} {n = y} refl) (omega arith)
+in-head y l = rw (eq-eqb y y refl) (omega arith)
 
 in-tail : (y x : ℕ) (l : List ℕ) → In y l → In y (x ∷ l)
 in-tail y x l h = omega arith
@@ -38,7 +38,7 @@ each-at P [] e y h = absurd (omega arith)
 each-at P (x ∷ l) e y h = go (each-at P l (e .1) y) (eqb x y) refl h
   where
     go : (In y l → P y) → (t : Bool) → eqb x y ≡ t → 1 ≤ one t + times y l → P y
-    go ih true f k = subst P (eqb-eq {m = x} {n = y} f) (e .0)
+    go ih true f k = subst P (eqb-true x y f) (e .0)
     go ih false f k = ih (omega arith)
 
 pub times-append : (i : ℕ) (l m : List ℕ) → times i (l ++ m) ≡ times i l + times i m
@@ -56,7 +56,7 @@ split-in x [] h = absurd (omega arith)
 split-in x (y ∷ l) h = go (split-in x l) (eqb y x) refl h
   where
     go : (In x l → Split x l) → (t : Bool) → eqb y x ≡ t → 1 ≤ one t + times x l → Split x (y ∷ l)
-    go ih true f k = record { pre = []; post = l; whole = ap (λ (z : ℕ). z ∷ l) (eqb-eq {m = y} {n = x} f) }
+    go ih true f k = record { pre = []; post = l; whole = ap (λ (z : ℕ). z ∷ l) (eqb-true y x f) }
     go ih false f k =
         let s = ih (omega arith) in record { pre = y ∷ s .pre; post = s .post; whole = ap {B = List ℕ} (λ r. y ∷ r) (s .whole) }
 

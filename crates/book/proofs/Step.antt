@@ -1,7 +1,7 @@
 -- One call: the table and the book answer alike, and what holds between them holds again. Assumes nothing.
 use mathlib.Core.Path.{_≡_, refl, sym, ap, ap₂, _∙_, subst}
 use mathlib.Core.Logic.{_≢_}
-use mathlib.Core.Bool.{Bool, true, false, cond, not, _&&_, true≢false}
+use mathlib.Core.Bool.{Bool, true, false, cond, not, _&&_, true≢false, and-eq-true-iff}
 use mathlib.Core.List.{List, _∷_}
 use mathlib.Core.Option.{Option, none, some}
 use Prim.Native.Nat.{ℕ, _^_, _≤_, _<_, zero-le}
@@ -17,11 +17,11 @@ use Rattle.book.specs.Book.{Page, one, pageAlive, page, living, most, cr
 use Rattle.book.specs.Runs.{report, tableOutcomeBy, tableNextBy}
 use Rattle.book.specs.Book as B
 use Rattle.session.specs.Table as W
-use Rattle.book.proofs.Tests.{leb-true, leb-false, and-true-left}
+use borrow.Author.Tests.{le-leb, lt-leb, not-true}
 use Rattle.book.proofs.Pages.{livingOf, page-alive}
 use Rattle.book.proofs.Swap.{accept-alive, new-alive}
 use Rattle.book.proofs.Search.{tally-all, tally-some}
-use Rattle.book.proofs.Window.{Match, fresh-same, match-accept, match-new, not-true}
+use Rattle.book.proofs.Window.{Match, fresh-same, match-accept, match-new}
 use Rattle.book.proofs.Words.{record-other, record-same, retention-store, length-store}
 use Rattle.book.proofs.Refine.{Found, Rel, inUse, alive-same, later, put, holds-live, holds-id, live-after, livingOf-none-later, livingOf-some-later}
 
@@ -76,7 +76,7 @@ module _ (R u : ℕ) (t : List ℕ) (b : List Page) (rel : Rel R u (recordAt t) 
           pick false e = e
 
       used : inUse (recordAt t i) ≡ true
-      used = and-true-left (inUse (recordAt t i)) _ (holds-live R u id (recordAt t i) h)
+      used = and-eq-true-iff (inUse (recordAt t i)) _ .0 (holds-live R u id (recordAt t i) h) .0
 
       counted : (w : ℕ) → u ≤ w → livingOf R w id b ≡ one (live R w (recordAt t i))
       counted w g =
@@ -94,12 +94,12 @@ module _ (R u : ℕ) (t : List ℕ) (b : List Page) (rel : Rel R u (recordAt t) 
   room i f =
       let less : living R u b < capacity =
       subst (λ (n : ℕ). n < capacity) (rel .counts u (le-refl u)) (tally-some (λ j. live R u (recordAt t j)) 0 capacity i f) in
-      leb-false {m = most} {n = living R u b} (omega arith)
+      lt-leb most (living R u b) (omega arith)
 
   no-room : lowest (λ i. not (live R u (recordAt t i))) ≡ none → crowded R u b ≡ true
   no-room f =
       let all : living R u b ≡ capacity = sym (rel .counts u (le-refl u)) ∙ tally-all (λ j. live R u (recordAt t j)) 0 capacity f in
-      leb-true {m = most} {n = living R u b} (omega arith)
+      le-leb most (living R u b) (omega arith)
 
   -- the ID has none
   unknown : ((j : ℕ) → j < capacity → holds R u id (recordAt t j) ≡ false) → (free : Option ℕ) → lowest (λ i. not (live R u (recordAt t i))) ≡ free

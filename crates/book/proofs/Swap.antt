@@ -4,13 +4,13 @@ use mathlib.Core.Path.{_≡_, refl, sym, ap, ap₂, _∙_, subst, subst₂}
 use mathlib.Core.Logic.{_≢_}
 use mathlib.Core.Bool.{Bool, true, false, cond}
 use mathlib.Core.List.{List, _∷_}
-use mathlib.Core.Option.{Option, none, some}
+use mathlib.Core.Option.{Option, none, some, Option·some-ne-none}
 use Prim.Native.Nat.{ℕ, _+_, _≤_}
 use native.Mathlib.Omega.{arith}
 use Rattle.session_record.specs.declared.Peer.{Peer}
 use Rattle.book.specs.Call.{Call, refused, Decision, early, reaches}
 use Rattle.book.specs.Book.{Page, page, living, without, until, pageAlive, most, crowded, fresh, accept, newPage, BookEntry, enters, replay, full, judge, judgeBy, turn, tell, outcomeBy, nextBy}
-use Rattle.book.proofs.Tests.{leb-true, leb-le, leb-lt, leb-false, some≢none}
+use borrow.Author.Tests.{leb-true, leb-false, le-leb, lt-leb}
 use Rattle.book.proofs.Pages.{Distinct, distinct-put, page-put, living-put-new, living-put-old, Same, skip, same-refl, page-same, living-same, page-alive, without-same, put-put}
 
 -- ---- books that differ in the order of their pages take a call alike
@@ -57,10 +57,10 @@ made R b t a id p = made-by (page R t id b) (crowded R t b) t a id p
 
 -- a page that accepts now is alive
 pub accept-alive : (R t : ℕ) (a : Peer) (i p : ℕ) (q : Page) → pageAlive R t q ≡ true → pageAlive R t (accept t a i p q) ≡ true
-accept-alive R t a i p q e = leb-true {m = t} {n = until R (accept t a i p q)} (omega (arith, leb-le {m = t} {n = until R q} e))
+accept-alive R t a i p q e = le-leb t (until R (accept t a i p q)) (omega (arith, leb-true t (until R q) e))
 
 pub new-alive : (R t : ℕ) (a : Peer) (i p : ℕ) → pageAlive R t (newPage t a i p) ≡ true
-new-alive R t a i p = leb-true {m = t} {n = until R (newPage t a i p)} (omega arith)
+new-alive R t a i p = le-leb t (until R (newPage t a i p)) (omega arith)
 
 distinct-turn : (id : ℕ) (e : BookEntry) → Made id e → (b : List Page) → Distinct b → Distinct (turn e id b)
 distinct-turn id (enters q) m b d = subst (λ (i : ℕ). Distinct (q ∷ without i b)) m (distinct-put q b d)
@@ -106,13 +106,13 @@ judge-room none true y t a i p n f = absurd (n refl)
 judge-room none false y t a i p n f = rw (f refl refl)
 
 not-full-room : (o : Option Page) (x : Bool) (t : ℕ) (a : Peer) (i p : ℕ) → judgeBy o x t a i p ≢ full → o ≡ none → x ≡ false
-not-full-room (some q) x t a i p n e = absurd (some≢none e)
+not-full-room (some q) x t a i p n e = absurd (Option·some-ne-none _ e)
 not-full-room none true t a i p n e = absurd (n refl)
 not-full-room none false t a i p n e = refl
 
 -- where there is room for a new page, there is room with fewer alive
 crowded-less : (R t : ℕ) (b c : List Page) → living R t b ≤ living R t c → crowded R t c ≡ false → crowded R t b ≡ false
-crowded-less R t b c h x = leb-false {m = most} {n = living R t b} (omega (arith, leb-lt {m = most} {n = living R t c} x))
+crowded-less R t b c h x = lt-leb most (living R t b) (omega (arith, leb-false most (living R t c) x))
 
 -- ---- the two calls of different sessions, at one reading
 

@@ -2,7 +2,7 @@
 -- accepted. Assumes nothing.
 use mathlib.Core.Path.{_≡_, refl, sym, ap, ap₂, _∙_, subst}
 use mathlib.Core.Logic.{_≢_}
-use mathlib.Core.Bool.{Bool, true, false, cond, not, _&&_, _||_, false≢true}
+use mathlib.Core.Bool.{Bool, true, false, cond, not, _&&_, _||_, false≢true, and-eq-true-iff, or-false}
 use Prim.Native.Nat.{ℕ, zero, suc, _+_, _-_, _*_, _%_, _^_, _≤_, _<_, max}
 use native.Mathlib.Nat.{max-eq-right, mod-lt}
 use native.Mathlib.Omega.{arith}
@@ -12,7 +12,7 @@ use Rattle.session_record.specs.declared.Peer.{Peer}
 use Rattle.window.specs.Window.{window, bit}
 use Rattle.session.specs.Table.{Record, freshIn, markedWith, acceptIn, newRecord}
 use Rattle.book.specs.Book.{Page, member, fresh, accept, newPage}
-use Rattle.book.proofs.Tests.{eqb-true, eqb-false, eqb-eq, eqb-ne, leb-le, leb-lt}
+use borrow.Author.Tests.{ltb-true, ltb-false, eqb-true, eqb-false, eq-eqb, ne-eqb, not-true}
 use Rattle.book.proofs.Bits.{bit-zero, bit-suc, moved-zero, moved-low, moved-high, bit-cut, set-same, set-other, set-fits}
 
 -- the record of a page
@@ -24,18 +24,6 @@ pub record Match (r : Record) (q : Page) : Type 0 where
   pub marks : (d : ℕ) → d < window → d ≤ q .h → bit (r .marks) d ≡ member (q .h - d) (q .accepted)
   pub fits : r .marks < 2 ^ window
   pub below : (p : ℕ) → member p (q .accepted) ≡ true → p ≤ q .h
-
-or-false : (x : Bool) → x || false ≡ x
-or-false true = refl
-or-false false = refl
-
-and-true : (x y : Bool) → x && y ≡ true → (x ≡ true) × (y ≡ true)
-and-true true y e = (refl, e)
-and-true false y e = absurd (false≢true e)
-
-pub not-true : (x : Bool) → not x ≡ true → x ≡ false
-not-true true e = absurd (false≢true e)
-not-true false e = refl
 
 -- not above the highest: not accepted
 above : (q : Page) → ((p : ℕ) → member p (q .accepted) ≡ true → p ≤ q .h) → (p : ℕ) → q .h < p → member p (q .accepted) ≡ false
@@ -56,11 +44,11 @@ fresh-same r q m p = subst (λ (h : ℕ). ltb h p || ltb (h - p) window && not (
     go false e = near (ltb (q .h - p) window) refl
       where
         l : p ≤ q .h
-        l = omega (arith, leb-lt {m = suc (q .h)} {n = p} e)
+        l = omega (arith, ltb-false (q .h) p e)
 
         near : (y : Bool) → ltb (q .h - p) window ≡ y → y && not (bit (r .marks) (q .h - p)) ≡ y && not (member p (q .accepted))
         near true f =
-            ap not (m .marks (q .h - p) (leb-le {m = suc (q .h - p)} {n = window} f) (omega arith)
+            ap not (m .marks (q .h - p) (ltb-true (q .h - p) window f) (omega arith)
             ∙ ap (λ (k : ℕ). member k (q .accepted)) (let e′ : q .h - (q .h - p) ≡ p = omega (arith, l) in e′))
         near false f = refl
 
@@ -72,18 +60,18 @@ up-marks r q m p k e d w l = bit-cut window d (r .marks * 2 ^ suc k + 1) w ∙ g
   where
     go : (d : ℕ) → d < window → d ≤ p → bit (r .marks * 2 ^ suc k + 1) d ≡ (eqb p (p - d) || member (p - d) (q .accepted))
     go zero w l =
-        moved-zero (r .marks) k ∙ sym (ap (λ (x : Bool). x || member (p - 0) (q .accepted)) (eqb-true {m = p} {n = p - 0} (omega arith)))
+        moved-zero (r .marks) k ∙ sym (ap (λ (x : Bool). x || member (p - 0) (q .accepted)) (eq-eqb p (p - 0) (omega arith)))
     go (suc d) w l = by (ltb d k) refl
       where
         other : eqb p (p - suc d) ≡ false
-        other = eqb-false {m = p} {n = p - suc d} (omega arith)
+        other = ne-eqb p (p - suc d) (omega arith)
 
         by : (x : Bool) → ltb d k ≡ x → bit (r .marks * 2 ^ suc k + 1) (suc d) ≡ (eqb p (p - suc d) || member (p - suc d) (q .accepted))
         by true f =
-            moved-low (r .marks) k d (leb-le {m = suc d} {n = k} f)
-            ∙ sym (ap₂ (λ (x y : Bool). x || y) other (above q (m .below) (p - suc d) (omega (arith, leb-le {m = suc d} {n = k} f))))
+            moved-low (r .marks) k d (ltb-true d k f)
+            ∙ sym (ap₂ (λ (x y : Bool). x || y) other (above q (m .below) (p - suc d) (omega (arith, ltb-true d k f))))
         by false f =
-            let g : k ≤ d = omega (arith, leb-lt {m = suc d} {n = k} f) in
+            let g : k ≤ d = omega (arith, ltb-false d k f) in
             ap (bit (r .marks * 2 ^ suc k + 1)) (let s : suc d ≡ suc k + (d - k) = omega arith in s)
             ∙ moved-high (r .marks) k (d - k)
             ∙ m .marks (d - k) (omega arith) (omega arith)
@@ -94,7 +82,7 @@ below-more : (p : ℕ) (q : Page) → ((j : ℕ) → member j (q .accepted) ≡ 
 below-more p q b j e = go (eqb p j) refl e
   where
     go : (x : Bool) → eqb p j ≡ x → (x || member j (q .accepted)) ≡ true → j ≤ max (q .h) p
-    go true f g = omega (arith, eqb-eq {m = p} {n = j} f)
+    go true f g = omega (arith, eqb-true p j f)
     go false f g = omega (arith, b j g)
 
 pub match-accept : (r : Record) (q : Page) → Match r q → (t : ℕ) (a : Peer) (i p : ℕ) → r .id ≡ i → q .last ≤ t → fresh q p ≡ true
@@ -113,10 +101,10 @@ match-accept r q m t a i p isId l f =
     -- below the highest: near enough, and not yet marked
     near : ltb (q .h) p ≡ false → (p ≤ q .h) × (q .h - p < window) × (bit (r .marks) (q .h - p) ≡ false)
     near e =
-        let both = and-true (ltb (q .h - p) window) (not (member p (q .accepted)))
+        let both = and-eq-true-iff (ltb (q .h - p) window) (not (member p (q .accepted))) .0
         (subst (λ (x : Bool). x || ltb (q .h - p) window && not (member p (q .accepted)) ≡ true) e f) in
-        let le : p ≤ q .h = omega (arith, leb-lt {m = suc (q .h)} {n = p} e) in
-        let w : q .h - p < window = leb-le {m = suc (q .h - p)} {n = window} (both .0) in (
+        let le : p ≤ q .h = omega (arith, ltb-false (q .h) p e) in
+        let w : q .h - p < window = ltb-true (q .h - p) window (both .0) in (
           le,
           w,
           m .marks (q .h - p) w (omega arith) ∙ ap (λ (k : ℕ). member k (q .accepted)) (let s : q .h - (q .h - p) ≡ p = omega arith in s)
@@ -131,18 +119,18 @@ match-accept r q m t a i p isId l f =
     set-marks : ltb (q .h) p ≡ false → (d : ℕ) → d < window → d ≤ q .h → (y : Bool) → eqb d (q .h - p) ≡ y
         → bit (r .marks + 2 ^ (q .h - p)) d ≡ (eqb p (q .h - d) || member (q .h - d) (q .accepted))
     set-marks e d w k true g =
-        let s : d ≡ q .h - p = eqb-eq {m = d} {n = q .h - p} g in
+        let s : d ≡ q .h - p = eqb-true d (q .h - p) g in
         ap (bit (r .marks + 2 ^ (q .h - p))) s ∙ set-same (q .h - p) (r .marks) (near e .2)
-        ∙ sym (ap (λ (x : Bool). x || member (q .h - d) (q .accepted)) (eqb-true {m = p} {n = q .h - d} (omega (arith, near e .0))))
+        ∙ sym (ap (λ (x : Bool). x || member (q .h - d) (q .accepted)) (eq-eqb p (q .h - d) (omega (arith, near e .0))))
     set-marks e d w k false g =
-        let s : d ≢ q .h - p = eqb-ne {m = d} {n = q .h - p} g in
+        let s : d ≢ q .h - p = eqb-false d (q .h - p) g in
         set-other (q .h - p) d (r .marks) (near e .2) s ∙ m .marks d w k
-        ∙ sym (ap (λ (x : Bool). x || member (q .h - d) (q .accepted)) (eqb-false {m = p} {n = q .h - d} (omega (arith, near e .0))))
+        ∙ sym (ap (λ (x : Bool). x || member (q .h - d) (q .accepted)) (ne-eqb p (q .h - d) (omega (arith, near e .0))))
 
     marks : (d : ℕ) → d < window → d ≤ max (q .h) p → (x : Bool) → ltb (q .h) p ≡ x
         → bit (markedWith (r .marks) (r .h) p) d ≡ (eqb p (max (q .h) p - d) || member (max (q .h) p - d) (q .accepted))
     marks d w k true e =
-        let l : q .h < p = leb-le {m = suc (q .h)} {n = p} e in
+        let l : q .h < p = ltb-true (q .h) p e in
         ap (λ (x : ℕ). bit (markedWith (r .marks) x p) d) (m .h)
         ∙ ap (λ (x : Bool). bit (cond x ((r .marks * 2 ^ (p - q .h) + 1) % 2 ^ window) (r .marks + 2 ^ (q .h - p))) d) e
         ∙ ap (λ (s : ℕ). bit ((r .marks * 2 ^ s + 1) % 2 ^ window) d) (let s : p - q .h ≡ suc (p - suc (q .h)) = omega arith in s)
@@ -177,9 +165,9 @@ match-new t a i p =
     }
   where
     marks : (d : ℕ) → d ≤ p → bit 1 d ≡ (eqb p (p - d) || false)
-    marks zero k = sym (or-false (eqb p (p - 0)) ∙ eqb-true {m = p} {n = p - 0} (omega arith))
-    marks (suc d) k = one-high d ∙ sym (or-false (eqb p (p - suc d)) ∙ eqb-false {m = p} {n = p - suc d} (omega arith))
+    marks zero k = sym (or-false (eqb p (p - 0)) ∙ eq-eqb p (p - 0) (omega arith))
+    marks (suc d) k = one-high d ∙ sym (or-false (eqb p (p - suc d)) ∙ ne-eqb p (p - suc d) (omega arith))
 
     below : (j : ℕ) (x : Bool) → eqb p j ≡ x → (eqb p j || false) ≡ true → j ≤ p
-    below j true e f = omega (arith, eqb-eq {m = p} {n = j} e)
+    below j true e f = omega (arith, eqb-true p j e)
     below j false e f = absurd (false≢true (sym e ∙ sym (or-false (eqb p j)) ∙ f))

@@ -3,19 +3,20 @@ use mathlib.Core.Path.{_≡_, refl, sym, ap, ap₂, _∙_}
 use mathlib.Core.Logic.{_≢_}
 use mathlib.Core.Bool.{Bool, true, false, _&&_}
 use mathlib.Core.List.{List}
-use Prim.Native.Nat.{ℕ, suc, _+_, _*_, _/_, _%_, _^_, _≤_, _<_}
+use Prim.Native.Nat.{ℕ, _+_, _*_, _/_, _%_, _^_, _≤_, _<_}
 use native.Mathlib.Nat.{mod-eq-of-lt, add-zero}
 use native.Mathlib.Numerals.{one-add}
 use native.Mathlib.Omega.{arith}
 use lib.Dec.{ltb}
-use lib.ListN.{length, getD, replicate, getD-replicate, List·getD-eq-default, length-replicate}
+use lib.ListN.{length, getD}
 use lib.Seq.{length-sets}
 use lib.Pow.{shr-lt}
+use Rattle.octets.proofs.BufferLaws.{getD-zeros}
 use Rattle.records.proofs.WordLaws.{sets-before, sets-after, sets-in}
 use Rattle.window.specs.Window.{window, join4}
 use Rattle.session.specs.Sizes.{capacity}
 use Rattle.session.specs.Table.{Record, recordWords, tableWords, start, retention, newTable, recordAt, wordsOf, store, lawful}
-use Rattle.book.proofs.Tests.{eqb-true, leb-true, leb-le, leb-lt}
+use borrow.Author.Tests.{ltb-true, ltb-false, eq-eqb, le-leb}
 
 -- ---- the other records
 
@@ -40,8 +41,8 @@ word-other : (t : List ℕ) (i j : ℕ) (r : Record) (x : ℕ) → j ≢ i → s
 word-other t i j r x n l u = go (ltb x (start i)) refl
   where
     go : (b : Bool) → ltb x (start i) ≡ b → getD (store t i r) x 0 ≡ getD t x 0
-    go true e = sets-before (wordsOf r) t (start i) x (leb-le {m = suc x} {n = start i} e)
-    go false e = sets-after (wordsOf r) t (start i) x (omega (arith, leb-lt {m = suc x} {n = start i} e))
+    go true e = sets-before (wordsOf r) t (start i) x (ltb-true x (start i) e)
+    go false e = sets-after (wordsOf r) t (start i) x (omega (arith, ltb-false x (start i) e))
 
 pub record-other : (t : List ℕ) (i j : ℕ) (r : Record) → j ≢ i → recordAt (store t i r) j ≡ recordAt t j
 record-other t i j r n = same-words t (store t i r) j (λ x l u. word-other t i j r x n l u)
@@ -93,20 +94,10 @@ length-store t i r = length-sets t (start i) (wordsOf r)
 
 -- ---- a table just made
 
-pub new-length : (R : ℕ) → length (newTable R) ≡ tableWords
-new-length R = ap suc (length-replicate {A = ℕ} (capacity * recordWords) 0)
-
-zeros : (n i : ℕ) → getD {A = ℕ} (replicate n 0) i 0 ≡ 0
-zeros n i = go (ltb i n) refl
-  where
-    go : (b : Bool) → ltb i n ≡ b → getD {A = ℕ} (replicate n 0) i 0 ≡ 0
-    go true e = getD-replicate n i 0 0 (leb-le {m = suc i} {n = n} e)
-    go false e = List·getD-eq-default (replicate n 0) 0 (omega (arith, length-replicate {A = ℕ} n 0, leb-lt {m = suc i} {n = n} e))
-
 pub new-unused : (R i : ℕ) → recordAt (newTable R) i .used ≡ 0
-new-unused R i = ap (λ (n : ℕ). getD (newTable R) n 0) (one-add (i * recordWords)) ∙ zeros (capacity * recordWords) (i * recordWords)
+new-unused R i = ap (λ (n : ℕ). getD (newTable R) n 0) (one-add (i * recordWords)) ∙ getD-zeros (capacity * recordWords) (i * recordWords)
 
 pub lawful-table : (t : List ℕ) (R : ℕ) → length t ≡ tableWords → retention t ≡ R → 60 ≤ R → R ≤ 3600 → lawful t ≡ true
 lawful-table t R e f lo hi =
-    ap₂ (λ (x y : Bool). x && y) (eqb-true {m = length t} {n = tableWords} e)
-    (ap₂ (λ (x y : Bool). x && y) (leb-true {m = 60} {n = retention t} (omega arith)) (leb-true {m = retention t} {n = 3600} (omega arith)))
+    ap₂ (λ (x y : Bool). x && y) (eq-eqb (length t) tableWords e)
+    (ap₂ (λ (x y : Bool). x && y) (le-leb 60 (retention t) (omega arith)) (le-leb (retention t) 3600 (omega arith)))

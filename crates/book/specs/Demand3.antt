@@ -3,11 +3,11 @@
 -- Assumes nothing.
 use mathlib.Core.Path.{_≡_}
 use mathlib.Core.Logic.{_≢_}
-use mathlib.Core.Bool.{Bool, _&&_}
+use mathlib.Core.Bool.{Bool, _&&_, true}
 use mathlib.Core.List.{List, [], _∷_, map}
-use mathlib.Core.Option.{Option, none, some}
+use mathlib.Core.Option.{Option, some, Option·map}
 use Prim.Native.Nat.{ℕ, _+_, _-_, _^_, _≤_, _<_}
-use lib.Dec.{T, leb, ltb, eqb}
+use lib.Dec.{leb, ltb, eqb}
 use lib.ListN.{length, getD}
 use Rattle.session_record.specs.declared.Peer.{Peer}
 use Rattle.window.specs.Window.{bit}
@@ -75,21 +75,17 @@ abbrev pub viewOfRecord : Record → View
 viewOfRecord r =
     record { h = r .h; marked = λ p. leb p (r .h) && (ltb (r .h - p) 256 && bit (r .marks) (r .h - p)); last = r .last; peer = r .peer }
 
-abbrev pub mapOption : {A B : Type 0} → (A → B) → Option A → Option B
-mapOption f none = none
-mapOption f (some a) = some (f a)
-
 -- the session of an ID that is alive at a clock reading, in the book and in the table
 abbrev pub bookSession : (R : ℕ) → List Page → (clock id : ℕ) → Option View
-bookSession R b clock id = mapOption viewOfPage (page R clock id b)
+bookSession R b clock id = Option·map viewOfPage (page R clock id b)
 
 abbrev pub tableSession : List ℕ → (clock id : ℕ) → Option View
-tableSession t clock id = mapOption (λ i. viewOfRecord (recordAt t i)) (sessionPlace t clock id)
+tableSession t clock id = Option·map (λ i. viewOfRecord (recordAt t i)) (sessionPlace t clock id)
 
 -- no two records are alive for one ID, so that the table has no session beside those of `tableSession`
 abbrev pub OneRecordEach : List ℕ → (clock : ℕ) → Type 0
 OneRecordEach t clock =
-    (i j id : ℕ) → i < 64 → j < 64 → T (holds (retention t) clock id (recordAt t i)) → T (holds (retention t) clock id (recordAt t j)) → i ≡ j
+    (i j id : ℕ) → i < 64 → j < 64 → holds (retention t) clock id (recordAt t i) ≡ true → holds (retention t) clock id (recordAt t j) ≡ true → i ≡ j
 
 -- ---- the statements
 

@@ -1,6 +1,6 @@
 -- Laws of byte strings: exclusive or, bytes, what is put into a buffer, comparison.
 -- Assumes nothing.
-use mathlib.Core.Bool.{Bool, true, false, _&&_}
+use mathlib.Core.Bool.{Bool, true, false, _&&_, false≢true, and-eq-true-iff, and-true, and-assoc}
 use mathlib.Core.Path.{_≡_, refl, sym, ap, ap₂, _∙_, subst}
 use mathlib.Core.List.{List, [], _∷_, _++_, append-assoc, append-nil}
 use Prim.Native.Nat.{ℕ, zero, suc, _+_, _-_, _≤_, _<_, min}
@@ -12,7 +12,7 @@ use mir.Syntax.{w8}
 use mir.Val.{Fits}
 use lib.Bits.{bitXor, bitOr, xor-lt, xor-self, or-zero-l, or-add-and, and-le-l, and-le-r}
 use borrow.Author.Tests.{eq-eqb, ne-eqb, eqb-true, eqb-false}
-use lib.Dec.{T, eqb, eqb→eq, eqb-refl, lit<}
+use lib.Dec.{eqb, lit<}
 use lib.ListN.{length, getD, take, drop, set, replicate, length-append, length-drop, drop-of-length-le}
 use lib.Seq.{getD-drop, take-at, drop-at, drop-drop, length-take-le, append-snoc, set-split, paste-zero, take-suc, take-length, take-all, take-nil}
 use Rattle.buffers.specs.Buffers.{Octets, put, _⊞_, same}
@@ -217,7 +217,7 @@ module _ (d : List ℕ) (at n : ℕ) (b : List ℕ) (within : at ≤ length d) (
           drop-of-length-le (put d at b) l ∙ sym (drop-of-length-le d m)
 
 -- a string with zeros behind it reads as the string itself
-getD-zeros : (n i : ℕ) → getD {A = ℕ} (replicate n 0) i 0 ≡ 0
+pub getD-zeros : (n i : ℕ) → getD {A = ℕ} (replicate n 0) i 0 ≡ 0
 getD-zeros zero i = refl
 getD-zeros (suc n) zero = refl
 getD-zeros (suc n) (suc i) = getD-zeros n i
@@ -235,33 +235,19 @@ getD-padded n s i =
 
 -- ---- comparison
 
-pub same-refl : (s : List ℕ) → T (same s s)
+pub same-refl : (s : List ℕ) → same s s ≡ true
 unfolding same
-same-refl [] = tt
-same-refl (a ∷ s) = go (eqb a a) (eqb-refl a) (same-refl s)
-  where
-    go : (b : Bool) → T b → T (same s s) → T (b && same s s)
-    go true t p = p
-    go false t p = t
+same-refl [] = refl
+same-refl (a ∷ s) = ap₂ _&&_ (eq-eqb a a refl) (same-refl s)
 
-pub same-eq : (s t : List ℕ) → T (same s t) → s ≡ t
+pub same-eq : (s t : List ℕ) → same s t ≡ true → s ≡ t
 unfolding same
-same-eq [] [] p = refl
-same-eq [] (b ∷ t) p = absurd p
-same-eq (a ∷ s) [] p = absurd p
-same-eq (a ∷ s) (b ∷ t) p = go (eqb a b) (eqb→eq a b) (same-eq s t) p
-  where
-    go : (x : Bool) → (T x → a ≡ b) → (T (same s t) → s ≡ t) → T (x && same s t) → a ∷ s ≡ b ∷ t
-    go true e f q = ap₂ (λ (n : ℕ) (l : List ℕ). n ∷ l) (e tt) (f q)
-    go false e f q = absurd q
-
-both-true : (x : Bool) → (x && true) ≡ x
-both-true true = refl
-both-true false = refl
-
-both-assoc : (x y z : Bool) → (x && (y && z)) ≡ ((x && y) && z)
-both-assoc true y z = refl
-both-assoc false y z = refl
+same-eq [] [] e = refl
+same-eq [] (b ∷ t) e = absurd (false≢true e)
+same-eq (a ∷ s) [] e = absurd (false≢true e)
+same-eq (a ∷ s) (b ∷ t) e =
+    let k = and-eq-true-iff (eqb a b) (same s t) .0 e in
+    ap₂ (λ (n : ℕ) (l : List ℕ). n ∷ l) (eqb-true a b (k .0)) (same-eq s t (k .1))
 
 -- one more byte
 same-suc : (s t : List ℕ) (i : ℕ) → i < length s → i < length t
@@ -269,10 +255,10 @@ same-suc : (s t : List ℕ) (i : ℕ) → i < length s → i < length t
 unfolding same
 same-suc [] t i h l = absurd (not-suc-le-zero h)
 same-suc (a ∷ s) [] i h l = absurd (not-suc-le-zero l)
-same-suc (a ∷ s) (b ∷ t) zero h l = both-true (eqb a b)
+same-suc (a ∷ s) (b ∷ t) zero h l = and-true (eqb a b)
 same-suc (a ∷ s) (b ∷ t) (suc i) h l =
     ap (_&&_ (eqb a b)) (same-suc s t i (le-of-suc-le-suc h) (le-of-suc-le-suc l))
-    ∙ both-assoc (eqb a b) (same (take i s) (take i t)) (eqb (getD s i 0) (getD t i 0))
+    ∙ sym (and-assoc (eqb a b) (same (take i s) (take i t)) (eqb (getD s i 0) (getD t i 0)))
 
 pub same-next : (s t : List ℕ) (i : ℕ) → i < length s → i < length t
     → same (take (i + 1) s) (take (i + 1) t) ≡ (same (take i s) (take i t) && eqb (getD s i 0) (getD t i 0))

@@ -1,7 +1,7 @@
 -- What sealing answers: one law for each way out, and what an answered length tells.
 -- Assumes nothing.
 use mathlib.Core.Path.{_≡_, refl, sym, ap, ap₂, _∙_}
-use mathlib.Core.Bool.{Bool, true, false, cond, _&&_}
+use mathlib.Core.Bool.{Bool, true, false, cond, _&&_, and-eq-true-iff}
 use mathlib.Core.List.{List}
 use Prim.Native.Nat.{ℕ, _+_, _-_, _^_, _≤_, _<_}
 use native.Mathlib.Decide.{decLe}
@@ -10,9 +10,11 @@ use lib.Dec.{T, eqb, leb, leb→le}
 use lib.ListN.{length}
 use borrow.Author.Tests.{eq-eqb, ne-eqb, le-leb, lt-leb, leb-true, eqb-false}
 use Rattle.aes.specs.Keyed.{nkOf}
+use Rattle.aes.proofs.KeyedLaws.{key-of-size}
 use Rattle.protocol.specs.declared.Refusal.{Refusal}
 use Rattle.protocol.specs.declared.Refusal.the-variants.{Settings, Length, Room, Counter, Argument}
 use Rattle.protocol.specs.Method.{keyFits}
+use Rattle.protocol.proofs.MethodLaws.{fits-sizes}
 use Rattle.socks5.specs.Address.{isAddress}
 use Rattle.datagram_parts.specs.declared.Side.{Side}
 use Rattle.datagram_parts.specs.declared.Side.the-variants.{Server}
@@ -23,7 +25,6 @@ use Rattle.datagram.specs.declared.Sealed.the-variants.{Datagram, Refuse
 use Rattle.datagram_parts.specs.Headers.{fixedLength}
 use Rattle.datagram_parts.specs.Parts.{maxDatagram}
 use Rattle.datagram.specs.Sealing.{begun, differs, sealedLength, capped, lengthAnswer, argumentAnswer, sealAnswer, idsDiffer, packetsOf}
-use Rattle.datagram_parts.proofs.SubkeyLaws.{key-of-method}
 
 -- ---- beginning
 
@@ -154,10 +155,6 @@ escaped : (b : Bool) (x : Sealed) (r : Refusal) (n : ℕ) → cond b (Refused r)
 escaped true x r n e = absurd (not-refused r n e)
 escaped false x r n e = (refl, e)
 
-both-true : (a b : Bool) → (a && b) ≡ true → a ≡ true
-both-true true b e = refl
-both-true false b e = e
-
 module _ (method k : ℕ) (sender : Sender) (address : List ℕ) (padding payload room n : ℕ) where
   pub sealable : sealAnswer method k sender address padding payload room ≡ Datagram n → Sealable method k sender address padding payload room n
   unfolding sealAnswer argumentAnswer lengthAnswer
@@ -173,8 +170,8 @@ module _ (method k : ℕ) (sender : Sender) (address : List ℕ) (padding payloa
       let within : capped s ≤ room = leb-true (capped s) room (e₅ .0) in
       record {
         fits = e₁ .0;
-        key = key-of-method method k (e₁ .0);
-        whole = both-true (isAddress address) (idsDiffer sender) (e₂ .0);
+        key = key-of-size k (fits-sizes method k (e₁ .0) .either);
+        whole = and-eq-true-iff (isAddress address) (idsDiffer sender) .0 (e₂ .0) .0;
         counter = eqb-false (sender .packet) (2 ^ 64 - 1) (e₃ .0);
         size = sym is ∙ c .0;
         most = omega (arith, is, c .0, c .1);

@@ -1,7 +1,7 @@
 -- A call of an opener is a step of the table with what its arguments decide; a law for each way out.
 -- Assumes nothing.
 use mathlib.Core.Path.{_≡_, refl, sym, ap, _∙_}
-use mathlib.Core.Bool.{Bool, true, false, cond, _&&_}
+use mathlib.Core.Bool.{true, false, cond, and-eq-true-iff}
 use mathlib.Core.List.{List, _++_}
 use Prim.Native.Nat.{ℕ, _-_, _≤_}
 use native.Mathlib.Nat.{zero-add}
@@ -41,11 +41,7 @@ settled-as a b e due out o eo = eo ∙ ap (λ (x : Opened). settled x due out) e
 
 -- a lawful table has its length
 pub table-length : (t : List ℕ) → lawful t ≡ true → length t ≡ tableWords
-table-length t e = eqb-true (length t) tableWords (and-left (eqb (length t) tableWords) _ e)
-  where
-    and-left : (a b : Bool) → a && b ≡ true → a ≡ true
-    and-left true b e = refl
-    and-left false b e = e
+table-length t e = eqb-true (length t) tableWords (and-eq-true-iff (eqb (length t) tableWords) _ .0 e .0)
 
 -- the front of a buffer, written
 onto-put : (out s : List ℕ) → put out 0 s ≡ onto s out

@@ -1,13 +1,10 @@
--- Keys of AES; the subkey of a session and the nonce of a datagram, as the sealer and the opener have them in their buffers.
+-- The subkey of a session and the nonce of a datagram, as the sealer and the opener have them in their buffers.
 -- Assumes nothing.
-use mathlib.Core.Path.{_≡_, sym, ap, ap₂, _∙_, subst}
-use mathlib.Core.Bool.{true}
+use mathlib.Core.Path.{_≡_, sym, ap, ap₂, _∙_}
 use mathlib.Core.List.{List, _++_}
-use mathlib.Core.Logic.{⊎-elim}
 use Prim.Native.Nat.{ℕ, _<_}
 use native.Mathlib.Nat.{zero-add}
 use native.Mathlib.Omega.{arith}
-use lib.Dec.{lit<}
 use lib.ListN.{length, take, drop}
 use lib.Seq.{length-take-le}
 use Rattle.octets.specs.Buffers.{put}
@@ -17,18 +14,8 @@ use Rattle.aes.specs.Keyed.{nkOf}
 use Rattle.aes.proofs.KeyedLaws.{key-most}
 use Rattle.blake3.specs.Derivation.{subkeyContext}
 use Rattle.blake3.proofs.DerivationLaws.{length-deriveKey}
-use Rattle.protocol.specs.Method.{keyFits}
-use Rattle.protocol.proofs.MethodLaws.{fits-sizes}
 use Rattle.protocol.specs.Subkey.{subkey, sessionSubkey}
 use Rattle.datagram_parts.specs.Headers.{separateHeader, nonce}
-
--- a key that has its method's length is a key of AES
-pub key-of-method : (method k : ℕ) → keyFits method k ≡ true → 0 < nkOf k
-unfolding nkOf
-key-of-method method k h = ⊎-elim (at 16 (lit< tt)) (at 32 (lit< tt)) (fits-sizes method k h .either)
-  where
-    at : (a : ℕ) → 0 < nkOf a → k ≡ a → 0 < nkOf k
-    at a l e = subst (λ (n : ℕ). 0 < nkOf n) (sym e) l
 
 module _ (key : List ℕ) (id : ℕ) (least : 0 < nkOf (length key)) where
   -- the subkey is as long as the key

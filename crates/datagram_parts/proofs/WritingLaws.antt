@@ -4,16 +4,17 @@ use mathlib.Core.Path.{_≡_, refl, sym, ap, ap₂, _∙_}
 use mathlib.Core.List.{List, [], _∷_, _++_, append-assoc}
 use Prim.Native.Nat.{ℕ, _+_, _-_, _≤_, _<_}
 use native.Mathlib.Omega.{arith}
-use lib.ListN.{length, take, set, replicate, length-append, length-replicate}
+use lib.ListN.{length, set, replicate, length-append, length-replicate}
 use Rattle.octets.specs.Buffers.{put}
 use Rattle.octets.specs.Numbers.{toBe}
-use Rattle.octets.proofs.BufferLaws.{length-put, put-behind, put-one, put-whole, take-put}
+use Rattle.octets.proofs.BufferLaws.{put-behind, put-one, put-whole}
 use Rattle.octets.proofs.NumberLaws.{length-toBe}
 use Rattle.aes.specs.KeyExpansion.{aes}
 use Rattle.aes.specs.Keyed.{nkOf, inPlace}
 use Rattle.aes.proofs.KeyedLaws.{in-place-lawful}
 use Rattle.gcm.specs.Gcm.{textOf}
 use Rattle.gcm.specs.Keyed.{maxText, sealedInPlace}
+use Rattle.gcm.proofs.GcmLaws.{text-put}
 use Rattle.gcm.proofs.KeyedLaws.{in-place-seals}
 use Rattle.protocol.specs.Subkey.{sessionSubkey}
 use Rattle.datagram_parts.specs.declared.Side.{Side}
@@ -105,14 +106,6 @@ body-law key body sub n r id packet k h m es en er =
     er ∙ ap₂ (λ (x y : List ℕ). sealedInPlace x y body) es en
     ∙ in-place-seals (sessionSubkey key id) (nonce id packet) body l (length-nonce id packet) h long
 
--- a text at the front of a buffer with 16 bytes more
-pub text-law : (d p o : List ℕ) → length d ≡ length p + 16 → o ≡ put d 0 p → textOf o ≡ p
-unfolding textOf
-text-law d p o l e =
-    let h : 0 + length p ≤ length d = omega arith in
-    let n : length (put d 0 p) - 16 ≡ 0 + length p = omega (arith, l, length-put d 0 p h) in
-    ap textOf e ∙ ap (λ (k : ℕ). take k (put d 0 p)) n ∙ take-put d 0 p h
-
 pub sealed-law : (key body o r : List ℕ) (id packet : ℕ) (p : List ℕ) → length body ≡ length p + 16 → o ≡ put body 0 p
     → r ≡ sealBody key id packet (textOf o) → r ≡ sealBody key id packet p
-sealed-law key body o r id packet p l eo er = er ∙ ap (sealBody key id packet) (text-law body p o l eo)
+sealed-law key body o r id packet p l eo er = er ∙ ap (sealBody key id packet) (text-put body p o l eo)

@@ -1,7 +1,7 @@
 -- What a header that was read tells, and what gives a header: each test of the order came out well. And what the buffer holds.
 -- Assumes nothing.
 use mathlib.Core.Path.{_≡_, refl, sym, ap, _∙_}
-use mathlib.Core.Bool.{Bool, true, false, cond, _&&_}
+use mathlib.Core.Bool.{Bool, true, false, cond, _&&_, and-eq-true-iff}
 use mathlib.Core.List.{List}
 use Prim.Native.Nat.{ℕ, _+_, _-_, _≤_}
 use native.Mathlib.Omega.{arith}
@@ -36,10 +36,6 @@ isHeader (Refused r) = 0
 
 not-refused : (r : Refusal) (h : Header) → Refused r ≡ Datagram h → ⊥
 not-refused r h e = let z : _≡_ {A = ℕ} 0 1 = ap isHeader e in omega arith
-
-both-left : (a b : Bool) → (a && b) ≡ true → a ≡ true
-both-left true b e = refl
-both-left false b e = e
 
 record Passed (b : Bool) (x : Opened) (h : Header) : Type 0 where
   test : b ≡ true
@@ -86,23 +82,15 @@ pub record Opens (method : ℕ) (key : List ℕ) (side : Side) (clock : ℕ) (s 
   pub authentic : bodyAuthentic key (sessionOf key s) (packetOf key s) (drop 16 s) ≡ true
   pub main : Reads side clock (sessionOf key s) (packetOf key s) (bodyText key (sessionOf key s) (packetOf key s) (drop 16 s)) h
 
--- what a header that was read says of session and packet
+-- what a header that was read says of its session
 abbrev sessionIn : Opened → ℕ → ℕ
 sessionIn (Datagram h) other = h .session
 sessionIn (Refused r) other = other
-
-abbrev packetIn : Opened → ℕ → ℕ
-packetIn (Datagram h) other = h .packet
-packetIn (Refused r) other = other
 
 module _ (id packet time padding : ℕ) (h : Header) where
   with-session : (p : Parsed) → headerWith id packet time padding p ≡ Datagram h → h .session ≡ id
   with-session (Found a) e = sym (ap (λ (o : Opened). sessionIn o id) e)
   with-session NoAddress e = absurd (not-refused Malformed h e)
-
-  with-packet : (p : Parsed) → headerWith id packet time padding p ≡ Datagram h → h .packet ≡ packet
-  with-packet (Found a) e = sym (ap (λ (o : Opened). packetIn o packet) e)
-  with-packet NoAddress e = absurd (not-refused Malformed h e)
 
 module _ (method : ℕ) (key : List ℕ) (side : Side) (clock : ℕ) (s out : List ℕ) where
   abbrev id : ℕ
@@ -151,7 +139,7 @@ module _ (method : ℕ) (key : List ℕ) (side : Side) (clock : ℕ) (s out : Li
     module _ (d : Opens method key side clock s out h) where
       pub opens-long : 32 ≤ length s
       unfolding lengthLawful
-      opens-long = leb-true 32 (length s) (both-left _ _ (d .size))
+      opens-long = leb-true 32 (length s) (and-eq-true-iff _ _ .0 (d .size) .0)
 
       pub opens-room : length s - 32 ≤ length out
       opens-room = leb-true (length s - 32) (length out) (d .room)
@@ -159,10 +147,6 @@ module _ (method : ℕ) (key : List ℕ) (side : Side) (clock : ℕ) (s out : Li
       pub header-session : h .session ≡ id
       unfolding readAddress
       header-session = with-session id packet (timeOf plain) (paddingOf side plain) h (parseAt plain (fixedLength side + paddingOf side plain)) (d .main .address)
-
-      pub header-packet : h .packet ≡ packet
-      unfolding readAddress
-      header-packet = with-packet id packet (timeOf plain) (paddingOf side plain) h (parseAt plain (fixedLength side + paddingOf side plain)) (d .main .address)
 
       -- the plaintext is in the buffer
       pub opened-out : readOut method key side clock s out ≡ put out 0 plain

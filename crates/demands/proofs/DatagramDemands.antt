@@ -1,7 +1,7 @@
 -- Demands 1 and 2 for opened datagrams.
 -- Assumes nothing.
 use mathlib.Core.Path.{_≡_, refl, sym, ap, ap₂, _∙_, subst}
-use mathlib.Core.Bool.{Bool, true, false, _&&_}
+use mathlib.Core.Bool.{Bool, true, false, _&&_, and-false, true≢false}
 use mathlib.Core.List.{List}
 use mathlib.Core.Option.{Option, none, some}
 use Prim.Native.Nat.{ℕ, _+_, _-_, _≤_}
@@ -36,13 +36,9 @@ use Rattle.demands.proofs.DatagramReadBack.{payload-back}
 use Rattle.demands.proofs.DatagramSealing.{one-target, sealed-opens}
 use Rattle.datagram_read.proofs.ReadLaws.{Reads, Opens, answer-given, opened-out, length-plain, unlawful-out, forged-out, cleared-out}
 use Rattle.datagram_open.proofs.CallLaws.{expected-opener}
-use Rattle.demands.proofs.DatagramWays.{contrary, opened-same, not-both, read-same, not-read, among, among-answer, Way, unlawful, early, late, taken, way as way-of}
+use Rattle.demands.proofs.DatagramWays.{opened-same, not-both, read-same, not-read, among, among-answer, Way, unlawful, early, late, taken, way as way-of}
 
 -- ---- the tests of the arguments
-
-both-false : (b : Bool) → (b && false) ≡ false
-both-false true = refl
-both-false false = refl
 
 module _ (method : ℕ) (key s t out : List ℕ) where
   abbrev settings : Bool
@@ -58,22 +54,22 @@ module _ (method : ℕ) (key s t out : List ℕ) where
 
   stops : lawful t ≡ true → BeforeTag method key s t out → Stops
   unfolding lengthLawful
-  stops l (unlawful-table e) = absurd (contrary (lawful t) l e)
+  stops l (unlawful-table e) = absurd (true≢false (sym l ∙ e))
   stops l (other-key e) = by-settings (ap (λ (b : Bool). b && (sizes && leb (length s - 32) (length out))) e)
   stops l (too-short e) =
       by-settings
       (ap (λ (b : Bool). keyFits method (length key) && ((b && leb (length s) maxDatagram) && leb (length s - 32) (length out)))
       (lt-leb 32 (length s) e)
-      ∙ both-false (keyFits method (length key)))
+      ∙ and-false (keyFits method (length key)))
   stops l (too-long e) =
       by-settings
       (ap (λ (b : Bool). keyFits method (length key) && (b && leb (length s - 32) (length out)))
-      (ap (_&&_ (leb 32 (length s))) (lt-leb (length s) maxDatagram e) ∙ both-false (leb 32 (length s)))
-      ∙ both-false (keyFits method (length key)))
+      (ap (_&&_ (leb 32 (length s))) (lt-leb (length s) maxDatagram e) ∙ and-false (leb 32 (length s)))
+      ∙ and-false (keyFits method (length key)))
   stops l (no-room e) =
       by-settings
       (ap (λ (b : Bool). keyFits method (length key) && (sizes && b)) (lt-leb (length s - 32) (length out) e)
-      ∙ ap (_&&_ (keyFits method (length key))) (both-false sizes) ∙ both-false (keyFits method (length key)))
+      ∙ ap (_&&_ (keyFits method (length key))) (and-false sizes) ∙ and-false (keyFits method (length key)))
   stops l (forged e) = by-tag e
 
   lawful-settings : Lawful method key s t out → settings ≡ true
@@ -136,8 +132,8 @@ module _ (method : ℕ) (key : List ℕ) (client : Option ℕ) (clock : ℕ) (pe
   way = way-of method key client clock peer s t out
 
   not-stopped : (h : Header) → Opens method key side clock s out h → Stops method key s t out → ⊥
-  not-stopped h d (by-settings e) = contrary (settings method key s t out) (λ i. d .fits i && (d .size i && d .room i)) e
-  not-stopped h d (by-tag e) = contrary (tagGood key s) (d .authentic) e
+  not-stopped h d (by-settings e) = true≢false (sym (λ i. d .fits i && (d .size i && d .room i)) ∙ e)
+  not-stopped h d (by-tag e) = true≢false (sym (d .authentic) ∙ e)
 
   answered : Answered answer
   answered = go way
@@ -183,7 +179,7 @@ module _ (method : ℕ) (key : List ℕ) (client : Option ℕ) (clock : ℕ) (pe
   cleared-after-tag w a n e = go way
     where
       go : Ways → buffer ≡ put out 0 zeros
-      go (unlawful l ea eb et) = absurd (contrary (lawful t) (w .table) l)
+      go (unlawful l ea eb et) = absurd (true≢false (sym (w .table) ∙ l))
       go (early l r er ea eb et) = eb ∙ cleared-out method key side clock s out (lawful-settings method key s t out w) a r er (w .room)
       go (late l h d x r o ea eb et) = eb
       go (taken l h d x ea eb) = absurd (not-both n h answer e ea)
@@ -295,7 +291,7 @@ module _ (method : ℕ) (key : List ℕ) (client : Option ℕ) (clock : ℕ) (pe
       go : Way method key client clock peer s t out
           → (openAnswer method key client clock peer s t out ≡ opened h)
           × (openOut method key client clock peer s t out ≡ readOut method key (expected client) clock s out)
-      go (unlawful f ea eb et) = absurd (contrary (lawful t) l f)
+      go (unlawful f ea eb et) = absurd (true≢false (sym l ∙ f))
       go (early l r er ea eb et) = absurd (not-read r h (readAnswer method key (expected client) clock s out) er e)
       go (late l g d x r o ea eb et) =
           absurd (x (subst (λ (y : Header). Enters t clock (y .session) (y .packet)) (sym (same g d)) n))

@@ -2,12 +2,12 @@
 -- the whole. For every key length of AES.
 -- Assumes nothing.
 use mathlib.Core.Path.{_≡_, refl, sym, ap, ap₂, _∙_}
-use mathlib.Core.Bool.{Bool, true, false, cond, _&&_}
+use mathlib.Core.Bool.{true, cond, _&&_}
 use mathlib.Core.List.{List, [], _∷_, _++_, append-assoc}
 use Prim.Native.Nat.{ℕ, _+_, _-_, _^_, _≤_, _<_}
 use native.Mathlib.Nat.{mod-eq-of-lt}
 use native.Mathlib.Omega.{arith}
-use lib.Dec.{T, eqb, leb}
+use lib.Dec.{eqb, leb}
 use lib.ListN.{length, getD, drop, replicate, length-append, length-replicate}
 use lib.Seq.{take-at, drop-at, drop-drop, drop-append-seam}
 use borrow.Author.Tests.{eq-eqb, le-leb}
@@ -20,7 +20,7 @@ use Rattle.aes.specs.Keyed.{nkOf}
 use Rattle.aes_inverse.specs.InvCipher.{invAes}
 use Rattle.aes_inverse.proofs.Inverse.{inv-aes-undoes}
 use Rattle.gcm.specs.Gcm.{seal}
-use Rattle.gcm.specs.Keyed.{ciphOf, authentic}
+use Rattle.gcm.specs.Keyed.{ciphOf}
 use Rattle.gcm.proofs.GcmLaws.{seal-authentic, open-seal, authentic-exactly}
 use Rattle.protocol.specs.Method.{keyFits}
 use Rattle.protocol.specs.declared.Refusal.the-variants.{Settings, Length, Room, NotAuthentic, Malformed, WrongType, WrongTime, Binding}
@@ -74,10 +74,6 @@ module _ (key : List ℕ) (p : Octets key) (id packet : ℕ) (rest : List ℕ) w
 
 -- ---- the body
 
-test-true : (b : Bool) → T b → b ≡ true
-test-true true t = refl
-test-true false t = absurd t
-
 pub body-back : (key : List ℕ) (id packet : ℕ) (text : List ℕ)
     → (bodyAuthentic key id packet (sealBody key id packet text) ≡ true) × (bodyText key id packet (sealBody key id packet text) ≡ text)
 unfolding bodyAuthentic bodyText sealBody
@@ -85,7 +81,7 @@ body-back key id packet text =
     let ciph = ciphOf (sessionSubkey key id) in
     let n = nonce id packet in
     let s = seal ciph n text in
-    (test-true (authentic ciph n s) (authentic-exactly ciph n s .1 (seal-authentic ciph n text)), open-seal ciph n text)
+    (authentic-exactly ciph n s .1 (seal-authentic ciph n text), open-seal ciph n text)
 
 -- ---- the main header
 

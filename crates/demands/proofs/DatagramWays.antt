@@ -34,9 +34,6 @@ use Rattle.datagram_open.proofs.CallLaws.{unlawful-call, refused-call, entered-
 
 -- ---- telling answers apart
 
-pub contrary : (b : Bool) → b ≡ true → b ≡ false → ⊥
-contrary b e f = let z : _≡_ {A = ℕ} 1 0 = ap (λ (x : Bool). cond x 1 0) (sym e ∙ f) in omega arith
-
 abbrev headerIn : Answer Header → Header → Header
 headerIn (opened h) other = h
 headerIn (refused n) other = other

@@ -1,19 +1,20 @@
 -- Demand 1, of every call.
 -- Assumes nothing.
 use mathlib.Core.Path.{_≡_, refl, sym, ap, _∙_}
-use mathlib.Core.Bool.{Bool, true, false, cond, _&&_}
-use mathlib.Core.List.{List, [], _∷_}
-use Prim.Native.Nat.{ℕ, _+_, _*_, _≤_}
+use mathlib.Core.Bool.{Bool, true, false, cond, and-eq-true-iff}
+use mathlib.Core.List.{List, []}
+use Prim.Native.Nat.{ℕ, _*_, _≤_}
 use native.Mathlib.Nat.{add-zero}
 use native.Mathlib.Omega.{arith}
 use lib.Dec.{eqb}
-use lib.ListN.{length, drop, replicate, length-replicate}
+use lib.ListN.{length, drop, length-replicate}
 use borrow.Author.Tests.{eqb-true, eqb-false}
 use Rattle.octets.proofs.BufferLaws.{length-put}
 use Rattle.protocol.specs.declared.Refusal.{Refusal}
 use Rattle.protocol.specs.declared.Refusal.the-variants.{Argument}
 use Rattle.protocol.specs.Refusal.{refusalNumber, wantedBytes}
-use Rattle.session.specs.Table.{recordWords, tableWords, newTable, makeLawful, madeRetention, made}
+use Rattle.session.specs.Table.{recordWords, tableWords, newTable, makeLawful, madeRetention}
+use Rattle.session.proofs.TableLaws.{new-length}
 use Rattle.session.specs.Sizes.{capacity}
 use Rattle.pool.specs.Pool as pool
 use Rattle.datagram_parts.specs.declared.Side.the-variants.{Server}
@@ -24,8 +25,8 @@ use Rattle.datagram.specs.declared.Sealed.{Sealed}
 use Rattle.datagram.specs.declared.Sealed.the-variants.{Datagram, Refused}
 use Rattle.datagram.specs.Sealing.{begun, sealAnswer, sealNext, datagram, sealOut}
 use Rattle.datagram.proofs.AnswerLaws.{sealable}
-use Rattle.demands.specs.Demand1.{SealAnswered, sealed, refused, SealKeeps, DatagramsSealed, BeginAnswered, begins, refused-12, SessionsBegun, Made, Demand1}
-use Rattle.demands.specs.Orders.{saidSealed, sealOrder, datagramBytes}
+use Rattle.demands.specs.Demand1.{SealAnswered, sealed, refused, SealKeeps, BeginAnswered, begins, refused-12, Made, Demand1}
+use Rattle.demands.specs.Orders.{saidSealed, sealOrder}
 use Rattle.demands.proofs.DatagramDemands.{openers-keep}
 use Rattle.demands.proofs.DatagramSealing.{answers-length, writes-length}
 use Rattle.demands.proofs.OrderLaws.{of-order}
@@ -92,11 +93,6 @@ begins-or-12 id client = go (eqb id client) refl
 
 -- ---- making
 
--- a test of a length that is passed, whatever stands beside it
-and-left : (a b : Bool) → (a && b) ≡ true → a ≡ true
-and-left true b e = refl
-and-left false b e = e
-
 -- words of their own length, or those lent: n words in place of as many
 made-length : (b : Bool) (new t : List ℕ) → (b ≡ true → length new ≡ length t) → length (cond b new t) ≡ length t
 made-length true new t e = e refl
@@ -107,15 +103,12 @@ tables-made =
     record {
       table-refused = λ R t e. ap (λ (b : Bool). cond b (newTable (madeRetention R)) t) e;
       table-length = λ R t. made-length (makeLawful R t) (newTable (madeRetention R)) t
-          (λ e. table-words (madeRetention R) ∙ sym (eqb-true (length t) tableWords (and-left (eqb (length t) tableWords) _ e)));
+          (λ e. new-length (madeRetention R) ∙ sym (eqb-true (length t) tableWords (and-eq-true-iff (eqb (length t) tableWords) _ .0 e .0)));
       pool-refused = λ method t e. ap (λ (b : Bool). cond b (pool.newPool method) t) e;
       pool-length = λ method t. made-length (pool.makeLawful method t) (pool.newPool method) t
-          (λ e. pool-words method ∙ sym (eqb-true (length t) pool.poolWords (and-left (eqb (length t) pool.poolWords) _ e)));
+          (λ e. pool-words method ∙ sym (eqb-true (length t) pool.poolWords (and-eq-true-iff (eqb (length t) pool.poolWords) _ .0 e .0)));
     }
   where
-    table-words : (R : ℕ) → length (newTable R) ≡ tableWords
-    table-words R = omega (arith, length-replicate {A = ℕ} (capacity * recordWords) 0)
-
     pool-words : (method : ℕ) → length (pool.newPool method) ≡ pool.poolWords
     pool-words method = omega (arith, length-replicate {A = ℕ} (pool.capacity * pool.recordWords) 0)
 

@@ -1,7 +1,7 @@
 -- Demand 3 for the openers, for every method and key.
 -- Assumes nothing.
 use mathlib.Core.Path.{_≡_, refl, sym, ap, _∙_}
-use mathlib.Core.Bool.{Bool, true, false, cond, _&&_}
+use mathlib.Core.Bool.{Bool, cond, _&&_, and-false}
 use mathlib.Core.List.{List}
 use mathlib.Core.Option.{none, some}
 use Prim.Native.Nat.{ℕ, _≤_}
@@ -60,10 +60,6 @@ module _ (method : ℕ) (key : List ℕ) where
             ∙ ap (λ (b : Bool). cond b (some (sessionOf key (c .datagram))) none) (and-false (keyFits method (length key)));
         no-key = λ c e. ap (λ (b : Bool). cond (b && leb 16 (length (c .datagram))) (some (sessionOf key (c .datagram))) none) e;
       }
-    where
-      and-false : (b : Bool) → (b && false) ≡ false
-      and-false true = refl
-      and-false false = refl
 
   pub demand3 : Demand3 method key
   demand3 =

@@ -1,11 +1,11 @@
 -- When exactly a head is accepted, and what each way out of its call leaves.
 -- Assumes nothing.
 use mathlib.Core.Path.{_≡_, refl, sym, ap, _∙_, subst}
-use mathlib.Core.Bool.{Bool, true, false, cond, not, _&&_}
+use mathlib.Core.Bool.{Bool, true, false, cond, not, _&&_, and-eq-true-iff}
 use mathlib.Core.List.{List}
 use Prim.Native.Nat.{ℕ, _+_, _≤_}
 use native.Mathlib.Omega.{arith}
-use lib.Dec.{T, eqb, leb, ltb}
+use lib.Dec.{eqb, leb, ltb}
 use lib.ListN.{length, getD, take, drop, replicate, length-drop, length-replicate}
 use lib.Seq.{length-take-le}
 use borrow.Author.Tests.{eq-eqb, le-leb, lt-ltb, leb-true, ltb-true, eqb-true}
@@ -46,7 +46,6 @@ use Rattle.request_open.specs.Requests.{paddingAt, paddingFits, headerWith, rea
 use Rattle.demands.specs.StreamsKeep.{saltOf, ofRequest, ofFront, ofResponse, dueOf, ResponseAnswered, accepted-response, refused-response}
 use Rattle.demands.specs.StreamsOpen.{FixedOpens, ValidVariable, variableAt, HeadOpens, RequestOpens, RequestExactlyWhen, ResponseOpens, ResponseExactlyWhen}
 use Rattle.stream.proofs.LengthLaws.{length-openAt}
-use Rattle.demands.proofs.StreamReadBack.{test-true, both-left, both-right}
 
 -- ---- the fixed header
 
@@ -161,17 +160,16 @@ module _ (f : Fixed) (used : ℕ) (plain : List ℕ) where
       let e₁ =
       read-passed
       (leb (a .end + 2) (length plain) && (leb (paddingAt (a .end) plain) maxPadding && (leb (a .end + 2 + paddingAt (a .end) plain) (length plain) && ltb (a .end + 2) (length plain)))) _ _ h e in
-      let b₁ = both-right (leb (a .end + 2) (length plain)) _ (e₁ .test) in
-      let b₂ = both-right (leb (paddingAt (a .end) plain) maxPadding) _ b₁ in
+      let b₁ = and-eq-true-iff (leb (a .end + 2) (length plain)) _ .0 (e₁ .test) in
+      let b₂ = and-eq-true-iff (leb (paddingAt (a .end) plain) maxPadding) _ .0 (b₁ .1) in
+      let b₃ = and-eq-true-iff (leb (a .end + 2 + paddingAt (a .end) plain) (length plain)) _ .0 (b₂ .1) in
       record {
         address = a;
         address-found = found;
-        length-there = leb-true (a .end + 2) (length plain) (both-left (leb (a .end + 2) (length plain)) _ (e₁ .test));
-        padding-short = leb-true (paddingAt (a .end) plain) maxPadding (both-left (leb (paddingAt (a .end) plain) maxPadding) _ b₁);
-        padding-there =
-            leb-true (a .end + 2 + paddingAt (a .end) plain) (length plain)
-            (both-left (leb (a .end + 2 + paddingAt (a .end) plain) (length plain)) _ b₂);
-        not-bare = ltb-true (a .end + 2) (length plain) (both-right (leb (a .end + 2 + paddingAt (a .end) plain) (length plain)) _ b₂);
+        length-there = leb-true (a .end + 2) (length plain) (b₁ .0);
+        padding-short = leb-true (paddingAt (a .end) plain) maxPadding (b₂ .0);
+        padding-there = leb-true (a .end + 2 + paddingAt (a .end) plain) (length plain) (b₃ .0);
+        not-bare = ltb-true (a .end + 2) (length plain) (b₃ .1);
         says = sym (ap (λ (x : RequestRead). headerIn x h) (e₁ .then));
       }
   with-tells NoAddress h found e = absurd (not-header Malformed h e)
@@ -355,8 +353,8 @@ module _ (k : List ℕ) (clock n : ℕ) (s pool out : List ℕ) where
   by-fixed (Read f) ex = by-met f ex met refl
   by-fixed (Unread r) ex =
       let o = ap ofFixed (sym ex) ∙ fixed-refusals k 0 clock (fixedOf n 0 s) in
-      let q = both-right (ofFront r) _ o in
-      stop r (both-left (ofRequest r) _ q) (both-right (ofResponse r) _ (both-right (ofRequest r) _ q)) (read-by met (Unread r) refl ex)
+      let q = and-eq-true-iff (ofRequest r) _ .0 (and-eq-true-iff (ofFront r) _ .0 o .1) in
+      stop r (q .0) (and-eq-true-iff (ofResponse r) _ .0 (q .1) .1) (read-by met (Unread r) refl ex)
       (out-by met (Unread r) refl ex)
 
   pub head-way : HeadWay
@@ -501,10 +499,6 @@ response-passed : (b : Bool) (x : ResponseOpened) (r : Refusal) (h : Response) (
 response-passed true x r h st e = record { test = refl; then = e }
 response-passed false x r h st e = absurd (not-answered r h st e)
 
-of-true : (b : Bool) → b ≡ true → T b
-of-true true e = tt
-of-true false e = absurd (let z : _≡_ {A = ℕ} 0 1 = cc in omega arith)
-
 abbrev amongResponses : ResponseOpened → Bool
 amongResponses (Answered h st) = true
 amongResponses (Unanswered r) = ofResponse r
@@ -536,7 +530,7 @@ module _ (method : ℕ) (key : List ℕ) (clock : ℕ) (requestSalt s : List ℕ
         time = f .time;
         size = f .length;
         fixed-opens = fixed-tells response-key 1 clock (fixedOf salts salts s) f ef;
-        for-us = same-eq _ requestSalt (of-true ours (e₁ .test));
+        for-us = same-eq _ requestSalt (e₁ .test);
         says = sym (ap (λ (x : ResponseOpened). responseIn x h) (e₁ .then));
         stream = sym (ap (λ (x : ResponseOpened). responseStream x st) (e₁ .then));
       }
@@ -557,7 +551,7 @@ module _ (method : ℕ) (key : List ℕ) (clock : ℕ) (requestSalt s : List ℕ
       let es = eq-eqb (length requestSalt) salts long in
       let ew = le-leb (frontLength salts salts) (length s) (d .front-whole) in
       let ef = fixed-given response-key 1 clock (fixedOf salts salts s) (d .time) (d .size) (d .fixed-opens) in
-      let eo = ap (λ (x : List ℕ). same x requestSalt) (d .for-us) ∙ test-true (same requestSalt requestSalt) (same-refl requestSalt) in
+      let eo = ap (λ (x : List ℕ). same x requestSalt) (d .for-us) ∙ same-refl requestSalt in
       (λ i. cond (fits i && es i)
       (cond (ew i) (boundAs method (subkeyWords response-key) (frontLength salts salts) (eo i) (ef i))
       (Unanswered (More (frontLength salts salts)))) (Unanswered Settings))
@@ -567,7 +561,7 @@ module _ (method : ℕ) (key : List ℕ) (clock : ℕ) (requestSalt s : List ℕ
       → amongResponses (boundAs method (subkeyWords response-key) (frontLength salts salts) b x) ≡ true
   bound-among true (Read f) o = refl
   bound-among false (Read f) o = refl
-  bound-among b (Unread r) o = both-left (ofResponse r) _ (both-right (ofRequest r) _ (both-right (ofFront r) _ o))
+  bound-among b (Unread r) o = and-eq-true-iff (ofResponse r) _ .0 (and-eq-true-iff (ofRequest r) _ .0 (and-eq-true-iff (ofFront r) _ .0 o .1) .1) .0
 
   among-response : amongResponses (openedResponse method key clock requestSalt s) ≡ true
   unfolding openedResponse responseAt boundOf

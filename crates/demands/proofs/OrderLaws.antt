@@ -1,7 +1,7 @@
 -- A nest of tests as a list of rules, one rule at a time; and the conditions of the rules, as the definitions test them.
 -- Assumes nothing.
 use mathlib.Core.Path.{_≡_, refl, sym, ap, ap₂, _∙_}
-use mathlib.Core.Bool.{Bool, true, false, cond, not, _&&_, _||_}
+use mathlib.Core.Bool.{Bool, true, false, cond, not, _&&_, _||_, or-true, or-false, and-false}
 use mathlib.Core.List.{List, [], _∷_, map}
 use Prim.Native.Nat.{ℕ, _+_, _≤_, _<_}
 use native.Mathlib.Omega.{arith}
@@ -22,10 +22,6 @@ refusing (gives v) = 0
 abbrev numberIn : {B : Type 0} → Said B → ℕ
 numberIn (refuses n adds) = n
 numberIn (gives v) = 0
-
-or-true : (b : Bool) → (b || true) ≡ true
-or-true true = refl
-or-true false = refl
 
 -- ---- one rule
 
@@ -97,10 +93,6 @@ eqb-turned a b = go (eqb b a) refl
     go : (x : Bool) → eqb b a ≡ x → eqb a b ≡ x
     go true e = eq-eqb a b (sym (eqb-true b a e))
     go false e = ne-eqb a b (λ f. eqb-false b a e (sym f))
-
-or-false : (b : Bool) → (b || false) ≡ b
-or-false true = refl
-or-false false = refl
 
 pub other-key : (method k : ℕ) → otherKey method k ≡ not (keyFits method k)
 unfolding keyFits methodOf
@@ -176,14 +168,10 @@ same-ids (Server client) id = not-not (eqb id client)
 bare : (l e n : ℕ) → e + 2 + n ≤ l → (eqb n 0 && eqb l (e + 2)) ≡ not (ltb (e + 2) l)
 bare l e n h = go (ltb (e + 2) l) refl
   where
-    both-false : (b : Bool) → (b && false) ≡ false
-    both-false true = refl
-    both-false false = refl
-
     go : (x : Bool) → ltb (e + 2) l ≡ x → (eqb n 0 && eqb l (e + 2)) ≡ not x
     go true f =
         let k : e + 2 < l = ltb-true (e + 2) l f in
-        ap (_&&_ (eqb n 0)) (ne-eqb l (e + 2) (λ z. omega arith)) ∙ both-false (eqb n 0)
+        ap (_&&_ (eqb n 0)) (ne-eqb l (e + 2) (λ z. omega arith)) ∙ and-false (eqb n 0)
     go false f =
         let k : l ≤ e + 2 = ltb-false (e + 2) l f in
         let en : n ≡ 0 = omega arith in

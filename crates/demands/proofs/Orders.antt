@@ -1,6 +1,6 @@
 -- Each call answers by its order.
 -- Assumes nothing.
-use mathlib.Core.Path.{_≡_, refl, sym, ap, ap₂, _∙_}
+use mathlib.Core.Path.{_≡_, refl, sym, ap, _∙_}
 use mathlib.Core.Bool.{Bool, true, false, cond, not, _&&_, _||_, false≢true}
 use mathlib.Core.List.{List, [], _∷_}
 use mathlib.Core.Option.{Option, none, some}
@@ -95,9 +95,6 @@ module _ (method : ℕ) (key : List ℕ) (client : Option ℕ) (clock : ℕ) (pe
   -- what is said where the arguments came to this answer
   abbrev said : Opened → Said Header
   said a = saidOpened (tableOutcomeBy (decidedBy a (readOut method key side clock s out) plain) t call .answer)
-
-  abbrev value : Header
-  value = openedHeader method key client clock s t out
 
   abbrev entry : List Rule
   entry =

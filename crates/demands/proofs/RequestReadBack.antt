@@ -1,7 +1,7 @@
 -- What the head of a request was sealed from is read back from it: each field, the payload, and the stream's state.
 -- Assumes nothing.
 use mathlib.Core.Path.{_≡_, refl, sym, ap, ap₂, _∙_}
-use mathlib.Core.Bool.{true, cond, _&&_}
+use mathlib.Core.Bool.{true, cond, _&&_, and-eq-true-iff}
 use mathlib.Core.List.{List, [], _++_, append-assoc}
 use Prim.Native.Nat.{ℕ, _+_, _^_, _≤_, _<_}
 use native.Mathlib.Nat.{zero-add}
@@ -42,7 +42,7 @@ use Rattle.request_open.specs.Requests.{paddingAt, paddingFits, headerWith, rea
 use Rattle.demands.specs.StreamsBack.{partner, requestHeader, RequestBack, RequestsGivenBack}
 use Rattle.stream.proofs.LengthLaws.{length-sealAt}
 use Rattle.head_seal.proofs.HeadLengthLaws.{length-front, length-variablePart, length-requestAt}
-use Rattle.demands.proofs.StreamReadBack.{piece-back, both-left, both-right, answers, Sized, sized, salt-back, front-whole, behind-front, fixed-back}
+use Rattle.demands.proofs.StreamReadBack.{piece-back, answers, Sized, sized, salt-back, front-whole, behind-front, fixed-back}
 
 -- ---- the variable header of a request
 
@@ -129,13 +129,15 @@ unfolding requestAnswer sizesFit paddingLawful
 requests method key salt address padding payload room n next e =
     let e₁ = answers (keyFits method (length key) && eqb (length salt) (saltLength method)) _ _ n next e in
     let e₂ = answers (isAddress address && (leb padding maxPadding && ltb 0 (padding + payload))) _ _ n next (e₁ .then) in
-    let pads = both-right (isAddress address) _ (e₂ .test) in
+    let keyed = and-eq-true-iff (keyFits method (length key)) _ .0 (e₁ .test) in
+    let asked = and-eq-true-iff (isAddress address) _ .0 (e₂ .test) in
+    let pads = and-eq-true-iff (leb padding maxPadding) _ .0 (asked .1) in
     record {
-      fits = both-left (keyFits method (length key)) _ (e₁ .test);
-      salt-fits = eqb-true (length salt) (saltLength method) (both-right (keyFits method (length key)) _ (e₁ .test));
-      one-address = both-left (isAddress address) _ (e₂ .test);
-      padding-short = leb-true padding maxPadding (both-left (leb padding maxPadding) _ pads);
-      filled = ltb-true 0 (padding + payload) (both-right (leb padding maxPadding) _ pads);
+      fits = keyed .0;
+      salt-fits = eqb-true (length salt) (saltLength method) (keyed .1);
+      one-address = asked .0;
+      padding-short = leb-true padding maxPadding (pads .0);
+      filled = ltb-true 0 (padding + payload) (pads .1);
       sizes = sized (variableLength (length address) padding payload) (length salt + 27) room (begun method key salt) n next (e₂ .then);
     }
 

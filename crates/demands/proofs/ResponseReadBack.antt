@@ -1,7 +1,7 @@
 -- What the head of a response was sealed from is read back from it, and its first payload by the next step.
 -- Assumes nothing.
 use mathlib.Core.Path.{_≡_, refl, sym, ap, ap₂, _∙_}
-use mathlib.Core.Bool.{true, false, cond, _&&_}
+use mathlib.Core.Bool.{true, false, cond, _&&_, and-eq-true-iff}
 use mathlib.Core.List.{List, _++_, append-assoc}
 use mathlib.Core.Logic.{⊎-elim}
 use Prim.Native.Nat.{ℕ, _+_, _^_, _≤_, _<_}
@@ -22,14 +22,13 @@ use Rattle.stream.specs.Pieces.{sealAt, openAt, subkeyWords, keyOf}
 use Rattle.stream.specs.Sealing.{lastCounter}
 use Rattle.head_seal.specs.HeadSealing.{front, responseOf, response, begun, sizesFit, responseAnswer}
 use Rattle.stream_open.specs.declared.Turn.the-variants.{Length, Payload}
-use Rattle.stream_open.specs.declared.Receiver.{Receiver}
 use Rattle.response_open.specs.declared.FixedRead.the-variants.{Read}
 use Rattle.response_open.specs.declared.ResponseOpened.the-variants.{Accepted as Answered, Refused as NoResponse}
 use Rattle.response_open.specs.Heads.{frontLength, fixedOf, receiver, openFixed, bindingOf, boundAs, boundOf, responseAt, openedResponse}
 use Rattle.stream_open.specs.Chunks.{stepAnswer, stepOut}
 use Rattle.demands.specs.StreamsBack.{ResponseBack, ResponsesGivenBack}
 use Rattle.head_seal.proofs.HeadLengthLaws.{length-responseOf}
-use Rattle.demands.proofs.StreamReadBack.{test-true, both-left, both-right, answers, Sized, sized, sent-behind, payload-step, payload-out, salt-back, front-whole, behind-front, binding-back, fixed-back, stream-key}
+use Rattle.demands.proofs.StreamReadBack.{answers, Sized, sized, sent-behind, payload-step, payload-out, salt-back, front-whole, behind-front, binding-back, fixed-back, stream-key}
 
 -- ---- the head of a response
 
@@ -44,11 +43,12 @@ pub responds : (method : ℕ) (key salt binding : List ℕ) (payload room n : �
 unfolding responseAnswer sizesFit
 responds method key salt binding payload room n next e =
     let e₁ = answers ((keyFits method (length key) && eqb (length salt) (saltLength method)) && eqb (length binding) (length salt)) _ _ n next e in
-    let sizes-fit = both-left (keyFits method (length key) && eqb (length salt) (saltLength method)) _ (e₁ .test) in
+    let bound = and-eq-true-iff (keyFits method (length key) && eqb (length salt) (saltLength method)) _ .0 (e₁ .test) in
+    let keyed = and-eq-true-iff (keyFits method (length key)) _ .0 (bound .0) in
     record {
-      fits = both-left (keyFits method (length key)) _ sizes-fit;
-      salt-fits = eqb-true (length salt) (saltLength method) (both-right (keyFits method (length key)) _ sizes-fit);
-      binding-fits = eqb-true (length binding) (length salt) (both-right (keyFits method (length key) && eqb (length salt) (saltLength method)) _ (e₁ .test));
+      fits = keyed .0;
+      salt-fits = eqb-true (length salt) (saltLength method) (keyed .1);
+      binding-fits = eqb-true (length binding) (length salt) (bound .1);
       sizes = sized payload (length salt + 27 + length binding) room (begun method key salt) n next (e₁ .then);
     }
 
@@ -123,7 +123,7 @@ module _ (method : ℕ) (key salt binding : List ℕ) (time : ℕ) (payload : Li
           (receiver method (Payload (length payload)) 1 (subkeyWords response-key))
       unfolding responseAt boundOf
       head-accepted later valid =
-          let ours = ap (λ (x : List ℕ). same x binding) binding-here ∙ test-true (same binding binding) (same-refl binding) in
+          let ours = ap (λ (x : List ℕ). same x binding) binding-here ∙ same-refl binding in
           (λ i. boundAs method (subkeyWords response-key) (frontLength salts salts) (ours i) (header-here later valid i))
 
       response-accepted : (later : ℕ) → timeValid time later ≡ true
@@ -139,9 +139,6 @@ module _ (method : ℕ) (key salt binding : List ℕ) (time : ℕ) (payload : Li
           ∙ head-accepted later valid
 
       -- the payload's step
-      abbrev waiting : Receiver
-      waiting = receiver method (Payload (length payload)) 1 (subkeyWords response-key)
-
       same-key : keyOf (subkeyWords response-key) (keyLength method) ≡ response-key
       same-key = stream-key method key salt (response-facts .fits)
 

@@ -1,7 +1,7 @@
 -- A salt that was accepted is not accepted again while it is kept.
 -- Assumes nothing.
 use mathlib.Core.Path.{_≡_, refl, sym, ap, ap₂, _∙_}
-use mathlib.Core.Bool.{Bool, true, false, _&&_}
+use mathlib.Core.Bool.{Bool, true, false, _&&_, and-eq-true-iff}
 use mathlib.Core.List.{List, [], _∷_, _++_}
 use Prim.Native.Nat.{ℕ}
 use lib.Dec.{eqb, leb}
@@ -15,7 +15,7 @@ use Rattle.pool.specs.declared.Met.{Met}
 use Rattle.pool.specs.declared.Met.the-variants.{Room as Free, Replay as Known, Full as NoRoom}
 use Rattle.pool.specs.Pool.{poolWords, lawful, meet}
 use Rattle.pool.specs.Runs.{Item, nextBy, next, run, Forward}
-use Rattle.pool.proofs.StoreLaws.{and-left, lawful-store}
+use Rattle.pool.proofs.StoreLaws.{lawful-store}
 use Rattle.pool.proofs.RunLaws.{never-twice-forward}
 use Rattle.stream.specs.Pieces.{subkeyWords}
 use Rattle.stream_open.specs.declared.Receiver.{Receiver}
@@ -28,7 +28,6 @@ use Rattle.response_open.specs.Heads.{frontLength, fixedOf, openFixed}
 use Rattle.request_open.specs.Requests.{openedAs, settings, requestPool}
 use Rattle.demands.specs.StreamsKeep.{ofFront, saltOf}
 use Rattle.demands.specs.SaltsOnce.{HeadCall, headAnswer, poolAfter, ForwardCalls, ReplayOrEarlier, replayed, front-missing, front-refused, NoSaltTwice}
-use Rattle.demands.proofs.StreamReadBack.{both-left, both-right}
 use Rattle.demands.proofs.HeadTells.{ofFixed, not-read, fixed-given, fixed-refusals, read-by, not-accepted, answer-by, Way, refused, zeroed, accepted, way, request-tells}
 
 -- ---- calls as the pool sees them
@@ -139,7 +138,7 @@ module _ (method : ℕ) (key : List ℕ) where
         (read-by stream-key (c .clock) (saltLength method) (c .bytes) pool (c .buffer) Known (Read f) kept ex))
     by-fixed eb (Unread r) ex =
         front-refused r
-        (both-left (ofFront r) _ (ap ofFixed (sym ex) ∙ fixed-refusals stream-key 0 (c .clock) (fixedOf (saltLength method) 0 (c .bytes))))
+        (and-eq-true-iff (ofFront r) _ .0 (ap ofFixed (sym ex) ∙ fixed-refusals stream-key 0 (c .clock) (fixedOf (saltLength method) 0 (c .bytes))) .0)
         (λ time size d. not-read r (record { time = time; length = size })
         (sym ex ∙ fixed-given stream-key 0 (c .clock) (fixedOf (saltLength method) 0 (c .bytes)) time size d))
         (answer-by method key (c .clock) (c .bytes) pool (c .buffer) true true fits eb
@@ -170,8 +169,8 @@ no-salt-twice method key pool before between x y h st e f same-salt soon =
     let p = poolAfter method key pool (before ++ x ∷ between) in
     let d = request-tells method key (x .clock) (x .bytes) p₀ (x .buffer) h st e in
     let fits = lawful-settings method key p₀ x h st e in
-    let made : lawful pool method ≡ true = sym (lawful-after method key pool before) ∙ both-right (keyFits method (length key)) _ fits in
-    let size : length pool ≡ poolWords = eqb-true (length pool) poolWords (and-left (eqb (length pool) poolWords) _ made) in
+    let made : lawful pool method ≡ true = sym (lawful-after method key pool before) ∙ and-eq-true-iff (keyFits method (length key)) _ .0 fits .1 in
+    let size : length pool ≡ poolWords = eqb-true (length pool) poolWords (and-eq-true-iff (eqb (length pool) poolWords) _ .0 made .0) in
     let there : run pool (items method key pool before) ≡ p₀ = run-is method key pool before in
     let met =
     never-twice-forward pool (items method key pool before) (items method key (poolNext method key p₀ x) between) (itemOn method key p₀ x)
@@ -183,6 +182,6 @@ no-salt-twice method key pool before between x y h st e f same-salt soon =
     (sym (run-is method key pool (before ++ x ∷ between)) ∙ ap (run pool) (items-append method key pool before (x ∷ between)))
     ∙ met in
     let lawful-there : (keyFits method (length key) && lawful p method) ≡ true =
-    ap₂ _&&_ (both-left (keyFits method (length key)) _ fits) (lawful-after method key pool (before ++ x ∷ between) ∙ made) in
+    ap₂ _&&_ (and-eq-true-iff (keyFits method (length key)) _ .0 fits .0) (lawful-after method key pool (before ++ x ∷ between) ∙ made) in
     let answer = kept-refused method key p y lawful-there kept in
     record { not-accepted = never-accepted method key p y answer; answer = answer }

@@ -2,13 +2,13 @@
 -- length of AES.
 -- Assumes nothing.
 use mathlib.Core.Path.{_≡_, refl, sym, ap, ap₂, _∙_}
-use mathlib.Core.Bool.{Bool, true, false, cond, _&&_}
+use mathlib.Core.Bool.{Bool, true, false, cond}
 use mathlib.Core.List.{List, _++_, append-assoc}
 use mathlib.Core.Logic.{inl, inr, ⊎-elim}
 use Prim.Native.Nat.{ℕ, _+_, _-_, _^_, _≤_, _<_}
 use native.Mathlib.Nat.{mod-eq-of-lt}
 use native.Mathlib.Omega.{arith}
-use lib.Dec.{T, eqb, leb, ltb}
+use lib.Dec.{eqb, leb, ltb}
 use lib.ListN.{length, take, drop, length-append}
 use lib.Seq.{take-at, drop-at, drop-drop, drop-append-seam}
 use borrow.Author.Tests.{eq-eqb, ne-eqb, le-leb, leb-true, ltb-true}
@@ -16,7 +16,7 @@ use Rattle.octets.specs.Buffers.{put}
 use Rattle.octets.specs.Numbers.{be, toBe}
 use Rattle.octets.proofs.NumberLaws.{length-toBe, be-toBe, be-front}
 use Rattle.gcm.specs.Gcm.{seal}
-use Rattle.gcm.specs.Keyed.{ciphOf, authentic}
+use Rattle.gcm.specs.Keyed.{ciphOf}
 use Rattle.gcm.proofs.GcmLaws.{seal-authentic, open-seal, authentic-exactly}
 use Rattle.protocol.specs.Method.{keyFits, keyLength}
 use Rattle.protocol.specs.Subkey.{subkey}
@@ -39,16 +39,13 @@ use Rattle.stream_open.specs.declared.Stepped.the-variants.{Opened, Refused}
 use Rattle.response_open.specs.declared.FixedRead.the-variants.{Read, Refused as Unread}
 use Rattle.response_open.specs.Heads.{frontLength, fixedOf, receiver, fieldsOf, readFixed, openFixed, bindingOf}
 use Rattle.stream_open.specs.Chunks.{pieceAnswer, lengthRead, turnAnswer, writtenBy, stepAnswer, stepOut}
+use Rattle.stream_open.proofs.ChunkLaws.{length-kept}
 use Rattle.demands.specs.StreamsBack.{partner, midway, ChunkBack, ChunksGivenBack}
 use Rattle.stream.proofs.LengthLaws.{length-sealAt, length-chunk}
 use Rattle.head_seal.proofs.HeadLengthLaws.{length-fixedPart, length-front}
 use Rattle.stream.proofs.KeyLaws.{length-subkey, octets-subkey, subkey-back}
 
 -- ---- a piece
-
-pub test-true : (b : Bool) → T b → b ≡ true
-test-true true t = refl
-test-true false t = absurd t
 
 -- what was sealed is authentic under its key and counter, and opens to its text
 pub piece-back : (key : List ℕ) (counter : ℕ) (text : List ℕ)
@@ -58,17 +55,9 @@ piece-back key counter text =
     let ciph = ciphOf key in
     let n = nonce counter in
     let s = seal ciph n text in
-    (test-true (authentic ciph n s) (authentic-exactly ciph n s .1 (seal-authentic ciph n text)), open-seal ciph n text)
+    (authentic-exactly ciph n s .1 (seal-authentic ciph n text), open-seal ciph n text)
 
 -- ---- what an answered length says
-
-pub both-left : (a b : Bool) → (a && b) ≡ true → a ≡ true
-both-left true b e = refl
-both-left false b e = e
-
-pub both-right : (a b : Bool) → (a && b) ≡ true → b ≡ true
-both-right true b e = e
-both-right false b e = absurd (let z : _≡_ {A = ℕ} 0 1 = cc in omega arith)
 
 abbrev isBytes : Sealed → ℕ
 isBytes (Bytes n s) = 1
@@ -139,11 +128,6 @@ chunkable s payload room n next e =
 
 -- ---- steps on what was sealed
 
--- a length step writes nothing, whatever it answers
-writes-nothing : (a : Stepped) (plain out : List ℕ) → writtenBy a Length plain out ≡ out
-writes-nothing (Opened c) plain out = refl
-writes-nothing (Refused r) plain out = refl
-
 -- a stream of a known method, at a counter that is not the last
 module _ (method counter : ℕ) (w : Subkey) (known : eqb (keyLength method) 0 ≡ false) (usable : counter ≡ lastCounter → ⊥) where
   abbrev key : List ℕ
@@ -197,7 +181,7 @@ module _ (method counter : ℕ) (w : Subkey) (known : eqb (keyLength method) 0 �
 
   pub length-out : (s out : List ℕ) → stepOut (at Length) s out ≡ out
   unfolding stepOut
-  length-out s out = writes-nothing (stepAnswer (at Length) s (length out)) _ out
+  length-out s out = length-kept (stepAnswer (at Length) s (length out)) _ out
 
   pub payload-step : (text rest : List ℕ) (room : ℕ) → length text ≤ room
       → stepAnswer (at (Payload (length text))) (sealAt key counter text ++ rest) room

@@ -1,13 +1,13 @@
 -- What GCM seals is authentic and opens to what was sealed, whatever the block cipher; and the parts of the code.
 -- Assumes nothing.
-use mathlib.Core.Path.{_≡_, sym, ap, ap₂, _∙_, subst}
-use mathlib.Core.Bool.{Bool}
+use mathlib.Core.Path.{_≡_, sym, ap, ap₂, _∙_}
+use mathlib.Core.Bool.{Bool, true}
 use mathlib.Core.List.{List, _++_}
 use Prim.Native.Nat.{ℕ, _+_, _-_, _*_, _^_, _<_, _≤_}
 use native.Mathlib.Nat.{zero-add, lt-of-le-of-lt}
 use native.Mathlib.Omega.{arith}
 use lib.Bits.{bitXor}
-use lib.Dec.{T, lit<}
+use lib.Dec.{lit<}
 use lib.ListN.{length, take, drop, length-append}
 use lib.Seq.{take-at, drop-at, take-take, drop-drop, length-take-le}
 use Rattle.octets.specs.Buffers.{put, same}
@@ -153,12 +153,20 @@ pub authentic-law : (ciph : ℕ → List ℕ) (nonce s t : List ℕ) (b : Bool) 
 unfolding authentic textOf tagOf
 authentic-law ciph nonce s t b et eb = eb ∙ ap₂ same et (rest s (length s - 16))
 
+-- a text at the front of a buffer with 16 bytes more
+pub text-put : (d p o : List ℕ) → length d ≡ length p + 16 → o ≡ put d 0 p → textOf o ≡ p
+unfolding textOf
+text-put d p o l e =
+    let h : 0 + length p ≤ length d = omega arith in
+    let n : length (put d 0 p) - 16 ≡ 0 + length p = omega (arith, l, length-put d 0 p h) in
+    ap textOf e ∙ ap (λ (k : ℕ). take k (put d 0 p)) n ∙ take-put d 0 p h
+
 -- ---- opening gives a text exactly when the tag is that of the text
 
 pub authentic-exactly : (ciph : ℕ → List ℕ) (nonce s : List ℕ)
-    → (T (authentic ciph nonce s) → Authentic ciph nonce s) × (Authentic ciph nonce s → T (authentic ciph nonce s))
+    → (authentic ciph nonce s ≡ true → Authentic ciph nonce s) × (Authentic ciph nonce s → authentic ciph nonce s ≡ true)
 unfolding authentic
 authentic-exactly ciph nonce s = (
-  λ t. record { good = sym (same-eq (tag ciph nonce (textOf s)) (tagOf s) t) },
-  λ a. subst (λ (x : List ℕ). T (same (tag ciph nonce (textOf s)) x)) (sym (a .good)) (same-refl (tag ciph nonce (textOf s))),
+  λ e. record { good = sym (same-eq (tag ciph nonce (textOf s)) (tagOf s) e) },
+  λ a. ap (same (tag ciph nonce (textOf s))) (a .good) ∙ same-refl (tag ciph nonce (textOf s)),
 )

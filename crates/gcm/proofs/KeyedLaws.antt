@@ -1,7 +1,7 @@
 -- What is lawful, as tests and as facts; sealing and opening under a key.
 -- Assumes nothing.
 use mathlib.Core.Path.{_≡_, refl, sym, ap, ap₂, _∙_, subst}
-use mathlib.Core.Bool.{Bool, true, false, cond, _&&_}
+use mathlib.Core.Bool.{Bool, true, false, cond, _&&_, and-false}
 use mathlib.Core.List.{List, map}
 use Prim.Native.Nat.{ℕ, zero, suc, _+_, _-_, _*_, _≤_, _<_}
 use native.Mathlib.Omega.{arith}
@@ -19,30 +19,26 @@ use Rattle.gcm.specs.Gcm.{seal, textOf, opened}
 use Rattle.gcm.specs.declared.Opened.the-variants.{Text, Forged, Unlawful}
 use Rattle.gcm.specs.Keyed.{maxText, ciphOf, fits, words, sealLawful, sealed, openLawful, inPlaceLawful, sealedInPlace, authentic, answer, openAnswer, openOut}
 
-both-false : (b : Bool) → (b && false) ≡ false
-both-false true = refl
-both-false false = refl
-
 -- ---- lengths and room, as tests
 
 module _ (k n len due room : ℕ) where
   no-nonce : (n ≡ 12 → ⊥) → fits k n len due room ≡ false
   unfolding fits
   no-nonce h =
-      ap (λ (b : Bool). ltb 0 (nkOf k) && (b && (leb len maxText && leb due room))) (ne-eqb n 12 h) ∙ both-false (ltb 0 (nkOf k))
+      ap (λ (b : Bool). ltb 0 (nkOf k) && (b && (leb len maxText && leb due room))) (ne-eqb n 12 h) ∙ and-false (ltb 0 (nkOf k))
 
   too-long : maxText < len → fits k n len due room ≡ false
   unfolding fits
   too-long h =
       ap (λ (b : Bool). ltb 0 (nkOf k) && (eqb n 12 && (b && leb due room))) (lt-leb len maxText h)
-      ∙ ap (_&&_ (ltb 0 (nkOf k))) (both-false (eqb n 12)) ∙ both-false (ltb 0 (nkOf k))
+      ∙ ap (_&&_ (ltb 0 (nkOf k))) (and-false (eqb n 12)) ∙ and-false (ltb 0 (nkOf k))
 
   no-room : room < due → fits k n len due room ≡ false
   unfolding fits
   no-room h =
       ap (λ (b : Bool). ltb 0 (nkOf k) && (eqb n 12 && (leb len maxText && b))) (lt-leb due room h)
-      ∙ ap (λ (b : Bool). ltb 0 (nkOf k) && (eqb n 12 && b)) (both-false (leb len maxText))
-      ∙ ap (_&&_ (ltb 0 (nkOf k))) (both-false (eqb n 12)) ∙ both-false (ltb 0 (nkOf k))
+      ∙ ap (λ (b : Bool). ltb 0 (nkOf k) && (eqb n 12 && b)) (and-false (leb len maxText))
+      ∙ ap (_&&_ (ltb 0 (nkOf k))) (and-false (eqb n 12)) ∙ and-false (ltb 0 (nkOf k))
 
   none : fits k n len due room ≡ false → 0 ≡ words k n len due room
   unfolding words

@@ -1,26 +1,16 @@
 -- AES-GCM under a key, on lent buffers: opening gives a text exactly for authentic messages, and what is sealed opens to the
 -- same text. For every key length of AES.
 -- Assumes nothing.
-use mathlib.Core.Path.{_≡_, refl, sym, ap, ap₂, _∙_, subst}
-use mathlib.Core.Bool.{Bool, true, false, cond, _&&_}
+use mathlib.Core.Path.{_≡_, sym, ap, ap₂, _∙_}
+use mathlib.Core.Bool.{Bool, true, cond, _&&_}
 use mathlib.Core.List.{List}
 use Prim.Native.Nat.{ℕ}
-use native.Mathlib.Omega.{arith}
-use lib.Dec.{T}
 use Rattle.octets.specs.Buffers.{put}
-use Rattle.gcm.specs.declared.Opened.{Opened}
-use Rattle.gcm.specs.declared.Opened.the-variants.{Text, Forged, Unlawful}
+use Rattle.gcm.specs.declared.Opened.the-variants.{Text}
 use Rattle.gcm.specs.Gcm.{seal, Authentic, opened}
 use Rattle.gcm.specs.Keyed.{ciphOf, openLawful, authentic, answer, openAnswer, openOut}
 use Rattle.gcm.proofs.GcmLaws.{seal-authentic, open-seal, authentic-exactly}
-
-test-true : (b : Bool) → T b → b ≡ true
-test-true true t = refl
-test-true false t = absurd t
-
-text-test : (b : Bool) → answer true b ≡ Text → T b
-text-test true e = tt
-text-test false e = absurd (let z : _≡_ {A = ℕ} 0 1 = cc in omega arith)
+use Rattle.gcm.proofs.KeyedLaws.{answer-text}
 
 module _ (key nonce s out : List ℕ) (lawful : openLawful key nonce s out ≡ true) where
   answered : openAnswer key nonce s out ≡ answer true (authentic (ciphOf key) nonce s)
@@ -30,15 +20,15 @@ module _ (key nonce s out : List ℕ) (lawful : openLawful key nonce s out ≡ t
   pub opens-exactly : (openAnswer key nonce s out ≡ Text → Authentic (ciphOf key) nonce s)
       × (Authentic (ciphOf key) nonce s → openAnswer key nonce s out ≡ Text)
   opens-exactly = (
-    λ e. authentic-exactly (ciphOf key) nonce s .0 (text-test (authentic (ciphOf key) nonce s) (sym answered ∙ e)),
-    λ a. answered ∙ ap (answer true) (test-true (authentic (ciphOf key) nonce s) (authentic-exactly (ciphOf key) nonce s .1 a)),
+    λ e. authentic-exactly (ciphOf key) nonce s .0 (answer-text (authentic (ciphOf key) nonce s) (sym answered ∙ e)),
+    λ a. answered ∙ ap (answer true) (authentic-exactly (ciphOf key) nonce s .1 a),
   )
 
   pub opens-to : Authentic (ciphOf key) nonce s → openOut key nonce s out ≡ put out 0 (opened (ciphOf key) nonce s)
   unfolding openOut
   opens-to a =
       ap₂ (λ (l b : Bool). cond (l && b) (put out 0 (opened (ciphOf key) nonce s)) out) lawful
-      (test-true (authentic (ciphOf key) nonce s) (authentic-exactly (ciphOf key) nonce s .1 a))
+      (authentic-exactly (ciphOf key) nonce s .1 a)
 
 pub sealed-opens : (key nonce text out : List ℕ) → let s = seal (ciphOf key) nonce text in
     openLawful key nonce s out ≡ true → (openAnswer key nonce s out ≡ Text) × (openOut key nonce s out ≡ put out 0 text)

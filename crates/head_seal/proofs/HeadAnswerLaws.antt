@@ -1,7 +1,7 @@
 -- What sealing a head answers: one law for each way out, and what an answered length tells.
 -- Assumes nothing.
 use mathlib.Core.Path.{_≡_, refl, sym, ap, ap₂, _∙_, subst}
-use mathlib.Core.Bool.{Bool, true, false, cond, _&&_}
+use mathlib.Core.Bool.{Bool, true, false, cond, _&&_, and-eq-true-iff}
 use mathlib.Core.List.{List}
 use mathlib.Core.Logic.{_⊎_}
 use Prim.Native.Nat.{ℕ, _+_, _≤_, _<_, min}
@@ -27,10 +27,6 @@ use Rattle.stream.proofs.KeyLaws.{key-of-method, length-subkey, octets-subkey, 
 use Rattle.stream.proofs.SealAnswerLaws.{too-long, passed, sized}
 use Rattle.head_seal.specs.HeadSealing.{maxPadding, variableLength, begun, sizesFit, paddingLawful, requestAnswer, responseAnswer}
 
-both-true : (a b : Bool) → (a && b) ≡ true → (a ≡ true) × (b ≡ true)
-both-true true b e = (refl, e)
-both-true false b e = absurd (let z : _≡_ {A = ℕ} 0 1 = cc in omega arith)
-
 -- ---- the lengths of key and salt
 
 -- what it says that they fit the method
@@ -53,7 +49,7 @@ module _ (method key salt : ℕ) where
   pub suited : sizesFit method key salt ≡ true → Suited method key salt
   unfolding sizesFit
   suited e =
-      let p = both-true (keyFits method key) (eqb salt (saltLength method)) e in
+      let p = and-eq-true-iff (keyFits method key) (eqb salt (saltLength method)) .0 e in
       let s = fits-sizes method key (p .0) in
       let is : salt ≡ key = eqb-true salt (saltLength method) (p .1) ∙ s .salt-is in
       let most : key ≤ 32 = key-most key (key-of-method method key (p .0)) in
@@ -213,7 +209,7 @@ pub response-sealable : (method : ℕ) (key salt binding : List ℕ) (payload ro
 unfolding responseAnswer
 response-sealable method key salt binding payload room n s e =
     let e₁ = passed (sizesFit method (length key) (length salt) && eqb (length binding) (length salt)) _ _ n s e in
-    let p = both-true (sizesFit method (length key) (length salt)) (eqb (length binding) (length salt)) (e₁ .0) in
+    let p = and-eq-true-iff (sizesFit method (length key) (length salt)) (eqb (length binding) (length salt)) .0 (e₁ .0) in
     let fit = suited method (length key) (length salt) (p .0) in
     let z = sized payload (length salt + 27 + length binding) room (begun method key salt) n s (e₁ .1) in
     record {

@@ -1,7 +1,7 @@
 -- When a salt meets each answer. Assumes nothing.
 use Prim.Native.Nat.{ℕ, _<_, zero-le}
 use native.Mathlib.Omega.{arith}
-use mathlib.Core.Bool.{Bool, true, false, not, _&&_, true≢false}
+use mathlib.Core.Bool.{Bool, true, false, not, _&&_, true≢false, and-eq-true-iff}
 use mathlib.Core.List.{List}
 use mathlib.Core.Option.{Option, none, some}
 use mathlib.Core.Path.{_≡_, refl, sym, ap, ap₂, _∙_}
@@ -12,7 +12,6 @@ use Rattle.pool.specs.declared.Met.{Met}
 use Rattle.pool.specs.declared.Met.the-variants.{Room, Replay, Full}
 use Rattle.pool.specs.Pool.{capacity, saltWords, kept, sameSalt, saltPlace, freePlace, meetBy, meet}
 use Rattle.pool.specs.Runs.{Keeps, Unkept, LowestFree, AllKept, MeetsExactly}
-use Rattle.pool.proofs.StoreLaws.{and-left, and-right}
 
 -- ---- Booleans and answers
 
@@ -66,8 +65,8 @@ module _ (t : List ℕ) (clock : ℕ) where
     unfolding saltPlace
     place-some i e =
         let f = lowest-found test 0 capacity i e in
-        let same = sameSalt (saltWords salt) (length salt) t i in
-        (omega (arith, f .1), and-left (kept t clock i) same (f .2), and-right (kept t clock i) same (f .2))
+        let both = and-eq-true-iff (kept t clock i) (sameSalt (saltWords salt) (length salt) t i) .0 (f .2) in
+        (omega (arith, f .1), both .0, both .1)
 
     place-none : place ≡ none → Unkept t clock salt
     unfolding saltPlace

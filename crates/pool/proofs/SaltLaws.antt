@@ -2,7 +2,7 @@
 -- Assumes nothing.
 use Prim.Native.Nat.{ℕ, _+_, _*_, _^_, _<_}
 use native.Mathlib.Omega.{arith}
-use mathlib.Core.Bool.{Bool, true, false, _&&_, _||_}
+use mathlib.Core.Bool.{Bool, true, false, _&&_, _||_, and-eq-true-iff}
 use mathlib.Core.List.{List, _∷_}
 use mathlib.Core.Logic.{_⊎_, ⊎-elim}
 use mathlib.Core.Path.{_≡_, refl, sym, ap, ap₂, _∙_}
@@ -14,7 +14,7 @@ use Rattle.octets.specs.Buffers.{Octets}
 use Rattle.octets.specs.Numbers.{be, toBe}
 use Rattle.octets.proofs.NumberLaws.{be-add, toBe-be}
 use Rattle.pool.specs.Pool.{capacity, poolWords, start, saltWord, saltWords, sameSalt, store}
-use Rattle.pool.proofs.StoreLaws.{word, and-left, and-right}
+use Rattle.pool.proofs.StoreLaws.{word}
 
 -- ---- the words make the bytes
 
@@ -41,17 +41,10 @@ module _ (s s′ : List ℕ) where
 
 -- the tests that passed
 each : (a b short c d : Bool) → ((a && b) && (short || (c && d))) ≡ true → (a ≡ true) × (b ≡ true) × (short ≡ false → (c ≡ true) × (d ≡ true))
-each a b short c d h = (
-  and-left a b (and-left (a && b) rest h),
-  and-right a b (and-left (a && b) rest h),
-  λ f. (and-left c d (long f), and-right c d (long f)),
-)
-  where
-    rest : Bool
-    rest = short || (c && d)
-
-    long : short ≡ false → (c && d) ≡ true
-    long f = sym (ap (λ (x : Bool). x || (c && d)) f) ∙ and-right (a && b) rest h
+each a b short c d h =
+    let whole = and-eq-true-iff (a && b) (short || (c && d)) .0 h in
+    let front = and-eq-true-iff a b .0 (whole .0) in
+    (front .0, front .1, λ f. and-eq-true-iff c d .0 (sym (ap (λ (x : Bool). x || (c && d)) f) ∙ whole .1))
 
 module _ (t : List ℕ) (i clock : ℕ) (s s′ : List ℕ) (l : i < capacity) (e : length t ≡ poolWords) where
   -- a test of a word of the record, and what it says

@@ -1,13 +1,13 @@
 -- The time rule: a difference that does not wrap.
 -- Assumes nothing.
-use mathlib.Core.Path.{_≡_, refl, sym, ap, ap₂, _∙_}
-use mathlib.Core.Bool.{Bool, true, false, _&&_}
+use mathlib.Core.Path.{_≡_, sym, ap, _∙_}
+use mathlib.Core.Bool.{Bool, _&&_, and-true}
 use Prim.Native.Nat.{ℕ, _+_, _-_, _≤_, _<_}
 use native.Mathlib.Decide.{decLe}
 use native.Mathlib.Omega.{arith}
 use lib.Dec.{leb}
 use borrow.Author.Tests.{le-leb, lt-leb}
-use Rattle.protocol.specs.Time.{tolerance, timeValid}
+use Rattle.protocol.specs.Time.{timeValid}
 
 -- a ≤ b: their difference is at most k exactly where b is at most a + k
 difference : (a b k : ℕ) → a ≤ b → leb (b - a) k ≡ leb b (a + k)
@@ -19,10 +19,6 @@ difference a b k h = pick (decLe (b - a) k)
         let l : k < b - a = omega arith in
         let m : a + k < b = omega arith in
         lt-leb (b - a) k l ∙ sym (lt-leb b (a + k) m)
-
-both-true : (b : Bool) → (b && true) ≡ b
-both-true true = refl
-both-true false = refl
 
 module _ (time clock : ℕ) where
   pub time-before : time ≤ clock → leb (clock - time) 30 ≡ timeValid time clock
@@ -37,4 +33,4 @@ module _ (time clock : ℕ) where
       let l : clock ≤ time + 30 = omega arith in
       let m : clock ≤ time = omega arith in
       difference clock time 30 m
-      ∙ sym (ap (_&&_ (leb time (clock + 30))) (le-leb clock (time + 30) l) ∙ both-true (leb time (clock + 30)))
+      ∙ sym (ap (_&&_ (leb time (clock + 30))) (le-leb clock (time + 30) l) ∙ and-true (leb time (clock + 30)))

@@ -1,12 +1,11 @@
 -- What stands after the calls about streams, case by case. Assumes nothing.
 use Prim.Native.Nat.{ℕ}
-use mathlib.Core.Bool.{Bool, true, false, cond, _&&_}
+use mathlib.Core.Bool.{Bool, true, false, cond, _&&_, and-eq-true-iff}
 use mathlib.Core.List.{List}
 use mathlib.Core.Path.{_≡_, refl, sym, ap, _∙_}
 use lib.Dec.{eqb}
 use lib.ListN.{length}
 use borrow.Author.Tests.{eq-eqb, ne-eqb, eqb-true}
-use Rattle.book.proofs.Tests.{and-true-left, and-true-right}
 use Rattle.protocol.specs.declared.Refusal.{Refusal}
 use Rattle.protocol.specs.declared.Refusal.the-variants.{Settings, NotAuthentic}
 use Rattle.protocol.specs.Method.{keyLength}
@@ -31,10 +30,9 @@ use Rattle.relay.specs.Streams.{fits, AfterChunk, seals, notSealing, chu
 
 module _ (k a : ℕ) (e : fits k a ≡ true) where
   pub fitting : (k ≡ streamSize) × (a ≡ answerWords)
-  fitting = (
-    eqb-true k streamSize (and-true-left (eqb k streamSize) (eqb a answerWords) e),
-    eqb-true a answerWords (and-true-right (eqb k streamSize) (eqb a answerWords) e),
-  )
+  fitting =
+      let both = and-eq-true-iff (eqb k streamSize) (eqb a answerWords) .0 e in
+      (eqb-true k streamSize (both .0), eqb-true a answerWords (both .1))
 
 -- ---- sealing on lent words: x is what is answered where they fit
 

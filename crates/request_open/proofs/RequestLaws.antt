@@ -1,7 +1,7 @@
 -- Opening the head of a request: a law for each way out of each function.
 -- Assumes nothing.
 use mathlib.Core.Path.{_≡_, refl, sym, ap, ap₂, _∙_, subst}
-use mathlib.Core.Bool.{Bool, true, false, cond, _&&_}
+use mathlib.Core.Bool.{Bool, true, false, cond, _&&_, and-eq-true-iff}
 use mathlib.Core.List.{List}
 use mathlib.Core.Logic.{_⊎_, inl, inr}
 use Prim.Native.Nat.{ℕ, _+_, _-_, _<_, _≤_}
@@ -352,7 +352,8 @@ pub lawful-settings : (method k : ℕ) (pool : List ℕ) (b : Bool) (n : ℕ) �
 unfolding settings
 lawful-settings method k pool b n eb e en =
     let h : (keyFits method k && lawful pool method) ≡ true = sym eb ∙ e in
-    let fits : keyFits method k ≡ true = left (keyFits method k) (lawful pool method) h in
+    let both = and-eq-true-iff (keyFits method k) (lawful pool method) .0 h in
+    let fits = both .0 in
     let z = fits-sizes method k fits in
     let same : n ≡ k = en ∙ z .salt-is in
     record {
@@ -360,21 +361,9 @@ lawful-settings method k pool b n eb e en =
       either = z .either;
       aes = subst (λ (m : ℕ). 0 < nkOf m) (sym same) (key-of-method method k fits);
       most = either-most same (z .either);
-      words = eqb-true (length pool) poolWords (first (eqb (length pool) poolWords) (eqb (getD pool 0 0) method) (right (keyFits method k) (lawful pool method) h));
+      words = eqb-true (length pool) poolWords (and-eq-true-iff (eqb (length pool) poolWords) (eqb (getD pool 0 0) method) .0 (both .1) .0);
     }
   where
-    left : (x y : Bool) → (x && y) ≡ true → x ≡ true
-    left true y t = refl
-    left false y t = t
-
-    right : (x y : Bool) → (x && y) ≡ true → y ≡ true
-    right true y t = t
-    right false y t = absurd (let z : _≡_ {A = ℕ} 0 1 = cc in omega arith)
-
-    first : (x y : Bool) → (x && y) ≡ true → x ≡ true
-    first true y t = refl
-    first false y t = t
-
     either-most : n ≡ k → (k ≡ 16) ⊎ (k ≡ 32) → n ≤ 32
     either-most f (inl g) = omega (arith, f, g)
     either-most f (inr g) = omega (arith, f, g)

@@ -6,7 +6,7 @@ use mathlib.Core.List.{List, _∷_}
 use mathlib.Core.Option.{Option, none, some}
 use mathlib.Core.Path.{_≡_, sym, ap, _∙_}
 use lib.Dec.{leb, eqb}
-use lib.ListN.{length, set, replicate}
+use lib.ListN.{length, set, replicate, length-replicate}
 use borrow.Author.Tests.{eq-eqb, ne-eqb, le-leb, lt-leb}
 use Rattle.session_record.specs.declared.Peer.{Peer}
 use Rattle.session.specs.Sizes.{capacity, leastRetention, greatestRetention, defaultRetention}
@@ -39,6 +39,9 @@ else-itself R n = sym (ap (λ (b : Bool). cond b defaultRetention R) (ne-eqb R 0
 
 pub not-made : (R : ℕ) (t : List ℕ) → makeLawful R t ≡ false → (false ≡ makeLawful R t) × (t ≡ made R t)
 not-made R t e = (sym e, sym (ap (λ (b : Bool). cond b (newTable (madeRetention R)) t) e))
+
+pub new-length : (R : ℕ) → length (newTable R) ≡ tableWords
+new-length R = ap suc (length-replicate {A = ℕ} (capacity * recordWords) 0)
 
 first : (n k : ℕ) (t : List ℕ) → length t ≡ suc n → set (replicate (length t) 0) 0 k ≡ k ∷ replicate n 0
 first n k t e = ap (λ (m : ℕ). set (replicate m 0) 0 k) e

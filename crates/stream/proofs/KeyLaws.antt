@@ -1,12 +1,11 @@
 -- The subkey of a stream: its length, and its bytes from the words that the state has.
 -- Assumes nothing.
-use mathlib.Core.Path.{_≡_, sym, ap, _∙_, subst}
+use mathlib.Core.Path.{_≡_, sym, ap, _∙_}
 use mathlib.Core.Bool.{true}
 use mathlib.Core.List.{List, _++_, append-assoc}
-use mathlib.Core.Logic.{_⊎_, inl, inr, ⊎-elim}
+use mathlib.Core.Logic.{_⊎_, inl, inr}
 use Prim.Native.Nat.{ℕ, _+_, _≤_, _<_}
 use native.Mathlib.Omega.{arith}
-use lib.Dec.{lit<}
 use lib.ListN.{length, take, drop, length-append, length-drop}
 use lib.Seq.{length-take-le, take-add, take-all, take-at, drop-drop}
 use Rattle.octets.specs.Buffers.{Octets}
@@ -14,6 +13,7 @@ use Rattle.octets.specs.Numbers.{be, toBe}
 use Rattle.octets.proofs.BufferLaws.{octets-drop, octets-take}
 use Rattle.octets.proofs.NumberLaws.{toBe-be, be-take, length-toBe}
 use Rattle.aes.specs.Keyed.{nkOf}
+use Rattle.aes.proofs.KeyedLaws.{key-of-size}
 use Rattle.blake3.specs.Derivation.{subkeyContext}
 use Rattle.blake3.specs.Tree.{deriveKey}
 use Rattle.blake3.proofs.DerivationLaws.{length-deriveKey, octets-deriveKey}
@@ -27,11 +27,7 @@ use Rattle.stream.proofs.LengthLaws.{length-subkeyBytes}
 
 -- a key of its method's length is a key of AES
 pub key-of-method : (method k : ℕ) → keyFits method k ≡ true → 0 < nkOf k
-unfolding nkOf
-key-of-method method k h = ⊎-elim (at 16 (lit< tt)) (at 32 (lit< tt)) (fits-sizes method k h .either)
-  where
-    at : (a : ℕ) → 0 < nkOf a → k ≡ a → 0 < nkOf k
-    at a l e = subst (λ (n : ℕ). 0 < nkOf n) (sym e) l
+key-of-method method k h = key-of-size k (fits-sizes method k h .either)
 
 -- so is a key as long as a known method's
 pub key-of-length : (method : ℕ) → (keyLength method ≡ 0 → ⊥) → 0 < nkOf (keyLength method)

@@ -9,7 +9,7 @@ use lib.ListN.{length, take, drop, replicate, length-append}
 use lib.Seq.{length-take-le, getD-drop}
 use Rattle.octets.specs.Buffers.{put}
 use Rattle.octets.specs.Numbers.{be, toBe, toLe}
-use Rattle.octets.proofs.BufferLaws.{length-put, take-put, put-behind, put-whole, getD-padded}
+use Rattle.octets.proofs.BufferLaws.{put-behind, put-whole, getD-padded}
 use Rattle.octets.proofs.NumberLaws.{be-same, toLe-add, length-toBe, length-toLe}
 use Rattle.aes.specs.Keyed.{nkOf}
 use Rattle.aes.proofs.KeyedLaws.{key-most}
@@ -94,14 +94,6 @@ module _ (w : Subkey) (k : ℕ) (has-key : 0 < nkOf k) where
       let long : length body - 16 ≤ maxText = omega arith in
       er ∙ (λ i. sealedInPlace (take k (ek i)) (en i) body)
       ∙ in-place-seals (keyOf w k) (nonce counter) body key-lawful (length-nonce counter) h long
-
--- a text copied to the front of a buffer with 16 bytes more
-pub text-copied : (d p o : List ℕ) → length d ≡ length p + 16 → o ≡ put d 0 p → textOf o ≡ p
-unfolding textOf
-text-copied d p o l e =
-    let h : 0 + length p ≤ length d = omega arith in
-    let n : length (put d 0 p) - 16 ≡ 0 + length p = omega (arith, l, length-put d 0 p h) in
-    ap textOf e ∙ ap (λ (k : ℕ). take k (put d 0 p)) n ∙ take-put d 0 p h
 
 -- ---- opened
 

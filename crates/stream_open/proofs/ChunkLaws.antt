@@ -132,7 +132,7 @@ module _ (st : Receiver) (n due : ℕ) (ed : due ≡ n) (s out : List ℕ) where
 -- ---- the turn
 
 -- a length is not written to the buffer
-length-kept : (r : Stepped) (plain out : List ℕ) → writtenBy r Length plain out ≡ out
+pub length-kept : (r : Stepped) (plain out : List ℕ) → writtenBy r Length plain out ≡ out
 length-kept (Opened c) plain out = refl
 length-kept (Refused r) plain out = refl
 

@@ -1,6 +1,6 @@
 -- Lent words of the right length or not, and words that fill what was lent. Assumes nothing.
 use Prim.Native.Nat.{ℕ, _+_, _≤_}
-use mathlib.Core.Bool.{Bool, true, false, _&&_}
+use mathlib.Core.Bool.{Bool, true, false, _&&_, and-eq-true-iff}
 use mathlib.Core.List.{List, _++_, append-nil}
 use mathlib.Core.Path.{_≡_, sym, ap, _∙_}
 use native.Mathlib.Omega.{arith}
@@ -8,7 +8,6 @@ use lib.Dec.{eqb}
 use lib.ListN.{length, drop-of-length-le}
 use lib.Seq.{sets, sets-eq}
 use borrow.Author.Tests.{eq-eqb, ne-eqb, eqb-true}
-use Rattle.book.proofs.Tests.{and-true-left}
 
 -- ---- a test behind that of a length
 
@@ -20,7 +19,7 @@ module _ (n k : ℕ) (b : Bool) where
   sized e = sym (ap (λ (x : Bool). x && b) (eq-eqb n k e))
 
   pub its-size : true ≡ (eqb n k && b) → n ≡ k
-  its-size e = eqb-true n k (and-true-left (eqb n k) b (sym e))
+  its-size e = eqb-true n k (and-eq-true-iff (eqb n k) b .0 (sym e) .0)
 
 -- ---- words that fill what was lent
 

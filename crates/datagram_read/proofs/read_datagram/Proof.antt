@@ -4,7 +4,8 @@ use native.Mathlib.Omega.{arith}
 use borrow.Author.Needs.{needs}
 use lib.ListN.{length}
 use Rattle.aes.specs.Keyed.{nkOf}
-use Rattle.datagram_parts.proofs.SubkeyLaws.{key-of-method}
+use Rattle.aes.proofs.KeyedLaws.{key-of-size}
+use Rattle.protocol.proofs.MethodLaws.{fits-sizes}
 use Rattle.datagram_read.proofs.OpeningLaws.{length-body, read-settings, read-short, read-long, read-room, read-done}
 use Rattle.datagram_read.proofs.read_datagram.Statement.{statement}
 use Rattle.datagram_read.proofs.read_datagram.Tie as tie
@@ -29,7 +30,7 @@ returns-3 c =
 
 -- where the key fits its method
 has-key : (c : tie.Then1) → 0 < nkOf (length (c .before .before .before .before .before .args .key .now))
-has-key c = key-of-method _ _ (sym (c .before .key-fits .ensures) ∙ c .if1 .taken)
+has-key c = key-of-size _ (fits-sizes _ _ (sym (c .before .key-fits .ensures) ∙ c .if1 .taken) .either)
 
 read-separate-requires : tie.Need-read-separate-requires
 read-separate-requires c κs =
