@@ -146,8 +146,10 @@ fn moved(z: Long, e: Element) -> Long
 // Four lookups more for each word of x, from its bit at 16 * k on.
 fn lookup(t: &[u64; 128], x: Element, s: Sums, k: u64) -> Sums
     requires { ⌜ k < 4 ⌝ }
-    ensures { λ r. ⌜ ((h : ℕ) → TableFor (now (t .entry)) h → longOf (r .high) ≡ bitXor (longOf (s .high) / 2 ^ 16) (lookups h (x .hi / 2 ^ (16 * k)) 4 * 2 ^ 64)) ⌝ }
-    ensures { λ r. ⌜ ((h : ℕ) → TableFor (now (t .entry)) h → longOf (r .low) ≡ bitXor (longOf (s .low) / 2 ^ 16) (lookups h (x .lo / 2 ^ (16 * k)) 4 * 2 ^ 64)) ⌝ }
+    ensures { λ r. ⌜ ((h : ℕ) → TableFor (now (t .entry)) h
+        → longOf (r .high) ≡ bitXor (longOf (s .high) / 2 ^ 16) (lookups h (x .hi / 2 ^ (16 * k)) 4 * 2 ^ 64)) ⌝ }
+    ensures { λ r. ⌜ ((h : ℕ) → TableFor (now (t .entry)) h
+        → longOf (r .low) ≡ bitXor (longOf (s .low) / 2 ^ 16) (lookups h (x .lo / 2 ^ (16 * k)) 4 * 2 ^ 64)) ⌝ }
 {
     Sums {
         high: moved(s.high, four(t, x.hi >> (16 * k))),
