@@ -1,9 +1,18 @@
 -- How the code's 32-bit words stand for bytes: four to a word, the first one lowest.
 use mathlib.Core.List.{List, [], _∷_, _++_}
-use Prim.Native.Nat.{ℕ, _-_, _/_, _%_}
+use Prim.Native.Nat.{ℕ, _-_, _/_, _%_, _<_}
 use lib.ListN.{getD, take, drop}
 use Rattle.octets.specs.Buffers.{_⊞_}
+use Rattle.aes_tables.specs.SBox.{sBox}
+use Rattle.aes_tables.specs.Tables.{IsTable, mixEntry}
 use Rattle.aes.specs.declared.Block.{Block}
+
+-- what the cipher's code asks of what it is lent: its two tables, and a number of rounds that 60 words of expanded key serve
+pub record CanEncrypt (t sbox : List ℕ) (rounds : ℕ) : Type 0 where
+  pub mix : IsTable mixEntry t
+  pub sub : IsTable sBox sbox
+  pub least : 0 < rounds
+  pub most : rounds < 15
 
 -- the bytes of a word
 abbrev pub bytes : ℕ → List ℕ

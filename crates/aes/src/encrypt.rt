@@ -21,7 +21,7 @@ ghost use Rattle.aes_tables.specs.Tables.{IsTable, mixEntry};
 ghost use Rattle.aes.specs.Cipher.{subBytes, shiftRows, mixColumns, mixColumn, cipher as cipherOf};
 ghost use Rattle.aes.specs.KeyExpansion.{aes};
 ghost use Rattle.aes.specs.Keyed.{lawful, inPlace};
-ghost use Rattle.aes.specs.Words.{bytes, blockBytes};
+ghost use Rattle.aes.specs.Words.{CanEncrypt, bytes, blockBytes};
 
 // A column after SubBytes, ShiftRows and MixColumns.
 fn column(t: &[u32; 256], a: u32, b: u32, c: u32, d: u32) -> u32
@@ -71,10 +71,7 @@ pub fn final_round(sbox: &[u8; 256], s: Block, k: Block) -> Block
 
 // CIPHER, at an expanded key and its number of rounds.
 pub fn cipher(t: &[u32; 256], sbox: &[u8; 256], w: &[u32; 60], rounds: usize, x: Block) -> Block
-    requires { ⌜ IsTable mixEntry (now t) ⌝ }
-    requires { ⌜ IsTable sBox (now sbox) ⌝ }
-    requires { ⌜ 0 < rounds ⌝ }
-    requires { ⌜ rounds < 15 ⌝ }
+    requires { ⌜ CanEncrypt (now t) (now sbox) rounds ⌝ }
     ensures { λ r. ⌜ blockBytes r ≡ cipherOf rounds (map bytes (now (w .entry))) (blockBytes x) ⌝ }
 {
     let mut s = add(x, round_key(w, 0));

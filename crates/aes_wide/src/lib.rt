@@ -65,7 +65,9 @@ fn finish(t: &[u32; 1024], sbox: &[u8; 256], w: &[u32; 60], rounds: usize, s: Bl
     requires { ⌜ IsTable sBox (now sbox) ⌝ }
     requires { ⌜ 2 < rounds ⌝ }
     requires { ⌜ rounds < 15 ⌝ }
-    ensures { λ r. ⌜ ((x : List ℕ) → blockBytes s ≡ roundsOf (map bytes (now (w .entry))) 2 (addRoundKey (map bytes (now (w .entry))) 0 x) → blockBytes r ≡ cipher rounds (map bytes (now (w .entry))) x) ⌝ }
+    ensures { λ r. ⌜ ((x : List ℕ)
+        → blockBytes s ≡ roundsOf (map bytes (now (w .entry))) 2 (addRoundKey (map bytes (now (w .entry))) 0 x)
+        → blockBytes r ≡ cipher rounds (map bytes (now (w .entry))) x) ⌝ }
 {
     let mut z = s;
     let mut i = 2;

@@ -52,7 +52,8 @@ pub fn prepare(t: &[u32; 1024], w: &[u32; 60], s: Block) -> Prepared
 // The state after two rounds, from the last column of the state before them.
 fn resumed(t: &[u32; 1024], m: Prepared, d: u32) -> Block
     requires { ⌜ Wide (now t) ⌝ }
-    ensures { λ r. ⌜ ((w : List ℕ) (a b c : ℕ) → Prepares (now (t .entry)) w a b c d m → blockBytes r ≡ roundsOf (map bytes w) 2 (stateOf a b c d)) ⌝ }
+    ensures { λ r. ⌜ ((w : List ℕ) (a b c : ℕ) → Prepares (now (t .entry)) w a b c d m
+        → blockBytes r ≡ roundsOf (map bytes w) 2 (stateOf a b c d)) ⌝ }
 {
     let s = m.first ^ part(t, 3, d);
     Block {
@@ -76,7 +77,9 @@ pub fn encrypt(
     requires { ⌜ IsTable sBox (now sbox) ⌝ }
     requires { ⌜ 2 < rounds ⌝ }
     requires { ⌜ rounds < 15 ⌝ }
-    ensures { λ r. ⌜ ((a b c : ℕ) (x : List ℕ) → Prepares (now (t .entry)) (now (w .entry)) a b c d m → stateOf a b c d ≡ addRoundKey (map bytes (now (w .entry))) 0 x → blockBytes r ≡ cipher rounds (map bytes (now (w .entry))) x) ⌝ }
+    ensures { λ r. ⌜ ((a b c : ℕ) (x : List ℕ) → Prepares (now (t .entry)) (now (w .entry)) a b c d m
+        → stateOf a b c d ≡ addRoundKey (map bytes (now (w .entry))) 0 x
+        → blockBytes r ≡ cipher rounds (map bytes (now (w .entry))) x) ⌝ }
 {
     finish(t, sbox, w, rounds, resumed(t, m, d))
 }

@@ -7,10 +7,8 @@ ghost use Prim.Native.Nat.{_+_, _%_, _^_, _<_, _≤_};
 ghost use lib.ListN.{length, take, drop};
 ghost use Rattle.octets.specs.Buffers.{put, _⊞_};
 ghost use Rattle.octets.specs.Numbers.{toBe};
-ghost use Rattle.aes_tables.specs.SBox.{sBox};
-ghost use Rattle.aes_tables.specs.Tables.{IsTable, mixEntry};
 ghost use Rattle.aes.specs.Keyed.{lawful};
-ghost use Rattle.aes.specs.Words.{bytes, blockBytes};
+ghost use Rattle.aes.specs.Words.{CanEncrypt, bytes, blockBytes};
 ghost use Rattle.ctr.specs.Words.{nonceBytes};
 ghost use Rattle.ctr.specs.Gctr.{gctr as gctrOf, ciphAt, counterBlock, aesCtr};
 ghost use Rattle.ctr.specs.Long.{swap};
@@ -94,11 +92,9 @@ fn gctr_short(
     counter: u32,
     text: &mut [u8],
 )
-    requires { ⌜ IsTable mixEntry (now t) ⌝ }
-    requires { ⌜ IsTable sBox (now sbox) ⌝ }
-    requires { ⌜ 0 < rounds ⌝ }
-    requires { ⌜ rounds < 15 ⌝ }
-    ensures { λ _. ⌜ now (text .exit) ≡ gctrOf (ciphAt rounds (now (w .entry))) (counterBlock (nonceBytes n) counter) (now (text .entry)) ⌝ }
+    requires { ⌜ CanEncrypt (now t) (now sbox) rounds ⌝ }
+    ensures { λ _. ⌜ now (text .exit)
+        ≡ gctrOf (ciphAt rounds (now (w .entry))) (counterBlock (nonceBytes n) counter) (now (text .entry)) ⌝ }
 {
     let blocks = (text.len() + 15) / 16;
     let mut c = counter;
@@ -119,11 +115,9 @@ pub fn gctr(
     counter: u32,
     text: &mut [u8],
 )
-    requires { ⌜ IsTable mixEntry (now t) ⌝ }
-    requires { ⌜ IsTable sBox (now sbox) ⌝ }
-    requires { ⌜ 0 < rounds ⌝ }
-    requires { ⌜ rounds < 15 ⌝ }
-    ensures { λ _. ⌜ now (text .exit) ≡ gctrOf (ciphAt rounds (now (w .entry))) (counterBlock (nonceBytes n) counter) (now (text .entry)) ⌝ }
+    requires { ⌜ CanEncrypt (now t) (now sbox) rounds ⌝ }
+    ensures { λ _. ⌜ now (text .exit)
+        ≡ gctrOf (ciphAt rounds (now (w .entry))) (counterBlock (nonceBytes n) counter) (now (text .entry)) ⌝ }
 {
     if text.len() < 256 {
         gctr_short(t, sbox, w, rounds, n, counter, text);

@@ -37,7 +37,8 @@ fn prepared(t: &[u32; 1024], w: &[u32; 60], n: Nonce, c: u32) -> Prepared
 
 // What was prepared serves until the counter's last byte is 0 again.
 fn renewed(t: &[u32; 1024], w: &[u32; 60], n: Nonce, c: u32, m: Prepared) -> Prepared
-    ensures { λ r. ⌜ (((c % 256 ≡ 0 → ⊥) → Ready (now (t .entry)) (now (w .entry)) n c m) → Ready (now (t .entry)) (now (w .entry)) n c r) ⌝ }
+    ensures { λ r. ⌜ (((c % 256 ≡ 0 → ⊥) → Ready (now (t .entry)) (now (w .entry)) n c m)
+        → Ready (now (t .entry)) (now (w .entry)) n c r) ⌝ }
 {
     if c % 256 == 0 {
         prepared(t, w, n, c)
@@ -60,7 +61,8 @@ fn blocks(
     requires { ⌜ IsTable sBox (now sbox) ⌝ }
     requires { ⌜ 2 < rounds ⌝ }
     requires { ⌜ rounds < 15 ⌝ }
-    ensures { λ _. ⌜ now (text .exit) ≡ gctrOf (ciphAt rounds (now (w .entry))) (counterBlock (nonceBytes n) counter) (now (text .entry)) ⌝ }
+    ensures { λ _. ⌜ now (text .exit)
+        ≡ gctrOf (ciphAt rounds (now (w .entry))) (counterBlock (nonceBytes n) counter) (now (text .entry)) ⌝ }
 {
     let blocks = (text.len() + 15) / 16;
     let mut c = counter;
@@ -87,7 +89,8 @@ pub fn gctr_long(
     requires { ⌜ IsTable sBox (now sbox) ⌝ }
     requires { ⌜ 2 < rounds ⌝ }
     requires { ⌜ rounds < 15 ⌝ }
-    ensures { λ _. ⌜ now (text .exit) ≡ gctrOf (ciphAt rounds (now (w .entry))) (counterBlock (nonceBytes n) counter) (now (text .entry)) ⌝ }
+    ensures { λ _. ⌜ now (text .exit)
+        ≡ gctrOf (ciphAt rounds (now (w .entry))) (counterBlock (nonceBytes n) counter) (now (text .entry)) ⌝ }
 {
     let mut wide = [0u32; 1024];
     aes_wide::widen(&mut wide, t);

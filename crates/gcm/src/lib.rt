@@ -10,6 +10,7 @@ ghost use Rattle.aes_tables.specs.SBox.{sBox};
 ghost use Rattle.aes_tables.specs.Tables.{IsTable, mixEntry};
 ghost use mathlib.Core.Bool.{cond};
 ghost use Rattle.ghash.specs.Words.{blockOf};
+ghost use Rattle.aes.specs.Words.{CanEncrypt};
 ghost use Rattle.ctr.specs.Gctr.{ciphAt};
 ghost use Rattle.ctr.specs.Words.{nonceBytes};
 ghost use Rattle.gcm.specs.Gcm as spec;
@@ -48,10 +49,7 @@ fn element_bytes(x: Element) -> [u8; 16]
 
 // H.
 fn hash_key(t: &[u32; 256], sbox: &[u8; 256], w: &[u32; 60], rounds: usize) -> Element
-    requires { ⌜ IsTable mixEntry (now t) ⌝ }
-    requires { ⌜ IsTable sBox (now sbox) ⌝ }
-    requires { ⌜ 0 < rounds ⌝ }
-    requires { ⌜ rounds < 15 ⌝ }
+    requires { ⌜ CanEncrypt (now t) (now sbox) rounds ⌝ }
     ensures { λ r. ⌜ blockOf r ≡ spec.hashKey (ciphAt rounds (now (w .entry))) ⌝ }
 {
     let zero = aes::Block {
@@ -77,10 +75,7 @@ fn tag_of(
     n: Nonce,
     c: &[u8],
 ) -> [u8; 16]
-    requires { ⌜ IsTable mixEntry (now t) ⌝ }
-    requires { ⌜ IsTable sBox (now sbox) ⌝ }
-    requires { ⌜ 0 < rounds ⌝ }
-    requires { ⌜ rounds < 15 ⌝ }
+    requires { ⌜ CanEncrypt (now t) (now sbox) rounds ⌝ }
     requires { ⌜ length (now c) ≤ maxText ⌝ }
     ensures { λ r. ⌜ r ≡ spec.tag (ciphAt rounds (now (w .entry))) (nonceBytes n) (now (c .entry)) ⌝ }
 {
@@ -100,10 +95,7 @@ fn crypt_front(
     len: usize,
     out: &mut [u8],
 )
-    requires { ⌜ IsTable mixEntry (now t) ⌝ }
-    requires { ⌜ IsTable sBox (now sbox) ⌝ }
-    requires { ⌜ 0 < rounds ⌝ }
-    requires { ⌜ rounds < 15 ⌝ }
+    requires { ⌜ CanEncrypt (now t) (now sbox) rounds ⌝ }
     requires { ⌜ len ≤ length (now out) ⌝ }
     ensures { λ _. ⌜ now (out .exit)
         ≡ put (now (out .entry)) 0
@@ -122,10 +114,7 @@ fn crypt_into(
     text: &[u8],
     out: &mut [u8],
 )
-    requires { ⌜ IsTable mixEntry (now t) ⌝ }
-    requires { ⌜ IsTable sBox (now sbox) ⌝ }
-    requires { ⌜ 0 < rounds ⌝ }
-    requires { ⌜ rounds < 15 ⌝ }
+    requires { ⌜ CanEncrypt (now t) (now sbox) rounds ⌝ }
     requires { ⌜ length (now text) ≤ length (now out) ⌝ }
     ensures { λ _. ⌜ now (out .exit)
         ≡ put (now (out .entry)) 0 (spec.crypt (ciphAt rounds (now (w .entry))) (nonceBytes n) (now (text .entry))) ⌝ }
@@ -143,10 +132,7 @@ pub fn seal_in_place_at(
     n: Nonce,
     body: &mut [u8],
 )
-    requires { ⌜ IsTable mixEntry (now t) ⌝ }
-    requires { ⌜ IsTable sBox (now sbox) ⌝ }
-    requires { ⌜ 0 < rounds ⌝ }
-    requires { ⌜ rounds < 15 ⌝ }
+    requires { ⌜ CanEncrypt (now t) (now sbox) rounds ⌝ }
     requires { ⌜ spec.tagLength ≤ length (now body) ⌝ }
     requires { ⌜ length (now body) - spec.tagLength ≤ maxText ⌝ }
     ensures { λ _. ⌜ now (body .exit)
@@ -168,10 +154,7 @@ pub fn seal_at(
     text: &[u8],
     out: &mut [u8],
 )
-    requires { ⌜ IsTable mixEntry (now t) ⌝ }
-    requires { ⌜ IsTable sBox (now sbox) ⌝ }
-    requires { ⌜ 0 < rounds ⌝ }
-    requires { ⌜ rounds < 15 ⌝ }
+    requires { ⌜ CanEncrypt (now t) (now sbox) rounds ⌝ }
     requires { ⌜ length (now text) ≤ maxText ⌝ }
     requires { ⌜ length (now text) + spec.tagLength ≤ length (now out) ⌝ }
     ensures { λ _. ⌜ now (out .exit)
@@ -192,10 +175,7 @@ pub fn open_at(
     s: &[u8],
     out: &mut [u8],
 ) -> bool
-    requires { ⌜ IsTable mixEntry (now t) ⌝ }
-    requires { ⌜ IsTable sBox (now sbox) ⌝ }
-    requires { ⌜ 0 < rounds ⌝ }
-    requires { ⌜ rounds < 15 ⌝ }
+    requires { ⌜ CanEncrypt (now t) (now sbox) rounds ⌝ }
     requires { ⌜ spec.tagLength ≤ length (now s) ⌝ }
     requires { ⌜ length (now s) - spec.tagLength ≤ maxText ⌝ }
     requires { ⌜ length (now s) - spec.tagLength ≤ length (now out) ⌝ }

@@ -149,8 +149,10 @@ fn moved(z: Long, e: Element) -> Long
 fn lookup(t: &[u64; 128], x: Element, s: Sums, k: u64) -> Sums
     requires { ⌜ k < 4 ⌝ }
     requires { ⌜ TableFor (now t) (keyIn (now t)) ⌝ }
-    ensures { λ r. ⌜ longOf (r .high) ≡ bitXor (longOf (s .high) / 2 ^ 16) (lookups (keyIn (now (t .entry))) (x .hi / 2 ^ (16 * k)) 4 * 2 ^ 64) ⌝ }
-    ensures { λ r. ⌜ longOf (r .low) ≡ bitXor (longOf (s .low) / 2 ^ 16) (lookups (keyIn (now (t .entry))) (x .lo / 2 ^ (16 * k)) 4 * 2 ^ 64) ⌝ }
+    ensures { λ r. ⌜ longOf (r .high)
+        ≡ bitXor (longOf (s .high) / 2 ^ 16) (lookups (keyIn (now (t .entry))) (x .hi / 2 ^ (16 * k)) 4 * 2 ^ 64) ⌝ }
+    ensures { λ r. ⌜ longOf (r .low)
+        ≡ bitXor (longOf (s .low) / 2 ^ 16) (lookups (keyIn (now (t .entry))) (x .lo / 2 ^ (16 * k)) 4 * 2 ^ 64) ⌝ }
 {
     Sums {
         high: moved(s.high, four(t, x.hi >> (16 * k))),

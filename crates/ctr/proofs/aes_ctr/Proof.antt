@@ -44,7 +44,7 @@ gctr-requires : tie.Need-gctr-requires
 gctr-requires c κs =
     let m = c .before .before .before .before .before .before .before in
     let l = lengths (m .before .before .before) in
-    (m .mix-table .ensures, (m .before .sbox .ensures, (omega (arith, l .least), omega (arith, l .most))))
+    record { mix = m .mix-table .ensures; sub = m .before .sbox .ensures; least = omega (arith, l .least); most = omega (arith, l .most) }
 
 returns-3 : tie.Need-returns-3
 returns-3 c =

@@ -10,7 +10,7 @@ crypt-front-requires : tie.Need-crypt-front-requires
 crypt-front-requires c κs =
     let p = c .before .before .before in
     let q = p .before .before .before .before .pre in
-    (q .0, (q .1 .0, (q .1 .1 .0, (q .1 .1 .1 .0, omega (arith, q .1 .1 .1 .1, p .copy .kept .0)))))
+    (q .0, omega (arith, q .1, p .copy .kept .0))
 
 returns : tie.Need-returns
 returns c =
@@ -18,7 +18,7 @@ returns c =
     let p = f .before .before .before .before in
     let start = p .before .before .before .before in
     let a = start .args in
-    crypt-law (a .text .now) (a .out .now) (start .pre .1 .1 .1 .1) (ciphAt (a .rounds) (a .w .now)) (nonceBytes (a .n)) (p .copy .last .0) _
+    crypt-law (a .text .now) (a .out .now) (start .pre .1) (ciphAt (a .rounds) (a .w .now)) (nonceBytes (a .n)) (p .copy .last .0) _
     (p .copy .ensures) (f .crypt-front .ensures)
 
 pub crypt-into-spec : {M : Type 1} → statement M

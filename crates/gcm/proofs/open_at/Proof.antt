@@ -23,7 +23,7 @@ slice-aggregate-tag-of c = sym (before-tag (c .before))
 tag-of-requires : tie.Need-tag-of-requires
 tag-of-requires c κs =
     let q = c .before .before .before .pre in
-    (q .0, (q .1 .0, (q .1 .1 .0, (q .1 .1 .1 .0, omega (arith, q .1 .1 .1 .1 .1 .0, before-tag (c .before))))))
+    (q .0, omega (arith, q .1 .1 .0, before-tag (c .before)))
 
 slice-aggregate-crypt-into : tie.Need-slice-aggregate-crypt-into
 slice-aggregate-crypt-into c = sym (before-tag (c .before .before .before .before .before .before .before))
@@ -32,7 +32,7 @@ crypt-into-requires : tie.Need-crypt-into-requires
 crypt-into-requires c κs =
     let k = c .before .before .before .before .before .before .before .before in
     let q = k .before .before .pre in
-    (q .0, (q .1 .0, (q .1 .1 .0, (q .1 .1 .1 .0, omega (arith, q .1 .1 .1 .1 .1 .1, before-tag k)))))
+    (q .0, omega (arith, q .1 .1 .1, before-tag k))
 
 returns : tie.Need-returns
 unfolding opened textOf

@@ -30,8 +30,10 @@ read-nonce-requires c κs = facts (c .before .before .before .before .before .be
 seal-at-requires : tie.Need-seal-at-requires
 seal-at-requires c κs =
     let m = c .before .before .before .before .before .before .before in
-    let f = facts (m .before .before) in
-    (m .mix-table .ensures, (m .before .sbox .ensures, (omega (arith, f .key .least), (omega (arith, f .key .most), (f .text, f .space)))))
+    let f = facts (m .before .before) in (
+      record { mix = m .mix-table .ensures; sub = m .before .sbox .ensures; least = omega (arith, f .key .least); most = omega (arith, f .key .most) },
+      (f .text, f .space),
+    )
 
 returns-2 : tie.Need-returns-2
 returns-2 c =

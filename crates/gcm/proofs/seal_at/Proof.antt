@@ -15,7 +15,7 @@ sealed-part : (p : tie.After-copy) → let n = length (p .before .before .before
     length (take n (p .copy .last .0)) ≡ n
 sealed-part p =
     let start = p .before .before .before .before in
-    length-take-le (length (start .args .text .now) + 16) (p .copy .last .0) (omega (arith, p .copy .kept .0, start .pre .1 .1 .1 .1 .1))
+    length-take-le (length (start .args .text .now) + 16) (p .copy .last .0) (omega (arith, p .copy .kept .0, start .pre .1 .1))
 
 slice-aggregate-seal-in-place-at : tie.Need-slice-aggregate-seal-in-place-at
 slice-aggregate-seal-in-place-at c = sym (sealed-part (c .before .before .before))
@@ -25,7 +25,7 @@ seal-in-place-at-requires c κs =
     let p = c .before .before .before in
     let q = p .before .before .before .before .pre in
     let l = sealed-part p in
-    (q .0, (q .1 .0, (q .1 .1 .0, (q .1 .1 .1 .0, (omega (arith, l), omega (arith, l, q .1 .1 .1 .1 .0))))))
+    (q .0, (omega (arith, l), omega (arith, l, q .1 .0)))
 
 returns : tie.Need-returns
 returns c =
@@ -33,7 +33,7 @@ returns c =
     let p = k .before .before .before .before in
     let start = p .before .before .before .before in
     let a = start .args in
-    seal-copied (ciphAt (a .rounds) (a .w .now)) (nonceBytes (a .n)) (a .text .now) (a .out .now) _ _ (start .pre .1 .1 .1 .1 .1) (p .copy .ensures)
+    seal-copied (ciphAt (a .rounds) (a .w .now)) (nonceBytes (a .n)) (a .text .now) (a .out .now) _ _ (start .pre .1 .1) (p .copy .ensures)
     (k .seal-in-place-at .ensures)
 
 pub seal-at-spec : {M : Type 1} → statement M

@@ -14,7 +14,7 @@ use Rattle.gcm.proofs.seal_in_place_at.Tie as tie
 crypt-front-requires : tie.Need-crypt-front-requires
 crypt-front-requires c κs =
     let q = c .before .before .pre in
-    (q .0, (q .1 .0, (q .1 .1 .0, (q .1 .1 .1 .0, omega arith))))
+    (q .0, omega arith)
 
 -- the part before the tag
 before-tag : (f : tie.After-crypt-front) → let n = length (f .before .before .before .args .body .now) - 16 in
@@ -30,7 +30,7 @@ tag-of-requires : tie.Need-tag-of-requires
 tag-of-requires c κs =
     let f = c .before .before .before in
     let q = f .before .before .before .pre in
-    (q .0, (q .1 .0, (q .1 .1 .0, (q .1 .1 .1 .0, omega (arith, q .1 .1 .1 .1 .1, before-tag f)))))
+    (q .0, omega (arith, q .1 .1, before-tag f))
 
 returns : tie.Need-returns
 unfolding textOf
@@ -40,7 +40,7 @@ returns c =
     let f = t .before .before .before .before in
     let start = f .before .before .before in
     let a = start .args in
-    seal-law (ciphAt (a .rounds) (a .w .now)) (nonceBytes (a .n)) (a .body .now) _ _ _ (start .pre .1 .1 .1 .1 .0) (f .crypt-front .ensures)
+    seal-law (ciphAt (a .rounds) (a .w .now)) (nonceBytes (a .n)) (a .body .now) _ _ _ (start .pre .1 .0) (f .crypt-front .ensures)
     (t .tag-of .ensures) (w .copy .ensures)
 
 pub seal-in-place-at-spec : {M : Type 1} → statement M

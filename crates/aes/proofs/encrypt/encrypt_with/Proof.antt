@@ -45,7 +45,7 @@ cipher-requires c κs =
     let k = c .before .before .before .before .before in
     let l = lengths k in
     let p = k .before .before .before .before .pre in
-    (p .0, (p .1, (omega (arith, l .least), omega (arith, l .most))))
+    record { mix = p .0; sub = p .1; least = omega (arith, l .least); most = omega (arith, l .most) }
 
 returns-3 : tie.Need-returns-3
 unfolding blockBytes
