@@ -2,13 +2,13 @@
 -- Assumes nothing.
 use mathlib.Core.Path.{_≡_, refl, sym, ap, _∙_}
 use mathlib.Core.List.{List, [], _∷_, _++_, map, map-append}
-use Prim.Native.Nat.{ℕ, suc, _+_, _-_, _*_, _/_, _%_, _≤_, _<_}
-use native.Mathlib.Nat.{add-zero, add-mod-left, mul-add-mod-self-right, mod-eq-of-lt, add-div-left, mul-add-div-right, div-eq-of-lt}
+use Prim.Native.Nat.{ℕ, zero, suc, _+_, _-_, _*_, _/_, _%_, _≤_, _<_}
+use native.Mathlib.Nat.{add-zero, sub-zero, zero-sub, add-mod-left, mul-add-mod-self-right, mod-eq-of-lt, add-div-left, mul-add-div-right, div-eq-of-lt}
 use native.Mathlib.Numerals.{add-one}
 use native.Mathlib.Omega.{arith}
 use lib.Bits.{bitXor}
-use lib.ListN.{getD, set, take, length}
-use lib.Seq.{take-suc-set, getD-set-same, getD-take}
+use lib.ListN.{getD, set, take, drop, length, replicate}
+use lib.Seq.{take-suc-set, drop-set-lt, getD-set-same, getD-take}
 use borrow.Author.Tests.{eq-eqb, ne-eqb, lt-ltb, le-ltb}
 use Rattle.octets.specs.Buffers.{_⊞_}
 use Rattle.aes_tables.specs.Field.{xTimes}
@@ -76,6 +76,24 @@ module _ (nk i : ℕ) (t : List ℕ) where
 stored : (w : List ℕ) (i v : ℕ) → i < length w → map bytes (take (suc i) (set w i v)) ≡ map bytes (take i w) ++ bytes v ∷ []
 stored w i v h = ap (map bytes) (take-suc-set w i v h) ∙ map-append bytes (take i w) (v ∷ [])
 
+-- ---- the words that are not made yet are zeros
+
+abbrev pub Zeros : (w : List ℕ) (from : ℕ) → Type 0
+Zeros w from = (k : ℕ) → from ≤ k → drop k w ≡ replicate (60 - k) 0
+
+drop-zeros : (k n : ℕ) → drop {A = ℕ} k (replicate n 0) ≡ replicate (n - k) 0
+drop-zeros zero n = ap (λ (m : ℕ). replicate m 0) (sym (sub-zero n))
+drop-zeros (suc k) zero = ap (λ (m : ℕ). replicate m 0) (sym (zero-sub (suc k)))
+drop-zeros (suc k) (suc n) = let e : n - k ≡ suc n - suc k = omega arith in drop-zeros k n ∙ ap (λ (m : ℕ). replicate m 0) e
+
+pub zeros-none : Zeros (replicate 60 0) 0
+zeros-none k h = drop-zeros k 60
+
+pub zeros-behind : (w : List ℕ) (i v from : ℕ) → i < from → Zeros w i → Zeros (set w i v) from
+zeros-behind w i v from h z k l = drop-set-lt k w i v (omega arith) ∙ z k (omega arith)
+
+-- ---- the loops
+
 -- a word of the key
 pub key-law : (w key : List ℕ) (i v : ℕ) → i < length w → map bytes (take i w) ≡ keyWords key i
     → bytes v ≡ getD key (4 * i) 0 ∷ getD key (4 * i + 1) 0 ∷ getD key (4 * i + 2) 0 ∷ getD key (4 * i + 3) 0 ∷ []
@@ -87,18 +105,21 @@ key-law w key i v h e ev = rw add-one (stored w i v h ∙ (λ j. e j ++ ev j ∷
 among : (w : List ℕ) (e : List (List ℕ)) (m i : ℕ) → i < m → map bytes (take m w) ≡ e → bytes (getD w i 0) ≡ word e i
 among w e m i h p = sym (word-law (take m w) i ∙ ap bytes (getD-take m w i 0 h)) ∙ ap (λ (l : List (List ℕ)). word l i) p
 
--- the second loop, before word nk + n: the words so far, the last of them, and where the next one stands
+-- the second loop, before word nk + n: the words so far, the last of them, where the next one stands, and what is behind
 pub record Expanding (key w : List ℕ) (nk n t at c : ℕ) : Type 0 where
   pub words : map bytes (take (nk + n) w) ≡ expanded nk key n
   pub last : t ≡ getD w (nk + n - 1) 0
   pub place : Place nk n at c
+  pub rest : Zeros w (nk + n)
 
-pub start-law : (w key : List ℕ) (nk i : ℕ) → i ≡ nk → map bytes (take i w) ≡ keyWords key i → Expanding key w nk 0 (getD w (nk - 1) 0) 0 1
+pub start-law : (w key : List ℕ) (nk i : ℕ) → i ≡ nk → map bytes (take i w) ≡ keyWords key i → Zeros w i
+    → Expanding key w nk 0 (getD w (nk - 1) 0) 0 1
 unfolding expanded
-start-law w key nk i e h = record {
+start-law w key nk i e h z = record {
   words = rw (add-zero, ← e) h;
   last = rw add-zero refl;
   place = first-place nk;
+  rest = λ k l. z k (omega arith);
 }
 
 module _ (key w : List ℕ) (nk n t at c : ℕ) (x : Expanding key w nk n t at c) (fits : nk + n < length w) (within : at < nk) where
@@ -126,14 +147,15 @@ module _ (key w : List ℕ) (nk n t at c : ℕ) (x : Expanding key w nk n t at c
     words = next-words v (ev (nk + n) (place-at nk n at c (x .place) within) (place-constant nk n at c (x .place) within));
     last = rw m (sym (getD-set-same w (nk + n) (bitXor (getD w n 0) v) 0 fits));
     place = p;
+    rest = zeros-behind w (nk + n) (bitXor (getD w n 0) v) (nk + (n + 1)) (omega arith) (x .rest);
   }
     where
       m : nk + (n + 1) - 1 ≡ nk + n
       m = omega arith
 
-pub end-law : (w key : List ℕ) (nk n : ℕ) → n ≡ 3 * nk + 28 → map bytes (take (nk + n) w) ≡ expanded nk key n
-    → map bytes (take (4 * nk + 28) w) ≡ keyExpansion nk key
+pub end-law : (key w : List ℕ) (nk n t at c : ℕ) → n ≡ 3 * nk + 28 → Expanding key w nk n t at c
+    → (map bytes (take (4 * nk + 28) w) ≡ keyExpansion nk key) × (drop (4 * nk + 28) w ≡ replicate (60 - (4 * nk + 28)) 0)
 unfolding keyExpansion
-end-law w key nk n e h =
+end-law key w nk n t at c e x =
     let m : 4 * nk + 28 ≡ nk + n = omega arith in
-    rw (m, ← e) h
+    (rw (m, ← e) (x .words), x .rest (4 * nk + 28) (omega arith))

@@ -5,7 +5,7 @@ use super::word::rotate3;
 ghost use mathlib.Core.Path.{_≡_};
 ghost use mathlib.Core.List.{map};
 ghost use Prim.Native.Nat.{ℕ, _+_, _-_, _*_, _/_, _%_, _≤_};
-ghost use lib.ListN.{length, take};
+ghost use lib.ListN.{length, take, drop, replicate};
 ghost use Rattle.aes_tables.specs.Field.{xTimes};
 ghost use Rattle.aes_tables.specs.SBox.{sBox};
 ghost use Rattle.aes_tables.specs.Tables.{IsTable};
@@ -71,6 +71,7 @@ pub fn expand(sbox: &[u8; 256], key: &[u8], nk: usize) -> [u32; 60]
     requires { ⌜ 4 ≤ nk ⌝ }
     requires { ⌜ nk ≤ 8 ⌝ }
     ensures { λ r. ⌜ map bytes (take (4 * nk + 28) r) ≡ keyExpansion nk (now (key .entry)) ⌝ }
+    ensures { λ r. ⌜ drop (4 * nk + 28) r ≡ replicate (60 - (4 * nk + 28)) 0 ⌝ }
 {
     let mut w = [0u32; 60];
     let mut i = 0;

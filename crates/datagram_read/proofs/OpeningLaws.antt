@@ -106,8 +106,8 @@ pub meant-law : (side : Side) (client x : ℕ) (plain : List ℕ) → side ≡ S
 meant-law side client x plain e ex = ap (λ (y : ℕ). eqb y client) ex ∙ ap (λ (s : Side). meant s plain) (sym e)
 
 -- padding and address
-module _ (side : Side) (id packet : ℕ) (plain : List ℕ) (f p w : ℕ) (ef : f ≡ fixedLength side) (ep : p ≡ be 2 (drop (f - 2) plain))
-    (ew : w ≡ p) (r : Parsed) (er : r ≡ parseAt plain (f + w))
+module _ (side : Side) (id packet : ℕ) (plain : List ℕ) (f p : ℕ) (ef : f ≡ fixedLength side) (ep : p ≡ be 2 (drop (f - 2) plain))
+    (r : Parsed) (er : r ≡ parseAt plain (f + p))
   where
     padding-law : p ≡ paddingOf side plain
     padding-law = ep ∙ ap (λ (n : ℕ). be 2 (drop (n - 2) plain)) ef
@@ -115,7 +115,7 @@ module _ (side : Side) (id packet : ℕ) (plain : List ℕ) (f p w : ℕ) (ef : 
     address-law : (q : Parsed) → r ≡ q → (t : ℕ) → t ≡ timeOf plain → headerWith id packet t p q ≡ readAddress side id packet plain
     unfolding readAddress
     address-law q eq t et =
-        let e = sym eq ∙ er ∙ (λ i. parseAt plain (ef i + (ew ∙ padding-law) i)) in
+        let e = sym eq ∙ er ∙ (λ i. parseAt plain (ef i + padding-law i)) in
         λ i. headerWith id packet (et i) (padding-law i) (e i)
 
     pub address-found : (a : Address) → r ≡ Found a → (t : ℕ) → t ≡ timeOf plain

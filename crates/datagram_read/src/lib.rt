@@ -109,19 +109,13 @@ fn is_meant(side: Side, plain: &[u8]) -> bool
     }
 }
 
-fn wide(x: u16) -> usize
-    ensures { λ r. ⌜ r ≡ x ⌝ }
-{
-    x as usize
-}
-
 // Padding and address.
 fn read_address(side: Side, id: u64, packet: u64, plain: &[u8]) -> Opened
     ensures { λ r. ⌜ r ≡ readAddress side id packet (now (plain .entry)) ⌝ }
 {
     let fixed = fixed_length(side);
     let padding = octets::read_u16_be(plain, fixed - 2);
-    match socks5::parse(plain, fixed + wide(padding)) {
+    match socks5::parse(plain, fixed + padding as usize) {
         Parsed::Found(address) => {
             let target = address.target;
             Opened::Datagram(Header {

@@ -11,14 +11,14 @@ use Rattle.octets.proofs.BufferLaws.{length-put, take-put}
 use Rattle.stream.specs.declared.Sender.{Sender}
 use Rattle.stream.specs.declared.Sealed.{Sealed}
 use Rattle.stream.specs.declared.Sealed.the-variants.{Bytes}
-use Rattle.stream.specs.Sealing.{chunk, senderKey, chunkAnswer}
+use Rattle.stream.specs.Sealing.{chunk, moved, senderKey, chunkAnswer}
 use Rattle.head_seal.specs.HeadSealing.{response}
 use Rattle.stream_open.specs.declared.Turn.the-variants.{Length, Payload}
 use Rattle.stream_open.specs.declared.Chunk.{Chunk}
 use Rattle.stream_open.specs.declared.Stepped.the-variants.{Opened}
 use Rattle.response_open.specs.Heads.{receiver}
 use Rattle.stream_open.specs.Chunks.{stepNext}
-use Rattle.demands.specs.StreamsBack.{partner, midway, ChunkBack, Flow, answerTo, writtenIn, usedBy, stepped, after, gives, received, AllOpened, sentBy, leaves, sentAll, senderAfter, AllSealed, Fit, StreamBack, StreamsGivenBack, SendersCount, RequestStreamsGivenBack, ResponseStreamsGivenBack}
+use Rattle.demands.specs.StreamsBack.{partner, midway, ChunkBack, Flow, answerTo, writtenIn, usedBy, stepped, after, gives, received, AllOpened, sentBy, leaves, sentChunk, sentAll, chunksFrom, senderAfter, AllSealed, Fit, StreamBack, StreamsGivenBack, SendersCount, RequestStreamsGivenBack, ResponseStreamsGivenBack}
 use Rattle.demands.proofs.StreamReadBack.{chunkable, chunk-back}
 use Rattle.demands.proofs.RequestReadBack.{request-back}
 use Rattle.demands.proofs.ResponseReadBack.{response-back}
@@ -157,21 +157,60 @@ stream-back space s (p ∷ ps) o rest out h =
     (subst (λ (b : List ℕ). StreamBack (suc (suc (2 * length ps))) (record { stream = partner s; bytes = b; buffer = out }) (p ∷ ps)
     (senderAfter space next ps) rest) (sym bytes) here))
 
--- each chunk takes two counters, the next two
+-- ---- each chunk takes two counters, the next two, and the key stays
+
+-- a chunk that was sealed moves its sender
+moves : (space : ℕ) (s : Sender) (p : List ℕ) (ps : List (List ℕ)) → AllSealed space s (p ∷ ps)
+    → leaves (chunkAnswer s (length p) space) s ≡ moved s
+moves space s p ps o =
+    ap (λ (a : Sealed). leaves a s) (o .0 .1 .1) ∙ chunkable s (length p) space (o .0 .0) (o .0 .1 .0) (o .0 .1 .1) .sizes .after
+
+-- and so those behind it were sealed by the moved one
+behind-it : (space : ℕ) (s : Sender) (p : List ℕ) (ps : List (List ℕ)) → AllSealed space s (p ∷ ps) → AllSealed space (moved s) ps
+behind-it space s p ps o = subst (λ (x : Sender). AllSealed space x ps) (moves space s p ps o) (o .1)
+
+two-past : (c m : ℕ) → c + 2 + 2 * m ≡ c + 2 * suc m
+two-past c m = omega arith
+
+own-chunk : (space : ℕ) (s : Sender) (before : List (List ℕ)) (p : List ℕ) (behind : List (List ℕ)) → AllSealed space s (before ++ p ∷ behind)
+    → sentChunk space (senderAfter space s before) p ≡ chunk (senderKey s) (s .counter + 2 * length before) p
+own-chunk space s [] p behind o =
+    ap (λ (a : Sealed). sentBy a (chunk (senderKey s) (s .counter) p)) (o .0 .1 .1)
+    ∙ ap (λ (c : ℕ). chunk (senderKey s) c p) (sym (add-zero (s .counter)))
+own-chunk space s (q ∷ qs) p behind o =
+    ap (λ (x : Sender). sentChunk space (senderAfter space x qs) p) (moves space s q (qs ++ p ∷ behind) o)
+    ∙ own-chunk space (moved s) qs p behind (behind-it space s q (qs ++ p ∷ behind) o)
+    ∙ ap (λ (c : ℕ). chunk (senderKey s) c p) (two-past (s .counter) (length qs))
+
+own-chunks : (space : ℕ) (s : Sender) (ps : List (List ℕ)) → AllSealed space s ps → sentAll space s ps ≡ chunksFrom (senderKey s) (s .counter) ps
+own-chunks space s [] o = refl
+own-chunks space s (p ∷ ps) o =
+    (λ i. sentBy (o .0 .1 .1 i) (chunk (senderKey s) (s .counter) p) ++ sentAll space (moves space s p ps o i) ps)
+    ∙ ap (λ (t : List ℕ). chunk (senderKey s) (s .counter) p ++ t) (own-chunks space (moved s) ps (behind-it space s p ps o))
+
+counts-all : (space : ℕ) (s : Sender) (ps : List (List ℕ)) → AllSealed space s ps
+    → senderAfter space s ps .counter ≡ s .counter + 2 * length ps
+counts-all space s [] o = sym (add-zero (s .counter))
+counts-all space s (p ∷ ps) o =
+    ap (λ (x : Sender). senderAfter space x ps .counter) (moves space s p ps o)
+    ∙ counts-all space (moved s) ps (behind-it space s p ps o)
+    ∙ two-past (s .counter) (length ps)
+
+key-stays : (space : ℕ) (s : Sender) (ps : List (List ℕ)) → AllSealed space s ps → senderKey (senderAfter space s ps) ≡ senderKey s
+key-stays space s [] o = refl
+key-stays space s (p ∷ ps) o =
+    ap (λ (x : Sender). senderKey (senderAfter space x ps)) (moves space s p ps o) ∙ key-stays space (moved s) ps (behind-it space s p ps o)
+
 pub own-counters : SendersCount
-own-counters space s [] o = sym (add-zero (s .counter))
-own-counters space s (p ∷ ps) o =
-    let next = o .0 .1 .0 in
-    let answered = o .0 .1 .1 in
-    let later : leaves (chunkAnswer s (length p) space) s ≡ next = ap (λ (a : Sealed). leaves a s) answered in
-    let inner = own-counters space next ps (subst (λ (x : Sender). AllSealed space x ps) later (o .1)) in
-    let two : next .counter ≡ s .counter + 2 =
-    ap (λ (x : Sender). x .counter) (chunkable s (length p) space (o .0 .0) next answered .sizes .after) in
-    ap (λ (x : Sender). senderAfter space x ps .counter) later ∙ inner ∙ ap (λ (c : ℕ). c + 2 * length ps) two
-    ∙ counters (s .counter) (length ps)
-  where
-    counters : (c m : ℕ) → c + 2 + 2 * m ≡ c + 2 * suc m
-    counters c m = omega arith
+unfolding chunk
+own-counters space s payloads o =
+    record {
+      each-chunk = λ before p behind e. own-chunk space s before p behind (subst (AllSealed space s) e o);
+      two-pieces = λ counter p. refl;
+      all-chunks = own-chunks space s payloads o;
+      counts = counts-all space s payloads o;
+      same-key = key-stays space s payloads o;
+    }
 
 -- ---- behind heads
 

@@ -7,6 +7,7 @@ use mathlib.Core.List.{List, [], _∷_, _++_}
 use Prim.Native.Nat.{ℕ, zero, suc, _+_, _*_, _^_, _≤_, _<_}
 use lib.ListN.{length, take, drop}
 use Rattle.octets.specs.Buffers.{put}
+use Rattle.octets.specs.Numbers.{toBe}
 use Rattle.protocol.specs.Time.{timeValid}
 use Rattle.socks5.specs.declared.Address.{Address}
 use Rattle.socks5.specs.declared.Parsed.the-variants.{Found}
@@ -16,7 +17,7 @@ use Rattle.pool.specs.Pool.{lawful, meet, store}
 use Rattle.stream.specs.declared.Sender.{Sender}
 use Rattle.stream.specs.declared.Sealed.{Sealed}
 use Rattle.stream.specs.declared.Sealed.the-variants.{Bytes, Refused as Unsealed}
-use Rattle.stream.specs.Pieces.{nonce}
+use Rattle.stream.specs.Pieces.{nonce, sealAt}
 use Rattle.stream.specs.Sealing.{chunk, senderKey, chunkAnswer}
 use Rattle.head_seal.specs.HeadSealing.{variablePart, variableLength, request, response, requestAnswer, responseAnswer}
 use Rattle.stream_open.specs.declared.Turn.{Turn}
@@ -208,11 +209,14 @@ abbrev pub leaves : Sealed → Sender → Sender
 leaves (Bytes n next) s = next
 leaves (Unsealed r) s = s
 
--- payloads sealed one after another, each into a buffer with `space` bytes
+-- one payload sealed into a buffer with `space` bytes
+abbrev pub sentChunk : (space : ℕ) → Sender → List ℕ → List ℕ
+sentChunk space s p = sentBy (chunkAnswer s (length p) space) (chunk (senderKey s) (s .counter) p)
+
+-- payloads sealed one after another, each into such a buffer
 abbrev pub sentAll : (space : ℕ) → Sender → List (List ℕ) → List ℕ
 sentAll space s [] = []
-sentAll space s (p ∷ ps) =
-    sentBy (chunkAnswer s (length p) space) (chunk (senderKey s) (s .counter) p) ++ sentAll space (leaves (chunkAnswer s (length p) space) s) ps
+sentAll space s (p ∷ ps) = sentChunk space s p ++ sentAll space (leaves (chunkAnswer s (length p) space) s) ps
 
 abbrev pub senderAfter : (space : ℕ) → Sender → List (List ℕ) → Sender
 senderAfter space s [] = s
@@ -244,11 +248,24 @@ StreamsGivenBack =
     → StreamBack (2 * length payloads) (record { stream = partner s; bytes = sentAll space s payloads ++ rest; buffer = out }) payloads
     (senderAfter space s payloads) rest
 
--- chunk m of a sender, from 0, is sealed under the counters 2 m and 2 m + 1 past its first
+-- chunks under one key, each two counters past the one before it
+abbrev pub chunksFrom : (key : List ℕ) (counter : ℕ) → List (List ℕ) → List ℕ
+chunksFrom key counter [] = []
+chunksFrom key counter (p ∷ ps) = chunk key counter p ++ chunksFrom key (counter + 2) ps
+
+-- payloads that a sender sealed: chunk m, from 0, is the one under the sender's key, with the counters 2 m and 2 m + 1 past its first
+pub record OwnCounters (space : ℕ) (s : Sender) (payloads : List (List ℕ)) : Type 0 where
+  pub each-chunk : (before : List (List ℕ)) (p : List ℕ) (behind : List (List ℕ)) → payloads ≡ before ++ p ∷ behind
+      → sentChunk space (senderAfter space s before) p ≡ chunk (senderKey s) (s .counter + 2 * length before) p
+  pub two-pieces : (counter : ℕ) (p : List ℕ)
+      → chunk (senderKey s) counter p ≡ sealAt (senderKey s) counter (toBe 2 (length p)) ++ sealAt (senderKey s) (counter + 1) p
+  pub all-chunks : sentAll space s payloads ≡ chunksFrom (senderKey s) (s .counter) payloads
+  -- and the sender behind all of them
+  pub counts : senderAfter space s payloads .counter ≡ s .counter + 2 * length payloads
+  pub same-key : senderKey (senderAfter space s payloads) ≡ senderKey s
+
 abbrev pub SendersCount : Type 0
-SendersCount =
-    (space : ℕ) (s : Sender) (payloads : List (List ℕ)) → AllSealed space s payloads
-    → senderAfter space s payloads .counter ≡ s .counter + 2 * length payloads
+SendersCount = (space : ℕ) (s : Sender) (payloads : List (List ℕ)) → AllSealed space s payloads → OwnCounters space s payloads
 
 -- a request's head, and the chunks behind it: the head is given back, and from the stream that it began the payloads are
 pub record RequestStream (method : ℕ) (key salt : List ℕ) (time : ℕ) (address : List ℕ) (padding : ℕ) (payload : List ℕ) (n : ℕ) (next : Sender) (later : ℕ) (pool : List ℕ) (place : ℕ) (out : List ℕ) (space : ℕ) (payloads : List (List ℕ)) (rest buffer : List ℕ) : Type 0 where

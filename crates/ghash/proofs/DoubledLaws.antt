@@ -11,7 +11,7 @@ use lib.Dec.{lit<}
 use lib.ListN.{length, set, length-set}
 use lib.Seq.{getD-set-same, getD-set-other}
 use Rattle.ghash.specs.Field.{next}
-use Rattle.ghash.specs.Table.{TableFor, Doubled, Made, entry, entryIn, steps}
+use Rattle.ghash.specs.Table.{TableFor, keyIn, Doubled, Made, entry, entryIn, steps}
 use Rattle.ghash.specs.Words.{words}
 use Rattle.ghash.proofs.TableLaws.{entry-none, entry-first, entry-half, entry-sum}
 
@@ -113,3 +113,12 @@ made-none t h s = record { size = s; at = λ j l. absurd (omega arith) }
 
 pub made-all : (t : List ℕ) (h k : ℕ) → k ≡ 4 → Made t h k → TableFor t h
 made-all t h k e m = record { size = m .size; at = λ j l n b. m .at j (omega arith) n b }
+
+-- ---- the key of a table
+
+pub key-in : (t : List ℕ) (h : ℕ) → TableFor t h → keyIn t ≡ h
+unfolding keyIn steps
+key-in t h f = f .at 0 (lit< tt) 8 (lit< tt) ∙ entry-first h
+
+pub table-for-key : (t : List ℕ) (h : ℕ) → TableFor t h → TableFor t (keyIn t)
+table-for-key t h f = subst (TableFor t) (sym (key-in t h f)) f

@@ -25,6 +25,10 @@ pub record TableFor (t : List ℕ) (h : ℕ) : Type 0 where
   pub size : length t ≡ 128
   pub at : (j : ℕ) → j < 4 → (n : ℕ) → n < 16 → entryIn t (16 * j + n) ≡ entry (steps (4 * j) h) n
 
+-- the hash key that a table is for: its entry for the block 1 || 0^127, the field's 1
+unfoldable pub keyIn : List ℕ → ℕ
+keyIn t = entryIn t 8
+
 -- k lookups, from the last four bits of x on
 unfoldable pub lookups : ℕ → ℕ → ℕ → ℕ
 lookups h x zero = 0

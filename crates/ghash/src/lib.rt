@@ -1,13 +1,13 @@
 // GHASH of SP 800-38D. An element of GCM's field is a block of two words, the first bit of the block the highest of hi; bit i
 // is the coefficient of x^i.
 ghost use mathlib.Core.Path.{_≡_};
-ghost use Prim.Native.Nat.{ℕ, _≤_};
+ghost use Prim.Native.Nat.{_≤_};
 ghost use lib.Bits.{bitXor};
 ghost use lib.ListN.{length, drop};
 ghost use Rattle.octets.specs.Buffers.{put};
 ghost use Rattle.octets.specs.Numbers.{be, toBe};
 ghost use Rattle.ghash.specs.Ghash.{blocks, ghashFrom};
-ghost use Rattle.ghash.specs.Table.{TableFor};
+ghost use Rattle.ghash.specs.Table.{TableFor, keyIn};
 ghost use Rattle.ghash.specs.Words.{blockOf};
 
 pub mod product;
@@ -49,7 +49,8 @@ pub fn write_element(out: &mut [u8], x: Element)
 
 // GHASH from y on over the bytes of s, the last block filled up with zeros, with the table for the hash key.
 pub fn over(t: &[u64; 128], y: Element, s: &[u8]) -> Element
-    ensures { λ r. ⌜ ((h : ℕ) → TableFor (now (t .entry)) h → blockOf r ≡ ghashFrom h (blockOf y) (blocks (now (s .entry)))) ⌝ }
+    requires { ⌜ TableFor (now t) (keyIn (now t)) ⌝ }
+    ensures { λ r. ⌜ blockOf r ≡ ghashFrom (keyIn (now (t .entry))) (blockOf y) (blocks (now (s .entry))) ⌝ }
 {
     let n = (s.len() + 15) / 16;
     let mut z = y;

@@ -6,7 +6,7 @@ ghost use lib.Bits.{bitXor};
 ghost use lib.ListN.{length, set};
 ghost use Rattle.ghash.specs.Field as field;
 ghost use Rattle.ghash.specs.Table as table;
-ghost use Rattle.ghash.specs.Table.{TableFor, Doubled, Made, entry, steps, lookups};
+ghost use Rattle.ghash.specs.Table.{TableFor, keyIn, Doubled, Made, entry, steps, lookups};
 ghost use Rattle.ghash.specs.Words.{blockOf, longOf};
 use super::Element;
 use super::add;
@@ -112,7 +112,8 @@ pub fn write_table(t: &mut [u64; 128], h: Element)
 // The entry of part j for the last four bits of w.
 fn entry_at(t: &[u64; 128], j: usize, w: u64) -> Element
     requires { ⌜ j < 4 ⌝ }
-    ensures { λ r. ⌜ ((h : ℕ) → TableFor (now (t .entry)) h → blockOf r ≡ entry (steps (4 * j) h) (w % 16)) ⌝ }
+    requires { ⌜ TableFor (now t) (keyIn (now t)) ⌝ }
+    ensures { λ r. ⌜ blockOf r ≡ entry (steps (4 * j) (keyIn (now (t .entry)))) (w % 16) ⌝ }
 {
     let n = 16 * j + (w % 16) as usize;
     Element {
@@ -123,7 +124,8 @@ fn entry_at(t: &[u64; 128], j: usize, w: u64) -> Element
 
 // Four lookups, for the last 16 bits of w.
 fn four(t: &[u64; 128], w: u64) -> Element
-    ensures { λ r. ⌜ ((h : ℕ) → TableFor (now (t .entry)) h → blockOf r ≡ lookups h w 4) ⌝ }
+    requires { ⌜ TableFor (now t) (keyIn (now t)) ⌝ }
+    ensures { λ r. ⌜ blockOf r ≡ lookups (keyIn (now (t .entry))) w 4 ⌝ }
 {
     let a = entry_at(t, 3, w);
     let b = entry_at(t, 2, w / 0x10);
@@ -146,8 +148,9 @@ fn moved(z: Long, e: Element) -> Long
 // Four lookups more for each word of x, from its bit at 16 * k on.
 fn lookup(t: &[u64; 128], x: Element, s: Sums, k: u64) -> Sums
     requires { ⌜ k < 4 ⌝ }
-    ensures { λ r. ⌜ ((h : ℕ) → TableFor (now (t .entry)) h → longOf (r .high) ≡ bitXor (longOf (s .high) / 2 ^ 16) (lookups h (x .hi / 2 ^ (16 * k)) 4 * 2 ^ 64)) ⌝ }
-    ensures { λ r. ⌜ ((h : ℕ) → TableFor (now (t .entry)) h → longOf (r .low) ≡ bitXor (longOf (s .low) / 2 ^ 16) (lookups h (x .lo / 2 ^ (16 * k)) 4 * 2 ^ 64)) ⌝ }
+    requires { ⌜ TableFor (now t) (keyIn (now t)) ⌝ }
+    ensures { λ r. ⌜ longOf (r .high) ≡ bitXor (longOf (s .high) / 2 ^ 16) (lookups (keyIn (now (t .entry))) (x .hi / 2 ^ (16 * k)) 4 * 2 ^ 64) ⌝ }
+    ensures { λ r. ⌜ longOf (r .low) ≡ bitXor (longOf (s .low) / 2 ^ 16) (lookups (keyIn (now (t .entry))) (x .lo / 2 ^ (16 * k)) 4 * 2 ^ 64) ⌝ }
 {
     Sums {
         high: moved(s.high, four(t, x.hi >> (16 * k))),
@@ -158,8 +161,9 @@ fn lookup(t: &[u64; 128], x: Element, s: Sums, k: u64) -> Sums
 // 16 lookups for each word of x, from its last four bits on. The words are looked up apart, so that neither waits for the
 // other, and in one function, so that their sums stay in registers.
 fn gather(t: &[u64; 128], x: Element) -> Sums
-    ensures { λ r. ⌜ ((h : ℕ) → TableFor (now (t .entry)) h → longOf (r .high) ≡ table.gather h (x .hi) 4) ⌝ }
-    ensures { λ r. ⌜ ((h : ℕ) → TableFor (now (t .entry)) h → longOf (r .low) ≡ table.gather h (x .lo) 4) ⌝ }
+    requires { ⌜ TableFor (now t) (keyIn (now t)) ⌝ }
+    ensures { λ r. ⌜ longOf (r .high) ≡ table.gather (keyIn (now (t .entry))) (x .hi) 4 ⌝ }
+    ensures { λ r. ⌜ longOf (r .low) ≡ table.gather (keyIn (now (t .entry))) (x .lo) 4 ⌝ }
 {
     let none = Long {
         hi: 0,
@@ -203,7 +207,8 @@ fn add_behind(z: Long, e: Element) -> Long
 // x • h by 32 lookups in the table for h. The low word's sum is 64 steps behind the high one's, and both are reduced
 // together.
 pub fn mul(t: &[u64; 128], x: Element) -> Element
-    ensures { λ r. ⌜ ((h : ℕ) → TableFor (now (t .entry)) h → blockOf r ≡ field.mul (blockOf x) h) ⌝ }
+    requires { ⌜ TableFor (now t) (keyIn (now t)) ⌝ }
+    ensures { λ r. ⌜ blockOf r ≡ field.mul (blockOf x) (keyIn (now (t .entry))) ⌝ }
 {
     let s = gather(t, x);
     reduce(add_behind(s.high, reduce(s.low)))

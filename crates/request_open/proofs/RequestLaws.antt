@@ -137,26 +137,26 @@ module _ (f : Fixed) (used : ℕ) (plain : List ℕ) (r : Parsed) (er : r ≡ pa
     pub variable-bad : b ≡ false → Unheaded Malformed ≡ readVariable f used plain
     variable-bad e = by-test false e
 
-    pub variable-read : b ≡ true → (p w : ℕ) → p ≡ paddingAt (a .end) plain → w ≡ p
+    pub variable-read : b ≡ true → (p : ℕ) → p ≡ paddingAt (a .end) plain
         → Header
         (record {
           target = a .target;
           port = a .port;
           time = f .time;
           padding = p;
-          payload = a .end + 2 + w;
+          payload = a .end + 2 + p;
           length = f .length;
           used = used;
         })
         ≡ readVariable f used plain
-    variable-read e p w ep ew =
+    variable-read e p ep =
         (λ i. Header
         (record {
           target = a .target;
           port = a .port;
           time = f .time;
           padding = ep i;
-          payload = a .end + 2 + (ew ∙ ep) i;
+          payload = a .end + 2 + ep i;
           length = f .length;
           used = used;
         }))

@@ -47,12 +47,6 @@ pub enum RequestRead {
     Refused(Refusal),
 }
 
-fn wide(x: u16) -> usize
-    ensures { λ r. ⌜ r ≡ x ⌝ }
-{
-    x as usize
-}
-
 // Whether the padding behind an address that ends at a place is lawful. Only a padded request may lack a payload, so the
 // header never ends with the padding length.
 fn padding_fits(end: usize, plain: &[u8]) -> bool
@@ -65,7 +59,7 @@ fn padding_fits(end: usize, plain: &[u8]) -> bool
     if left <= 2 {
         return false;
     }
-    let padding = wide(octets::read_u16_be(plain, end));
+    let padding = octets::read_u16_be(plain, end) as usize;
     if MAX_PADDING < padding {
         return false;
     }
@@ -87,7 +81,7 @@ fn read_variable(fixed: Fixed, used: usize, plain: &[u8]) -> RequestRead
                     port: address.port,
                     time: fixed.time,
                     padding: padding,
-                    payload: end + 2 + wide(padding),
+                    payload: end + 2 + padding as usize,
                     length: fixed.length,
                     used: used,
                 });

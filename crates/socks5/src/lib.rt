@@ -54,17 +54,11 @@ fn parse_v6(s: &[u8], at: usize) -> Parsed
     })
 }
 
-fn wide(x: u8) -> usize
-    ensures { λ r. ⌜ r ≡ x ⌝ }
-{
-    x as usize
-}
-
 fn parse_name(s: &[u8], at: usize) -> Parsed
     requires { ⌜ at ≤ length (now s) ⌝ }
     ensures { λ r. ⌜ r ≡ nameAt (now (s .entry)) at (getD (now (s .entry)) (at + 1) 0) ⌝ }
 {
-    let n = wide(octets::byte_or_zero(s, at + 1));
+    let n = octets::byte_or_zero(s, at + 1) as usize;
     if n == 0 {
         return Parsed::Malformed;
     }

@@ -45,12 +45,6 @@ pub struct Step {
     pub stream: Receiver,
 }
 
-fn wide(x: u16) -> usize
-    ensures { λ r. ⌜ r ≡ x ⌝ }
-{
-    x as usize
-}
-
 // A length: refusals 11, 10 and 4, in this order, or what it says. Nothing is written.
 fn open_length(stream: Receiver, k: usize, s: &[u8], room: usize) -> Stepped
     requires { ⌜ 0 < nkOf k ⌝ }
@@ -81,7 +75,7 @@ fn open_payload(stream: Receiver, k: usize, n: u16, s: &[u8], out: &mut [u8]) ->
     ensures { λ r. ⌜ r ≡ turnAnswer (Payload n) stream (now (s .entry)) (length (now (out .entry))) ⌝ }
     ensures { λ r. ⌜ now (out .exit) ≡ writtenBy r (Payload n) (openAt (streamKey stream) (stream .counter) (take (n + 16) (now (s .entry)))) (now (out .entry)) ⌝ }
 {
-    let due = wide(n);
+    let due = n as usize;
     if stream.counter == LAST_COUNTER {
         return Stepped::Refused(Refusal::Counter);
     }

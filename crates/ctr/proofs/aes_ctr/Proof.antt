@@ -56,7 +56,7 @@ returns-3 c =
     let yes = both-lawful 12 (a .key .now) (a .nonce .now) (has-key k) (e .before .before .before .before .if2 .left) in (
       sym yes,
       ctr-done (a .key .now) (a .nonce .now) (a .counter) (a .text .now) yes _ (k .before .key-words .result) (e .expand .result) _
-          (k .before .key-words .ensures) (e .expand .ensures) (n .read-nonce .ensures) (g .gctr .ensures),
+          (k .before .key-words .ensures) (e .expand .ensures .0) (n .read-nonce .ensures) (g .gctr .ensures),
     )
 
 pub aes-ctr-spec : {M : Type 1} → statement M

@@ -10,25 +10,22 @@ sub-read-u16-be c = omega (arith, c .fixed-length .ensures, fixed-least (c .befo
 
 add-parse : tie.Need-add-parse
 add-parse c =
-    let p = c .before in
-    let f = p .before in
-    record { fits = omega (arith, c .wide .ensures, p .read-u16-be .ok, f .fixed-length .ensures, fixed-most (f .before .before .args .side)) }
+    let f = c .before in
+    record { fits = omega (arith, c .read-u16-be .ok, f .fixed-length .ensures, fixed-most (f .before .before .args .side)) }
 
 returns : tie.Need-returns
 returns c =
     let r = c .before .before .before .before in
-    let w = r .before in
-    let p = w .before in
+    let p = r .before in
     let a = p .before .before .before .args in
-    address-found (a .side) (a .id) (a .packet) (a .plain .now) _ _ _ (p .before .fixed-length .ensures) (p .read-u16-be .ensures) (w .wide .ensures) _ (r .parse .ensures) _
+    address-found (a .side) (a .id) (a .packet) (a .plain .now) _ _ (p .before .fixed-length .ensures) (p .read-u16-be .ensures) _ (r .parse .ensures) _
     (c .before .before .address .given .1) _ (c .read-u64-be .ensures)
 
 returns-2 : tie.Need-returns-2
 returns-2 c =
     let r = c .before .before in
-    let w = r .before in
-    let p = w .before in
-    address-none _ _ _ _ _ _ _ (p .before .fixed-length .ensures) (p .read-u16-be .ensures) (w .wide .ensures) _ (r .parse .ensures)
+    let p = r .before in
+    address-none _ _ _ _ _ _ (p .before .fixed-length .ensures) (p .read-u16-be .ensures) _ (r .parse .ensures)
     (c .enum-told .given .1)
 
 pub read-address-spec : {M : Type 1} → statement M
@@ -38,7 +35,7 @@ read-address-spec =
     (λ c κs. search needs)
     sub-read-u16-be
     (λ c κs. search needs)
-    (λ c κs. search needs)
+    (λ c. search needs)
     add-parse
     (λ c κs. search needs)
     (λ c. search needs)

@@ -52,7 +52,7 @@ returns-3 c =
     let f = facts k in
     let d =
     open-done _ _ _ _ (k .before .lawful-words .result) (e .expand .result) _ _ (r .open-at .result) (k .before .before .if1 .left) (f .lawful)
-    (f .words-are) (e .expand .ensures) (n .read-nonce .ensures) (r .open-at .ensures .0) (r .open-at .ensures .1) in
+    (f .words-are) (e .expand .ensures .0) (n .read-nonce .ensures) (r .open-at .ensures .0) (r .open-at .ensures .1) in
     (ap (answer true) (sym (c .if3 .taken)) ∙ d .0, d .1)
 
 returns-4 : tie.Need-returns-4
@@ -64,7 +64,7 @@ returns-4 c =
     let f = facts k in
     let d =
     open-done _ _ _ _ (k .before .lawful-words .result) (e .expand .result) _ _ (r .open-at .result) (k .before .before .if1 .left) (f .lawful)
-    (f .words-are) (e .expand .ensures) (n .read-nonce .ensures) (r .open-at .ensures .0) (r .open-at .ensures .1) in
+    (f .words-are) (e .expand .ensures .0) (n .read-nonce .ensures) (r .open-at .ensures .0) (r .open-at .ensures .1) in
     (ap (answer true) (sym (c .if3 .left)) ∙ d .0, d .1)
 
 pub open-with-spec : {M : Type 1} → statement M

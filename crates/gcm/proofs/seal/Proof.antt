@@ -40,7 +40,7 @@ returns-2 c =
     let e = n .before .before .before .before in
     let k = e .before .before .before .before in
     let f = facts k in
-    seal-done _ _ _ _ (k .before .lawful-words .result) (e .expand .result) _ _ (f .lawful) (f .words-are) (e .expand .ensures)
+    seal-done _ _ _ _ (k .before .lawful-words .result) (e .expand .result) _ _ (f .lawful) (f .words-are) (e .expand .ensures .0)
     (n .read-nonce .ensures) (r .seal-at .ensures)
 
 pub seal-spec : {M : Type 1} → statement M

@@ -45,7 +45,7 @@ returns-3 c =
     let k = e .before in
     let f = facts k in
     in-place-done _ _ _ (k .before .lawful-words .result) (e .expand .result) _ _ (k .before .before .if1 .left) (f .lawful) (f .words-are)
-    (e .expand .ensures) (n .read-nonce .ensures) (r .seal-in-place-at .ensures)
+    (e .expand .ensures .0) (n .read-nonce .ensures) (r .seal-in-place-at .ensures)
 
 pub seal-in-place-with-spec : {M : Type 1} → statement M
 seal-in-place-with-spec =

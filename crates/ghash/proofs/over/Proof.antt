@@ -9,7 +9,7 @@ use lib.ListN.{drop}
 use Rattle.octets.specs.Buffers.{blockCount}
 use Rattle.ghash.specs.Field as field
 use Rattle.ghash.specs.Ghash.{blocks, firstBlocks, ghashFrom}
-use Rattle.ghash.specs.Table.{TableFor}
+use Rattle.ghash.specs.Table.{keyIn}
 use Rattle.ghash.specs.Words.{blockOf}
 use Rattle.ghash.proofs.GhashLaws.{ghash-step, ghash-end}
 use Rattle.ghash.proofs.over.Statement.{statement}
@@ -18,7 +18,7 @@ use Rattle.ghash.proofs.over.Tie as tie
 abbrev Inv-loop : tie.InvT-loop
 Inv-loop t s n z₀ i₀ z i =
     (i ≤ n)
-    × ((h : ℕ) → TableFor t h → ghashFrom h (blockOf z) (firstBlocks (n - i) (drop (16 * i) s)) ≡ ghashFrom h (blockOf z₀) (blocks s))
+    × (ghashFrom (keyIn t) (blockOf z) (firstBlocks (n - i) (drop (16 * i) s)) ≡ ghashFrom (keyIn t) (blockOf z₀) (blocks s))
 
 abbrev μ-loop : tie.MeasureT-loop
 μ-loop t s n z₀ i₀ z i = n - i
@@ -28,27 +28,29 @@ unfolding blocks
 loop-holds c =
     let a = c .before .args in
     let s = a .s .now in
-    (omega arith, λ h t. ap (λ (k : ℕ). ghashFrom h (blockOf (a .y)) (firstBlocks k s)) (sub-zero (blockCount s)))
+    (omega arith, ap (λ (k : ℕ). ghashFrom (keyIn (a .t .now)) (blockOf (a .y)) (firstBlocks k s)) (sub-zero (blockCount s)))
 
 loop-again : tie.Need-loop-again Inv-loop μ-loop
 loop-again c =
     let l = c .before .before .before .before in
-    let s = l .before .before .args .s .now in
+    let a = l .before .before .args in
+    let s = a .s .now in
+    let h = keyIn (a .t .now) in
     let i = l .loop .i in
-    let z = blockOf (l .loop .z) in (
+    let z = blockOf (l .loop .z) in
+    let e = c .mul .ensures ∙ ap (λ (w : ℕ). field.mul w h) (c .before .add .ensures ∙ ap (bitXor z) (c .before .before .block-at .ensures)) in (
       omega arith,
-      λ h t.
-          let e = c .mul .ensures h t ∙ ap (λ (w : ℕ). field.mul w h) (c .before .add .ensures ∙ ap (bitXor z) (c .before .before .block-at .ensures)) in
-          ap (λ (w : ℕ). ghashFrom h w (firstBlocks (blockCount s - (i + 1)) (drop (16 * (i + 1)) s))) e
+      ap (λ (w : ℕ). ghashFrom h w (firstBlocks (blockCount s - (i + 1)) (drop (16 * (i + 1)) s))) e
           ∙ sym (ghash-step h z s (blockCount s) i (omega arith))
-          ∙ l .loop .inv .1 h t,
+          ∙ l .loop .inv .1,
     )
 
 returns : tie.Need-returns Inv-loop μ-loop
-returns c = λ h t.
+returns c =
     let l = c .before in
-    let s = l .before .before .args .s .now in
-    sym (ghash-end h (blockOf (l .loop .z)) s (blockCount s) (l .loop .i) (omega arith)) ∙ l .loop .inv .1 h t
+    let a = l .before .before .args in
+    let s = a .s .now in
+    sym (ghash-end (keyIn (a .t .now)) (blockOf (l .loop .z)) s (blockCount s) (l .loop .i) (omega arith)) ∙ l .loop .inv .1
 
 pub over-spec : {M : Type 1} → statement M
 over-spec =

@@ -17,24 +17,22 @@ add-t11 c =
 
 add-t13 : tie.Need-add-t13
 add-t13 c =
-    let u = c .before in
-    let t = u .before in
+    let t = c .before in
     let g = t .before in
     let a = g .before .before .address .given .0 .0 in
     let start = g .before .before .before .before .before .before in
     let within = padding-within (a .end) (start .args .plain .now) (sym (g .padding-fits .ensures) ∙ t .if1 .taken) in
-    record { fits = omega (arith, within, c .wide .ensures, u .read-u16-be .ensures, start .good .1 .1 .0 .0) }
+    record { fits = omega (arith, within, c .read-u16-be .ensures, start .good .1 .1 .0 .0) }
 
 returns : tie.Need-returns
 returns c =
-    let u = c .before in
-    let t = u .before in
+    let t = c .before in
     let g = t .before in
     let d = g .before .before in
     let p = d .before .before in
     let a = p .before .before .args in
-    variable-read (a .fixed) (a .used) (a .plain .now) _ (p .parse .ensures) _ (d .address .given .1) _ (g .padding-fits .ensures) (t .if1 .taken) _ _
-    (u .read-u16-be .ensures) (c .wide .ensures)
+    variable-read (a .fixed) (a .used) (a .plain .now) _ (p .parse .ensures) _ (d .address .given .1) _ (g .padding-fits .ensures) (t .if1 .taken) _
+    (c .read-u16-be .ensures)
 
 returns-2 : tie.Need-returns-2
 returns-2 c =
@@ -59,7 +57,7 @@ read-variable-spec =
     (λ c κs. search needs)
     (λ c κs. search needs)
     add-t11
-    (λ c κs. search needs)
+    (λ c. search needs)
     add-t13
     returns
     (λ c. search needs)

@@ -1,4 +1,4 @@
-use mathlib.Core.Path.{sym}
+use mathlib.Core.Path.{refl, sym}
 use Prim.Native.Nat.{_+_}
 use native.Mathlib.Omega.{arith}
 use borrow.Author.Needs.{needs}
@@ -8,16 +8,19 @@ use Rattle.stream_open.proofs.open_payload.Statement.{statement}
 use Rattle.stream_open.proofs.open_payload.Tie as tie
 
 returns : tie.Need-returns
-returns c = payload-counter _ _ _ (c .before .before .wide .ensures) _ _ (c .if1 .taken)
+returns c = payload-counter _ _ _ refl _ _ (c .if1 .taken)
 
 returns-2 : tie.Need-returns-2
-returns-2 c = let e = c .before in payload-more _ _ _ (e .before .before .wide .ensures) _ _ (e .if1 .left) (c .if2 .taken)
+returns-2 c =
+    let e = c .before in
+    let a = e .before .before .before .before .args in
+    payload-more (a .stream) (a .n) _ refl (a .s .now) (a .out .now) (e .if1 .left) (c .if2 .taken)
 
 returns-3 : tie.Need-returns-3
 returns-3 c =
     let f = c .before in
     let e = f .before in
-    payload-room _ _ _ (e .before .before .wide .ensures) _ _ (e .if1 .left) (f .if2 .left) (c .if3 .taken)
+    payload-room _ _ _ refl _ _ (e .if1 .left) (f .if2 .left) (c .if3 .taken)
 
 slice-aggregate-open-piece : tie.Need-slice-aggregate-open-piece
 slice-aggregate-open-piece c = sym (length-take-le _ _ (c .before .before .before .if2 .left))
@@ -26,10 +29,9 @@ open-piece-requires : tie.Need-open-piece-requires
 open-piece-requires c κs =
     let g = c .before .before .before in
     let f = g .before in
-    let w = f .before .before .before in
-    let a = w .before .before .before in
-    let n = length-take-le (w .wide .result + 16) (a .args .s .now) (f .if2 .left) in
-    (a .pre .0, (omega (arith, n), (omega (arith, n, w .wide .ensures, a .fits .n .fits), omega (arith, n, g .if3 .left))))
+    let a = f .before .before .before .before .before in
+    let n = length-take-le (a .args .n + 16) (a .args .s .now) (f .if2 .left) in
+    (a .pre .0, (omega (arith, n), (omega (arith, n, a .fits .n .fits), omega (arith, n, g .if3 .left))))
 
 returns-4 : tie.Need-returns-4
 returns-4 c =
@@ -37,8 +39,7 @@ returns-4 c =
     let g = p .before .before .before .before in
     let f = g .before in
     let e = f .before in
-    let w = e .before .before in
-    payload-good _ _ _ (w .wide .ensures) _ _ (e .if1 .left) (f .if2 .left) (g .if3 .left) _ _ _ (w .before .before .before .pre .1)
+    payload-good _ _ _ refl _ _ (e .if1 .left) (f .if2 .left) (g .if3 .left) _ _ _ (e .before .before .before .before .pre .1)
     (p .open-piece .ensures .0) (p .open-piece .ensures .1) (c .if4 .taken)
 
 returns-5 : tie.Need-returns-5
@@ -47,15 +48,13 @@ returns-5 c =
     let g = p .before .before .before .before in
     let f = g .before in
     let e = f .before in
-    let w = e .before .before in
-    payload-forged _ _ _ (w .wide .ensures) _ _ (e .if1 .left) (f .if2 .left) (g .if3 .left) _ _ _ (w .before .before .before .pre .1)
+    payload-forged _ _ _ refl _ _ (e .if1 .left) (f .if2 .left) (g .if3 .left) _ _ _ (e .before .before .before .before .pre .1)
     (p .open-piece .ensures .0) (p .open-piece .ensures .1) (c .if4 .left)
 
 pub open-payload-spec : {M : Type 1} → statement M
 open-payload-spec =
     tie.close
     (tie.spec
-    (λ c κs. search needs)
     returns
     (λ c. search needs)
     (λ c. search needs)

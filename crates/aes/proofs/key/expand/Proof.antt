@@ -6,12 +6,12 @@ use borrow.Author.Needs.{needs}
 use lib.ListN.{length, take, length-set}
 use Rattle.aes.specs.KeyExpansion.{keyWords}
 use Rattle.aes.specs.Words.{bytes}
-use Rattle.aes.proofs.KeyLaws.{Expanding, same-group, next-group, key-law, next-law, start-law, end-law}
+use Rattle.aes.proofs.KeyLaws.{Zeros, zeros-none, zeros-behind, Expanding, same-group, next-group, key-law, next-law, start-law, end-law}
 use Rattle.aes.proofs.key.expand.Statement.{statement}
 use Rattle.aes.proofs.key.expand.Tie as tie
 
 abbrev Inv-loop : tie.InvT-loop
-Inv-loop sbox key nk w₀ i₀ w i = (i ≤ nk) × (length w ≡ 60) × (map bytes (take i w) ≡ keyWords key i)
+Inv-loop sbox key nk w₀ i₀ w i = (i ≤ nk) × (length w ≡ 60) × (map bytes (take i w) ≡ keyWords key i) × Zeros w i
 
 abbrev μ-loop : tie.MeasureT-loop
 μ-loop sbox key nk w₀ i₀ w i = nk - i
@@ -24,17 +24,18 @@ abbrev μ-loop2 : tie.MeasureT-loop2
 
 loop-holds : tie.Need-loop-holds Inv-loop μ-loop Inv-loop2 μ-loop2
 unfolding keyWords
-loop-holds c = (search needs, refl, refl)
+loop-holds c = (search needs, refl, refl, zeros-none)
 
 loop-again : tie.Need-loop-again Inv-loop μ-loop Inv-loop2 μ-loop2
 loop-again c = (
   search needs,
   simp length-set (omega arith),
   key-law _ _ _ _ (search needs) (c .before .before .before .before .before .before .loop .inv .2) (c .pack .ensures),
+  zeros-behind _ _ _ _ (omega arith) (c .before .before .before .before .before .before .loop .inv .3),
 )
 
 loop2-holds : tie.Need-loop2-holds Inv-loop μ-loop Inv-loop2 μ-loop2
-loop2-holds c = (search needs, search needs, search needs, start-law _ _ _ (c .before .loop .i) (search needs) (c .before .loop .inv .2))
+loop2-holds c = (search needs, search needs, search needs, start-law _ _ _ (c .before .loop .i) (search needs) (c .before .loop .inv .2) (c .before .loop .inv .3))
 
 loop2-again : tie.Need-loop2-again Inv-loop μ-loop Inv-loop2 μ-loop2
 loop2-again c = (
@@ -53,7 +54,7 @@ loop2-again-2 c = (
 )
 
 returns : tie.Need-returns Inv-loop μ-loop Inv-loop2 μ-loop2
-returns c = end-law _ _ _ (c .before .loop2 .n) (search needs) (c .before .loop2 .inv .3 .words)
+returns c = end-law _ _ _ (c .before .loop2 .n) _ _ _ (search needs) (c .before .loop2 .inv .3)
 
 pub expand-spec : {M : Type 1} → statement M
 expand-spec =

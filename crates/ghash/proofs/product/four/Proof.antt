@@ -6,7 +6,7 @@ use Rattle.ghash.proofs.product.four.Statement.{statement}
 use Rattle.ghash.proofs.product.four.Tie as tie
 
 returns : tie.Need-returns
-returns c = λ h t.
+returns c =
     let d = c .before .before .before in
     let e = d .before in
     let b = e .before in
@@ -15,10 +15,10 @@ returns c = λ h t.
     ∙ ap₂ bitXor
     (c .before .add2 .ensures
     ∙ ap₂ bitXor
-    (c .before .before .add .ensures ∙ ap₂ bitXor (a .entry-at .ensures h t) (b .entry-at2 .ensures h t))
-    (e .entry-at3 .ensures h t))
-    (d .entry-at4 .ensures h t)
-    ∙ four-parts h (a .before .args .w)
+    (c .before .before .add .ensures ∙ ap₂ bitXor (a .entry-at .ensures) (b .entry-at2 .ensures))
+    (e .entry-at3 .ensures))
+    (d .entry-at4 .ensures)
+    ∙ four-parts _ (a .before .args .w)
 
 pub four-spec : {M : Type 1} → statement M
 four-spec =

@@ -3,7 +3,7 @@ use mathlib.Core.Path.{_≡_, refl, ap, _∙_}
 use Prim.Native.Nat.{ℕ, _-_, _*_, _≤_}
 use native.Mathlib.Omega.{arith}
 use borrow.Author.Needs.{needs}
-use Rattle.ghash.specs.Table.{TableFor, lookups, gather}
+use Rattle.ghash.specs.Table.{keyIn, lookups, gather}
 use Rattle.ghash.specs.Words.{longOf}
 use Rattle.ghash.proofs.GatherLaws.{gather-more}
 use Rattle.ghash.proofs.product.gather.Statement.{statement}
@@ -11,14 +11,14 @@ use Rattle.ghash.proofs.product.gather.Tie as tie
 
 abbrev Inv-loop : tie.InvT-loop
 Inv-loop t x s₀ k₀ s k =
-    (k ≤ 4) × ((h : ℕ) → TableFor t h → longOf (s .high) ≡ gather h (x .hi) k) × ((h : ℕ) → TableFor t h → longOf (s .low) ≡ gather h (x .lo) k)
+    (k ≤ 4) × (longOf (s .high) ≡ gather (keyIn t) (x .hi) k) × (longOf (s .low) ≡ gather (keyIn t) (x .lo) k)
 
 abbrev μ-loop : tie.MeasureT-loop
 μ-loop t x s₀ k₀ s k = 4 - k
 
 loop-holds : tie.Need-loop-holds Inv-loop μ-loop
 unfolding gather
-loop-holds c = (omega arith, λ h t. refl, λ h t. refl)
+loop-holds c = (omega arith, refl, refl)
 
 loop-again : tie.Need-loop-again Inv-loop μ-loop
 loop-again c =
@@ -26,8 +26,8 @@ loop-again c =
     let i = l .loop .inv in
     let k = l .loop .k in (
       omega arith,
-      λ h t. c .lookup .ensures .0 h t ∙ gather-more h _ k (i .1 h t),
-      λ h t. c .lookup .ensures .1 h t ∙ gather-more h _ k (i .2 h t),
+      c .lookup .ensures .0 ∙ gather-more _ _ k (i .1),
+      c .lookup .ensures .1 ∙ gather-more _ _ k (i .2),
     )
 
 returns : tie.Need-returns Inv-loop μ-loop
@@ -35,8 +35,8 @@ returns c =
     let l = c .before in
     let i = l .loop .inv in
     let e : l .loop .k ≡ 4 = omega arith in (
-      λ h t. i .1 h t ∙ ap (gather h _) e,
-      λ h t. i .2 h t ∙ ap (gather h _) e,
+      i .1 ∙ ap (gather _ _) e,
+      i .2 ∙ ap (gather _ _) e,
     )
 
 pub gather-spec : {M : Type 1} → statement M

@@ -12,8 +12,8 @@ returns c =
     let high = low .before .before in
     let first = high .before in
     let s = first .before .before .args .s in (
-      λ h t. high .moved .ensures ∙ ap (λ (v : ℕ). bitXor (longOf (s .high) / 2 ^ 16) (v * 2 ^ 64)) (first .four .ensures h t),
-      λ h t. c .moved2 .ensures ∙ ap (λ (v : ℕ). bitXor (longOf (s .low) / 2 ^ 16) (v * 2 ^ 64)) (low .four2 .ensures h t),
+      high .moved .ensures ∙ ap (λ (v : ℕ). bitXor (longOf (s .high) / 2 ^ 16) (v * 2 ^ 64)) (first .four .ensures),
+      c .moved2 .ensures ∙ ap (λ (v : ℕ). bitXor (longOf (s .low) / 2 ^ 16) (v * 2 ^ 64)) (low .four2 .ensures),
     )
 
 pub lookup-spec : {M : Type 1} → statement M

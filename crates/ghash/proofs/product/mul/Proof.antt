@@ -8,7 +8,7 @@ use Rattle.ghash.proofs.product.mul.Statement.{statement}
 use Rattle.ghash.proofs.product.mul.Tie as tie
 
 returns : tie.Need-returns
-returns c = λ h t.
+returns c =
     let sum = c .before in
     let low = sum .before in
     let both = low .before in
@@ -17,8 +17,8 @@ returns c = λ h t.
     c .reduce2 .ensures
     ∙ ap (steps 64)
     (sum .add-behind .ensures
-    ∙ ap₂ bitXor (both .gather .ensures .0 h t) (low .reduce .ensures ∙ ap (steps 64) (both .gather .ensures .1 h t)))
-    ∙ joined h (x .hi) (x .lo) (omega (arith, start .good))
+    ∙ ap₂ bitXor (both .gather .ensures .0) (low .reduce .ensures ∙ ap (steps 64) (both .gather .ensures .1)))
+    ∙ joined _ (x .hi) (x .lo) (omega (arith, start .good))
 
 pub mul-spec : {M : Type 1} → statement M
 mul-spec = tie.close (tie.spec (λ c κs. search needs) (λ c κs. search needs) (λ c κs. search needs) (λ c κs. search needs) returns)
