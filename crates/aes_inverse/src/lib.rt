@@ -66,7 +66,7 @@ fn mix_columns(t: &[u32; 256], s: Block) -> Block
 }
 
 // INVCIPHER, at an expanded key and its number of rounds.
-pub fn inv_cipher(t: &[u32; 256], sbox: &[u8; 256], w: &[u32; 60], rounds: usize, x: Block) -> Block
+fn inv_cipher(t: &[u32; 256], sbox: &[u8; 256], w: &[u32; 60], rounds: usize, x: Block) -> Block
     requires { ⌜ IsTable invMixEntry (now t) ⌝ }
     requires { ⌜ IsTable invSBox (now sbox) ⌝ }
     requires { ⌜ 0 < rounds ⌝ }

@@ -16,7 +16,7 @@ use Rattle.aes_tables.specs.Tables.{IsTable, mixEntry}
 use Rattle.aes.specs.Cipher.{at, state, byColumn, subBytes, shiftRows, mixColumn, mixColumns}
 use Rattle.aes.specs.Words.{bytes, turned, columnSum}
 use Rattle.aes.proofs.RoundLaws.{mixed-law, sum-law, add-law}
-use Rattle.aes_wide.specs.Wide.{Wide, part, columnOf, stateOf}
+use Rattle.aes_wide.specs.Wide.{Wide, rowEntry, columnOf, stateOf}
 
 -- ---- making them
 
@@ -83,7 +83,7 @@ turning-all t n e k = record { row = k .row; turns = rows }
 -- ---- a round
 
 module _ (t : List ℕ) (p : Wide t) where
-  first-row : (a : ℕ) → part t 0 a ≡ getD t (a % 256) 0
+  first-row : (a : ℕ) → rowEntry t 0 a ≡ getD t (a % 256) 0
   first-row a = ap (λ (n : ℕ). getD t n 0) (zero-add (a / 1 % 256) ∙ ap (λ (x : ℕ). x % 256) (div-one a))
 
   column-bytes : (a b c d : ℕ)
@@ -91,7 +91,7 @@ module _ (t : List ℕ) (p : Wide t) where
   unfolding columnOf columnSum
   column-bytes a b c d =
       let byte : (x : ℕ) → x % 256 < 256 = λ x. mod-lt x (zero-lt-suc 255) in
-      sum-law (part t 0 a) (part t 1 b) (part t 2 c) (part t 3 d) _ _ _
+      sum-law (rowEntry t 0 a) (rowEntry t 1 b) (rowEntry t 2 c) (rowEntry t 3 d) _ _ _
       (p .turns 1 (b / 256 % 256) (lit< tt) (byte (b / 256)))
       (p .turns 2 (c / 65536 % 256) (lit< tt) (byte (c / 65536)))
       (p .turns 3 (d / 16777216 % 256) (lit< tt) (byte (d / 16777216)))

@@ -14,12 +14,12 @@ pub record Wide (t : List ℕ) : Type 0 where
   pub turns : (k x : ℕ) → k < 4 → x < 256 → bytes (getD t (256 * k + x) 0) ≡ turned k (bytes (getD t x 0))
 
 -- what the byte of row k of a column gives to its new column
-abbrev pub part : List ℕ → ℕ → ℕ → ℕ
-part t k w = getD t (256 * k + w / 2 ^ (8 * k) % 256) 0
+abbrev pub rowEntry : List ℕ → ℕ → ℕ → ℕ
+rowEntry t k w = getD t (256 * k + w / 2 ^ (8 * k) % 256) 0
 
 -- the new column of row 0 of a, row 1 of b, row 2 of c and row 3 of d
 unfoldable pub columnOf : List ℕ → ℕ → ℕ → ℕ → ℕ → ℕ
-columnOf t a b c d = bitXor (bitXor (bitXor (part t 0 a) (part t 1 b)) (part t 2 c)) (part t 3 d)
+columnOf t a b c d = bitXor (bitXor (bitXor (rowEntry t 0 a) (rowEntry t 1 b)) (rowEntry t 2 c)) (rowEntry t 3 d)
 
 -- the state of four columns
 unfoldable pub stateOf : ℕ → ℕ → ℕ → ℕ → List ℕ

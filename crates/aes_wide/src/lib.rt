@@ -10,7 +10,7 @@ ghost use Rattle.aes_tables.specs.SBox.{sBox};
 ghost use Rattle.aes_tables.specs.Tables.{IsTable, mixEntry};
 ghost use Rattle.aes.specs.Cipher.{subBytes, shiftRows, mixColumns, addRoundKey, rounds as roundsOf, cipher};
 ghost use Rattle.aes.specs.Words.{bytes, blockBytes};
-ghost use Rattle.aes_wide.specs.Wide.{Wide, part as partOf, columnOf};
+ghost use Rattle.aes_wide.specs.Wide.{Wide, rowEntry, columnOf};
 
 pub mod resume;
 
@@ -29,9 +29,9 @@ pub fn widen(t: &mut [u32; 1024], row: &[u32; 256])
 }
 
 // The entry of row k for the byte of w in that row.
-fn part(t: &[u32; 1024], k: u32, w: u32) -> u32
+fn row_entry(t: &[u32; 1024], k: u32, w: u32) -> u32
     requires { ⌜ k < 4 ⌝ }
-    ensures { λ r. ⌜ r ≡ partOf (now (t .entry)) k w ⌝ }
+    ensures { λ r. ⌜ r ≡ rowEntry (now (t .entry)) k w ⌝ }
 {
     let x = (w >> (8 * k)) % 256;
     t[(256 * k + x) as usize]
@@ -41,7 +41,7 @@ fn part(t: &[u32; 1024], k: u32, w: u32) -> u32
 fn column(t: &[u32; 1024], a: u32, b: u32, c: u32, d: u32) -> u32
     ensures { λ r. ⌜ r ≡ columnOf (now (t .entry)) a b c d ⌝ }
 {
-    part(t, 0, a) ^ part(t, 1, b) ^ part(t, 2, c) ^ part(t, 3, d)
+    row_entry(t, 0, a) ^ row_entry(t, 1, b) ^ row_entry(t, 2, c) ^ row_entry(t, 3, d)
 }
 
 fn round(t: &[u32; 1024], s: Block, k: Block) -> Block

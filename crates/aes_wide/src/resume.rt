@@ -2,7 +2,7 @@
 // in the second: all else is made once.
 use super::column;
 use super::finish;
-use super::part;
+use super::row_entry;
 use aes::Block;
 ghost use mathlib.Core.Path.{_≡_};
 ghost use mathlib.Core.List.{List, map};
@@ -12,7 +12,7 @@ ghost use Rattle.aes_tables.specs.Tables.{IsTable};
 ghost use Rattle.aes.specs.Cipher.{addRoundKey, rounds as roundsOf, cipher};
 ghost use Rattle.aes.specs.Words.{bytes, blockBytes};
 ghost use Rattle.aes_wide.specs.Wide.{Wide, stateOf};
-ghost use Rattle.aes_wide.specs.Resume.{Prepares, threeOf};
+ghost use Rattle.aes_wide.specs.Resume.{Prepares, threeRows};
 
 // Column 0 after the first round and all columns after the second, each without the look-up that the last byte decides.
 pub struct Prepared {
@@ -24,13 +24,13 @@ pub struct Prepared {
 }
 
 // The look-ups of rows i, j and k for a column.
-fn three(t: &[u32; 1024], i: u32, x: u32, j: u32, y: u32, k: u32, z: u32) -> u32
+fn three_rows(t: &[u32; 1024], i: u32, x: u32, j: u32, y: u32, k: u32, z: u32) -> u32
     requires { ⌜ i < 4 ⌝ }
     requires { ⌜ j < 4 ⌝ }
     requires { ⌜ k < 4 ⌝ }
-    ensures { λ r. ⌜ r ≡ threeOf (now (t .entry)) i x j y k z ⌝ }
+    ensures { λ r. ⌜ r ≡ threeRows (now (t .entry)) i x j y k z ⌝ }
 {
-    part(t, i, x) ^ part(t, j, y) ^ part(t, k, z)
+    row_entry(t, i, x) ^ row_entry(t, j, y) ^ row_entry(t, k, z)
 }
 
 // From a state that the first round key was added to.
@@ -41,11 +41,11 @@ pub fn prepare(t: &[u32; 1024], w: &[u32; 60], s: Block) -> Prepared
     let c = column(t, s.c, s.d, s.a, s.b) ^ w[6];
     let d = column(t, s.d, s.a, s.b, s.c) ^ w[7];
     Prepared {
-        first: three(t, 0, s.a, 1, s.b, 2, s.c) ^ w[4],
-        a: three(t, 1, b, 2, c, 3, d) ^ w[8],
-        b: three(t, 0, b, 1, c, 2, d) ^ w[9],
-        c: three(t, 0, c, 1, d, 3, b) ^ w[10],
-        d: three(t, 0, d, 2, b, 3, c) ^ w[11],
+        first: three_rows(t, 0, s.a, 1, s.b, 2, s.c) ^ w[4],
+        a: three_rows(t, 1, b, 2, c, 3, d) ^ w[8],
+        b: three_rows(t, 0, b, 1, c, 2, d) ^ w[9],
+        c: three_rows(t, 0, c, 1, d, 3, b) ^ w[10],
+        d: three_rows(t, 0, d, 2, b, 3, c) ^ w[11],
     }
 }
 
@@ -55,12 +55,12 @@ fn resumed(t: &[u32; 1024], m: Prepared, d: u32) -> Block
     ensures { λ r. ⌜ ((w : List ℕ) (a b c : ℕ) → Prepares (now (t .entry)) w a b c d m
         → blockBytes r ≡ roundsOf (map bytes w) 2 (stateOf a b c d)) ⌝ }
 {
-    let s = m.first ^ part(t, 3, d);
+    let s = m.first ^ row_entry(t, 3, d);
     Block {
-        a: m.a ^ part(t, 0, s),
-        b: m.b ^ part(t, 3, s),
-        c: m.c ^ part(t, 2, s),
-        d: m.d ^ part(t, 1, s),
+        a: m.a ^ row_entry(t, 0, s),
+        b: m.b ^ row_entry(t, 3, s),
+        c: m.c ^ row_entry(t, 2, s),
+        d: m.d ^ row_entry(t, 1, s),
     }
 }
 

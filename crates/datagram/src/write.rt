@@ -8,6 +8,7 @@ use datagram_parts::SEPARATE;
 use datagram_parts::Side;
 use datagram_parts::fixed_length;
 use datagram_parts::seal_body;
+use datagram_parts::separate_header;
 use datagram_parts::write_plaintext;
 use datagram_parts::write_separate;
 use protocol::Refusal;
@@ -18,8 +19,8 @@ ghost use Rattle.octets.specs.Buffers.{put};
 ghost use Rattle.aes_tables.specs.SBox.{sBox};
 ghost use Rattle.aes_tables.specs.Tables.{IsTable, mixEntry};
 ghost use Rattle.aes.specs.Keyed.{nkOf};
-ghost use Rattle.datagram_parts.specs.Headers.{fixedLength, plaintext};
-ghost use Rattle.datagram_parts.specs.Parts.{tagLength, maxDatagram, sealBody};
+ghost use Rattle.datagram_parts.specs.Headers.{separateLength, fixedLength, plaintext};
+ghost use Rattle.datagram_parts.specs.Parts.{tagLength, maxDatagram, sealUnder};
 ghost use Rattle.datagram.specs.Sealing.{idsDiffer, sealedLength, capped, lengthAnswer, argumentAnswer, sealAnswer, packetsOf, sealNext, datagram, sealOut};
 
 // ---- what is answered
@@ -138,12 +139,14 @@ fn sealing(sender: Sender, answer: Sealed) -> Sealing
 
 // ---- what is written
 
+// The body, into the buffer that it fills.
 fn write_body(
     t: &[u32; 256],
     sbox: &[u8; 256],
     body: &mut [u8],
     key: &[u8],
-    sender: Sender,
+    header: &[u8],
+    side: Side,
     clock: u64,
     address: &[u8],
     padding: usize,
@@ -151,20 +154,21 @@ fn write_body(
 )
     requires { ⌜ 0 < nkOf (length (now key)) ⌝ }
     requires { ⌜ length (now body)
-        ≡ fixedLength (sender .side) + padding + length (now address) + length (now payload) + tagLength ⌝ }
+        ≡ fixedLength side + padding + length (now address) + length (now payload) + tagLength ⌝ }
     requires { ⌜ length (now body) ≤ maxDatagram ⌝ }
     requires { ⌜ IsTable mixEntry (now t) ⌝ }
     requires { ⌜ IsTable sBox (now sbox) ⌝ }
+    requires { ⌜ length (now header) ≡ separateLength ⌝ }
     ensures { λ _. ⌜ now (body .exit)
-        ≡ sealBody (now (key .entry)) (sender .id) (sender .packet)
-        (plaintext (sender .side) clock padding (now (address .entry)) (now (payload .entry))) ⌝ }
+        ≡ sealUnder (now (key .entry)) (now (header .entry))
+        (plaintext side clock padding (now (address .entry)) (now (payload .entry))) ⌝ }
 {
-    let side = sender.side;
     write_plaintext(body, side, clock, address, padding, payload);
-    seal_body(t, sbox, body, key, sender.id, sender.packet);
+    seal_body(t, sbox, body, key, header);
 }
 
-// A datagram of n bytes, to the front of a buffer. The body is sealed where it stands, behind the separate header.
+// A datagram of n bytes, to the front of a buffer. The body is sealed where it stands, behind the separate header, which is
+// made once: it is encrypted, and lends the nonce.
 fn write_datagram(
     out: &mut [u8],
     n: usize,
@@ -185,13 +189,16 @@ fn write_datagram(
 {
     let sbox = aes_tables::sbox();
     let t = aes_tables::mix_table();
-    write_separate(&t, &sbox, out, key, sender.id, sender.packet);
+    let side = sender.side;
+    let header = separate_header(sender.id, sender.packet);
+    write_separate(&t, &sbox, out, key, &header);
     write_body(
         &t,
         &sbox,
         &mut out[SEPARATE..n],
         key,
-        sender,
+        &header,
+        side,
         clock,
         address,
         padding,

@@ -4,25 +4,26 @@ use mathlib.Core.Path.{_≡_, refl, sym, ap, ap₂, _∙_}
 use mathlib.Core.List.{List, [], _∷_, _++_, append-assoc}
 use Prim.Native.Nat.{ℕ, _+_, _-_, _≤_, _<_}
 use native.Mathlib.Omega.{arith}
-use lib.ListN.{length, set, replicate, length-append, length-replicate}
+use lib.ListN.{length, set, replicate, length-append, length-replicate, take, drop, length-drop}
 use Rattle.octets.specs.Buffers.{put}
 use Rattle.octets.specs.Numbers.{toBe}
-use Rattle.octets.proofs.BufferLaws.{put-behind, put-one, put-whole}
+use Rattle.octets.proofs.BufferLaws.{put-behind, put-one, put-whole, length-put, part-put, take-put, drop-put}
 use Rattle.octets.proofs.NumberLaws.{length-toBe}
 use Rattle.aes.specs.KeyExpansion.{aes}
 use Rattle.aes.specs.Keyed.{nkOf, inPlace}
+use Rattle.aes.proofs.BlockLaws.{length-aes}
 use Rattle.aes.proofs.KeyedLaws.{in-place-lawful}
 use Rattle.gcm.specs.Gcm.{textOf}
 use Rattle.gcm.specs.Keyed.{maxText, sealedInPlace}
 use Rattle.gcm.proofs.GcmLaws.{text-put}
 use Rattle.gcm.proofs.KeyedLaws.{in-place-seals}
-use Rattle.protocol.specs.Subkey.{sessionSubkey}
+use Rattle.protocol.specs.Subkey.{subkey}
 use Rattle.datagram_parts.specs.declared.Side.{Side}
 use Rattle.datagram_parts.specs.declared.Side.the-variants.{Client, Server}
-use Rattle.datagram_parts.specs.Headers.{separateHeader, nonce, fixedPart, fixedLength, plaintext}
-use Rattle.datagram_parts.specs.Parts.{maxDatagram, separateBlock, sealBody}
-use Rattle.datagram_parts.proofs.LengthLaws.{length-separateHeader, length-nonce, length-fixedPart}
-use Rattle.datagram_parts.proofs.SubkeyLaws.{length-session-subkey}
+use Rattle.datagram_parts.specs.Headers.{separateHeader, fixedPart, fixedLength, plaintext}
+use Rattle.datagram_parts.specs.Parts.{maxDatagram, sealUnder}
+use Rattle.datagram_parts.proofs.LengthLaws.{length-fixedPart}
+use Rattle.datagram_parts.proofs.SubkeyLaws.{length-subkey}
 
 -- ---- the separate header
 
@@ -36,12 +37,17 @@ header-law d v w id packet l ev ew =
     omega (arith, l, length-append (toBe 8 id) (toBe 8 packet), i, length-toBe 8 packet) in
     put-behind d (toBe 8 id) (toBe 8 packet) v w 0 8 n (omega (arith, l, i)) ev ew ∙ put-whole d (toBe 8 id ++ toBe 8 packet) whole
 
--- encrypted where it stands
-pub block-law : (key h b : List ℕ) (id packet : ℕ) → 0 < nkOf (length key) → h ≡ separateHeader id packet → b ≡ inPlace aes key h
-    → b ≡ separateBlock key id packet
-unfolding separateBlock
-block-law key h b id packet k eh eb =
-    eb ∙ in-place-lawful key h aes k (ap length eh ∙ length-separateHeader id packet) ∙ ap (aes (nkOf (length key)) key) eh
+-- copied to the front of a buffer and encrypted there
+pub block-law : (key d h v b : List ℕ) → 0 < nkOf (length key) → 16 ≤ length d → length h ≡ 16 → v ≡ put d 0 h → b ≡ inPlace aes key (take 16 v)
+    → b ++ drop 16 v ≡ put d 0 (aes (nkOf (length key)) key h)
+block-law key d h v b k l lh ev eb =
+    let x = aes (nkOf (length key)) key h in
+    let n : 16 ≡ 0 + length h = omega (arith, lh) in
+    let fits : 0 + length h ≤ length d = omega (arith, lh, l) in
+    let front : take 16 v ≡ h = (λ i. take (n i) (ev i)) ∙ take-put d 0 h fits in
+    let rest : drop 16 v ≡ drop 16 d = (λ i. drop (n i) (ev i)) ∙ drop-put d 0 h fits ∙ ap (λ (m : ℕ). drop m d) (sym n) in
+    (λ i. (eb ∙ ap (inPlace aes key) front ∙ in-place-lawful key h aes k lh) i ++ rest i)
+    ∙ part-put d x 0 16 (length-aes (nkOf (length key)) key h)
 
 -- ---- the main header
 
@@ -97,15 +103,23 @@ module _ (d : List ℕ) (side : Side) (clock padding : ℕ) (address payload : L
 
 -- ---- the body
 
-pub body-law : (key body sub n r : List ℕ) (id packet : ℕ) → 0 < nkOf (length key) → 16 ≤ length body → length body ≤ maxDatagram
-    → sub ≡ sessionSubkey key id → n ≡ nonce id packet → r ≡ sealedInPlace sub n body → r ≡ sealBody key id packet (textOf body)
-unfolding sealBody
-body-law key body sub n r id packet k h m es en er =
+pub body-law : (key body h sub n r : List ℕ) → 0 < nkOf (length key) → 16 ≤ length body → length body ≤ maxDatagram → length h ≡ 16
+    → sub ≡ subkey key (take 8 h) → n ≡ drop 4 h → r ≡ sealedInPlace sub n body → r ≡ sealUnder key h (textOf body)
+unfolding sealUnder
+body-law key body h sub n r k least most lh es en er =
     let long : length body - 16 ≤ maxText = omega arith in
-    let l : 0 < nkOf (length (sessionSubkey key id)) = omega (arith, ap nkOf (length-session-subkey key id k)) in
-    er ∙ ap₂ (λ (x y : List ℕ). sealedInPlace x y body) es en
-    ∙ in-place-seals (sessionSubkey key id) (nonce id packet) body l (length-nonce id packet) h long
+    let l : 0 < nkOf (length (subkey key (take 8 h))) = omega (arith, ap nkOf (length-subkey key (take 8 h) k)) in
+    let m : length (drop 4 h) ≡ 12 = omega (arith, length-drop 4 h, lh) in
+    er ∙ ap₂ (λ (x y : List ℕ). sealedInPlace x y body) es en ∙ in-place-seals (subkey key (take 8 h)) (drop 4 h) body l m least long
 
-pub sealed-law : (key body o r : List ℕ) (id packet : ℕ) (p : List ℕ) → length body ≡ length p + 16 → o ≡ put body 0 p
-    → r ≡ sealBody key id packet (textOf o) → r ≡ sealBody key id packet p
-sealed-law key body o r id packet p l eo er = er ∙ ap (sealBody key id packet) (text-put body p o l eo)
+-- a text at the front of a buffer with 16 bytes more
+pub text-law : (d p o : List ℕ) → length d ≡ length p + 16 → o ≡ put d 0 p → textOf o ≡ p
+unfolding textOf
+text-law d p o l e =
+    let h : 0 + length p ≤ length d = omega arith in
+    let n : length (put d 0 p) - 16 ≡ 0 + length p = omega (arith, l, length-put d 0 p h) in
+    ap textOf e ∙ ap (λ (k : ℕ). take k (put d 0 p)) n ∙ take-put d 0 p h
+
+pub sealed-law : (key h body o r p : List ℕ) → length body ≡ length p + 16 → o ≡ put body 0 p → r ≡ sealUnder key h (textOf o)
+    → r ≡ sealUnder key h p
+sealed-law key h body o r p l eo er = er ∙ ap (sealUnder key h) (text-law body p o l eo)

@@ -1,13 +1,13 @@
 -- SIP022, section 3.2: the parts of a datagram under its keys.
 use mathlib.Core.List.{List}
 use Prim.Native.Nat.{ℕ, _+_}
-use lib.ListN.{length}
+use lib.ListN.{length, take, drop}
 use Rattle.aes.specs.KeyExpansion.{aes}
 use Rattle.aes.specs.Keyed.{nkOf}
 pub use Rattle.gcm.specs.Gcm.{tagLength}
 use Rattle.gcm.specs.Gcm.{seal}
 use Rattle.gcm.specs.Keyed.{ciphOf}
-use Rattle.protocol.specs.Subkey.{sessionSubkey}
+use Rattle.protocol.specs.Subkey.{sessionSubkey, subkey}
 use Rattle.datagram_parts.specs.Headers.{separateLength, separateHeader, nonce}
 
 -- what UDP can carry over IPv4
@@ -21,6 +21,10 @@ overhead = separateLength + tagLength
 -- the separate header as one block under the shared key
 unfoldable pub separateBlock : List ℕ → ℕ → ℕ → List ℕ
 separateBlock key id packet = aes (nkOf (length key)) key (separateHeader id packet)
+
+-- a body in GCM, by its separate header in the clear: the subkey is that of the session ID, and the nonce is bytes 4 to 15
+unfoldable pub sealUnder : List ℕ → List ℕ → List ℕ → List ℕ
+sealUnder key header text = seal (ciphOf (subkey key (take 8 header))) (drop 4 header) text
 
 -- a body in GCM under the session's subkey
 unfoldable pub sealBody : List ℕ → ℕ → ℕ → List ℕ → List ℕ

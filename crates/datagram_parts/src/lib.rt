@@ -10,10 +10,11 @@ ghost use Rattle.octets.specs.Buffers.{put};
 ghost use Rattle.octets.specs.Numbers.{toBe};
 ghost use Rattle.aes_tables.specs.SBox.{sBox};
 ghost use Rattle.aes_tables.specs.Tables.{IsTable, mixEntry};
+ghost use Rattle.aes.specs.KeyExpansion.{aes};
 ghost use Rattle.aes.specs.Keyed.{nkOf};
 ghost use Rattle.gcm.specs.Gcm.{textOf};
 ghost use Rattle.datagram_parts.specs.Headers.{separateLength, separateHeader, serverFixed, fixedLength, fixedPart, plaintext};
-ghost use Rattle.datagram_parts.specs.Parts.{tagLength, maxDatagram, separateBlock, sealBody};
+ghost use Rattle.datagram_parts.specs.Parts.{tagLength, maxDatagram, sealUnder};
 
 // The longest datagram: what UDP can carry over IPv4.
 pub const MAX_DATAGRAM: usize = 65507;
@@ -105,45 +106,34 @@ pub fn write_plaintext(
     octets::copy(out, at + address.len(), payload);
 }
 
-// The encrypted separate header, to the front of a buffer. AES's tables are lent, as for the body: a datagram has them once.
-pub fn write_separate(
-    t: &[u32; 256],
-    sbox: &[u8; 256],
-    out: &mut [u8],
-    key: &[u8],
-    id: u64,
-    packet: u64,
-)
+// A separate header, given in the clear, encrypted to the front of a buffer. AES's tables are lent, as for the body: a datagram
+// has them once.
+pub fn write_separate(t: &[u32; 256], sbox: &[u8; 256], out: &mut [u8], key: &[u8], header: &[u8])
     requires { ⌜ 0 < nkOf (length (now key)) ⌝ }
     requires { ⌜ separateLength ≤ length (now out) ⌝ }
     requires { ⌜ IsTable mixEntry (now t) ⌝ }
     requires { ⌜ IsTable sBox (now sbox) ⌝ }
-    ensures { λ _. ⌜ now (out .exit) ≡ put (now (out .entry)) 0 (separateBlock (now (key .entry)) id packet) ⌝ }
+    requires { ⌜ length (now header) ≡ separateLength ⌝ }
+    ensures { λ _. ⌜ now (out .exit)
+        ≡ put (now (out .entry)) 0 (aes (nkOf (length (now (key .entry)))) (now (key .entry)) (now (header .entry))) ⌝ }
 {
-    let mut header = separate_header(id, packet);
-    aes::encrypt::encrypt_with(t, sbox, key, &mut header);
-    octets::copy(out, 0, &header);
+    octets::copy(out, 0, header);
+    aes::encrypt::encrypt_with(t, sbox, key, &mut out[..SEPARATE]);
 }
 
-// Seals a body in place: its last bytes are room for the tag.
-pub fn seal_body(
-    t: &[u32; 256],
-    sbox: &[u8; 256],
-    body: &mut [u8],
-    key: &[u8],
-    id: u64,
-    packet: u64,
-)
+// Seals a body in place: its last bytes are room for the tag. The separate header in the clear has the session ID, which the
+// subkey is derived from, and the nonce.
+pub fn seal_body(t: &[u32; 256], sbox: &[u8; 256], body: &mut [u8], key: &[u8], header: &[u8])
     requires { ⌜ 0 < nkOf (length (now key)) ⌝ }
     requires { ⌜ tagLength ≤ length (now body) ⌝ }
     requires { ⌜ length (now body) ≤ maxDatagram ⌝ }
     requires { ⌜ IsTable mixEntry (now t) ⌝ }
     requires { ⌜ IsTable sBox (now sbox) ⌝ }
-    ensures { λ _. ⌜ now (body .exit) ≡ sealBody (now (key .entry)) id packet (textOf (now (body .entry))) ⌝ }
+    requires { ⌜ length (now header) ≡ separateLength ⌝ }
+    ensures { λ _. ⌜ now (body .exit) ≡ sealUnder (now (key .entry)) (now (header .entry)) (textOf (now (body .entry))) ⌝ }
 {
-    let header = separate_header(id, packet);
     let mut subkey = [0u8; MAX_KEY];
-    protocol::derive_session_subkey(key, id, &mut subkey);
+    protocol::derive_subkey(key, &header[..8], &mut subkey);
     let n = key.len();
-    gcm::seal_in_place_with(t, sbox, &subkey[..n], &header[4..16], body);
+    gcm::seal_in_place_with(t, sbox, &subkey[..n], &header[4..SEPARATE], body);
 }

@@ -24,7 +24,7 @@ use Rattle.gcm.proofs.KeyedLaws.{open-lawful, open-decided, answer-text, answer
 use Rattle.protocol.specs.Method.{keyFits}
 use Rattle.protocol.specs.declared.Refusal.{Refusal}
 use Rattle.protocol.specs.declared.Refusal.the-variants.{Settings, Length, Room, NotAuthentic, Malformed, WrongType, WrongTime, Binding}
-use Rattle.protocol.specs.Subkey.{sessionSubkey}
+use Rattle.protocol.specs.Subkey.{subkey, sessionSubkey}
 use Rattle.protocol.specs.Time.{timeValid}
 use Rattle.socks5.specs.declared.Address.{Address}
 use Rattle.socks5.specs.declared.Parsed.{Parsed}
@@ -34,8 +34,8 @@ use Rattle.datagram_parts.specs.declared.Side.{Side}
 use Rattle.datagram_parts.specs.declared.Side.the-variants.{Server}
 use Rattle.datagram_parts.specs.Headers.{separateHeader, nonce, typeOf, fixedLength}
 use Rattle.datagram_parts.specs.Parts.{maxDatagram}
-use Rattle.datagram_parts.proofs.LengthLaws.{length-nonce}
-use Rattle.datagram_parts.proofs.SubkeyLaws.{length-session-subkey, subkey-front, header-nonce}
+use Rattle.datagram_parts.proofs.LengthLaws.{length-separateHeader, length-nonce}
+use Rattle.datagram_parts.proofs.SubkeyLaws.{length-subkey, subkey-front, nonce-part, header-subkey, header-nonce}
 use Rattle.datagram_read.specs.declared.Opened.{Opened}
 use Rattle.datagram_read.specs.declared.Opened.the-variants.{Datagram, Refused}
 use Rattle.datagram_read.specs.Opening.{separateOf, sessionOf, packetOf, bodyAuthentic, bodyText, timeOf, paddingOf, meant, headerWith, readAddress, readMain, lengthLawful, readBody, readAnswer, settled, bodyOut, readOut}
@@ -44,19 +44,12 @@ use Rattle.datagram_read.specs.Opening.{separateOf, sessionOf, packetOf,
 
 module _ (key s : List ℕ) where
   -- the first 16 bytes, copied and decrypted in place
-  separate-law : (z o b : List ℕ) → 0 < nkOf (length key) → 16 ≤ length s → length z ≡ 16 → o ≡ put z 0 (take 16 s)
+  pub separate-law : (z o b : List ℕ) → 0 < nkOf (length key) → 16 ≤ length s → length z ≡ 16 → o ≡ put z 0 (take 16 s)
       → b ≡ inPlace invAes key o → b ≡ separateOf key s
   unfolding separateOf
   separate-law z o b k l m eo eb =
       let n : length (take 16 s) ≡ 16 = length-take-le 16 s l in
       eb ∙ ap (inPlace invAes key) (eo ∙ put-whole z (take 16 s) (omega arith)) ∙ in-place-lawful key (take 16 s) invAes k n
-
-  pub separate-read : (z o b : List ℕ) (x y : ℕ) → 0 < nkOf (length key) → 16 ≤ length s → length z ≡ 16 → o ≡ put z 0 (take 16 s)
-      → b ≡ inPlace invAes key o → x ≡ be 8 b → y ≡ be 8 (drop 8 b) → (x ≡ sessionOf key s) × (y ≡ packetOf key s)
-  unfolding sessionOf packetOf
-  separate-read z o b x y k l m eo eb ex ey =
-      let e = separate-law z o b k l m eo eb in
-      (ex ∙ ap (be 8) e, ey ∙ ap (λ (t : List ℕ). be 8 (drop 8 t)) e)
 
 -- ---- the body
 
@@ -68,20 +61,22 @@ pub record BodyOpened (key : List ℕ) (id packet : ℕ) (body out : List ℕ) (
 module _ (key : List ℕ) (id packet : ℕ) (body out : List ℕ) where
   -- under the subkey and the nonce, from the buffers that hold them
   pub body-opened : 0 < nkOf (length key) → 16 ≤ length body → length body ≤ maxDatagram → length body - 16 ≤ length out → (z k h : List ℕ)
-      → length z ≡ 32 → k ≡ put z 0 (sessionSubkey key id) → h ≡ separateHeader id packet → (a : Answer) (o : List ℕ)
+      → length z ≡ 32 → k ≡ put z 0 (subkey key (take 8 h)) → h ≡ separateHeader id packet → (a : Answer) (o : List ℕ)
       → a ≡ openAnswer (take (length key) k) (take 12 (drop 4 h)) body out → o ≡ openOut (take (length key) k) (take 12 (drop 4 h)) body out
       → BodyOpened key id packet body out a o
   unfolding bodyAuthentic bodyText
   body-opened has-key tagged small room z k h size ek eh a o ea eo =
       let s = sessionSubkey key id in
       let n = nonce id packet in
-      let l : 0 < nkOf (length s) = subst (λ (m : ℕ). 0 < nkOf m) (sym (length-session-subkey key id has-key)) has-key in
-      let es = subkey-front key id has-key z k size ek in
-      let en = header-nonce h id packet eh in
+      let es = header-subkey h id packet eh key in
+      let l : 0 < nkOf (length s) = subst (λ (m : ℕ). 0 < nkOf m) (sym (ap length (sym es) ∙ length-subkey key (take 8 h) has-key)) has-key in
+      let ek = subkey-front key (take 8 h) has-key z k size ek ∙ es in
+      let lh : length h ≡ 16 = ap length eh ∙ length-separateHeader id packet in
+      let en = nonce-part h lh ∙ header-nonce h id packet eh in
       let d = open-decided s n body out (open-lawful s n body out l (length-nonce id packet) tagged (omega arith) room) in
       record {
-        answers = d .0 ∙ sym (ea ∙ (λ i. openAnswer (es i) (en i) body out));
-        leaves = d .1 ∙ sym (eo ∙ (λ i. openOut (es i) (en i) body out));
+        answers = d .0 ∙ sym (ea ∙ (λ i. openAnswer (ek i) (en i) body out));
+        leaves = d .1 ∙ sym (eo ∙ (λ i. openOut (ek i) (en i) body out));
       }
 
   module _ (a : Answer) (o : List ℕ) (d : BodyOpened key id packet body out a o) where
@@ -201,15 +196,15 @@ module _ (side : Side) (clock : ℕ) (key : List ℕ) (id packet : ℕ) (body ou
         let l : length text ≡ length body - 16 = length-opened (ciphOf (sessionSubkey key id)) (nonce id packet) body in
         ap₂ take (sym (zero-add (length text) ∙ l)) (eo ∙ ap (λ (t : Bool). cond t (put out 0 text) out) e) ∙ take-put out 0 text (omega arith)
 
-    pub read-opened : length body - 16 ≤ length out → b ≡ true → (a : Opened) (p : List ℕ)
-        → a ≡ readMain side clock id packet (take (length body - 16) o) → p ≡ settled a (length body - 16) o
+    pub read-opened : length body - 16 ≤ length out → b ≡ true → (a : Opened) (p : List ℕ) (x y : ℕ) → x ≡ id → y ≡ packet
+        → a ≡ readMain side clock x y (take (length body - 16) o) → p ≡ settled a (length body - 16) o
         → (a ≡ readBody side clock key id packet body) × (p ≡ bodyOut side clock key id packet body out)
     unfolding readBody bodyOut
-    read-opened room e a p ea ep =
+    read-opened room e a p x y ex ey ea ep =
         let f = sym e ∙ eb in
         let text = bodyText key id packet body in
         let main = readMain side clock id packet text in
-        let am : a ≡ main = ea ∙ ap (readMain side clock id packet) (text-front room e) in
+        let am : a ≡ main = ea ∙ (λ i. readMain side clock (ex i) (ey i) (text-front room e i)) in
         let om : o ≡ put out 0 text = eo ∙ ap (λ (t : Bool). cond t (put out 0 text) out) e in (
           am ∙ ap (λ (t : Bool). cond t main (Refused NotAuthentic)) f,
           ep ∙ (λ i. settled (am i) (length body - 16) (om i))
@@ -260,13 +255,14 @@ module _ (method : ℕ) (key : List ℕ) (side : Side) (clock : ℕ) (s out : Li
             → (Refused Room ≡ readAnswer method key side clock s out) × (out ≡ readOut method key side clock s out)
         read-room h = read-at true true false fits lawful-length (lt-leb (length s - 32) (length out) h)
 
-        pub read-done : length s - 32 ≤ length out → (x y : ℕ) → x ≡ sessionOf key s → y ≡ packetOf key s → (a : Opened) (o : List ℕ)
-            → a ≡ readBody side clock key x y (take (length s - 16) (drop 16 s))
-            → o ≡ bodyOut side clock key x y (take (length s - 16) (drop 16 s)) out
+        pub read-done : length s - 32 ≤ length out → (t : List ℕ) → t ≡ separateOf key s → (a : Opened) (o : List ℕ)
+            → a ≡ readBody side clock key (be 8 t) (be 8 (drop 8 t)) (take (length s - 16) (drop 16 s))
+            → o ≡ bodyOut side clock key (be 8 t) (be 8 (drop 8 t)) (take (length s - 16) (drop 16 s)) out
             → (a ≡ readAnswer method key side clock s out) × (o ≡ readOut method key side clock s out)
-        read-done h x y ex ey a o ea eo =
+        unfolding sessionOf packetOf
+        read-done h t et a o ea eo =
             let d = read-at true true true fits lawful-length (le-leb (length s - 32) (length out) h) in
             let e = rest s 16 in (
-              ea ∙ (λ i. readBody side clock key (ex i) (ey i) (e i)) ∙ d .0,
-              eo ∙ (λ i. bodyOut side clock key (ex i) (ey i) (e i) out) ∙ d .1,
+              ea ∙ (λ i. readBody side clock key (be 8 (et i)) (be 8 (drop 8 (et i))) (e i)) ∙ d .0,
+              eo ∙ (λ i. bodyOut side clock key (be 8 (et i)) (be 8 (drop 8 (et i))) (e i) out) ∙ d .1,
             )

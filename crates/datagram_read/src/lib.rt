@@ -5,7 +5,6 @@ use datagram_parts::OVERHEAD;
 use datagram_parts::SEPARATE;
 use datagram_parts::Side;
 use datagram_parts::fixed_length;
-use datagram_parts::separate_header;
 use gcm::TAG;
 use protocol::MAX_KEY;
 use protocol::Refusal;
@@ -13,15 +12,16 @@ use socks5::Parsed;
 use socks5::Target;
 ghost use mathlib.Core.Path.{_≡_};
 ghost use Prim.Native.Nat.{_-_, _<_, _≤_};
-ghost use lib.ListN.{length};
+ghost use lib.ListN.{length, drop};
 ghost use Rattle.octets.specs.Buffers.{put};
+ghost use Rattle.octets.specs.Numbers.{be};
 ghost use mathlib.Core.Bool.{cond};
 ghost use Rattle.aes_tables.specs.SBox.{sBox};
 ghost use Rattle.aes_tables.specs.Tables.{IsTable};
 ghost use Rattle.aes.specs.Keyed.{nkOf};
 ghost use Rattle.datagram_parts.specs.Headers.{separateLength, typeOf};
 ghost use Rattle.datagram_parts.specs.Parts.{tagLength, maxDatagram};
-ghost use Rattle.datagram_read.specs.Opening.{sessionOf, packetOf, bodyAuthentic, bodyText, meant, readAddress, readMain, settled, readBody, bodyOut, readAnswer, readOut};
+ghost use Rattle.datagram_read.specs.Opening.{separateOf, bodyAuthentic, bodyText, meant, readAddress, readMain, settled, readBody, bodyOut, readAnswer, readOut};
 
 // What an opened datagram says. A name's place and the payload's are places in the plaintext.
 pub struct Header {
@@ -40,53 +40,42 @@ pub enum Opened {
     Refused(Refusal),
 }
 
-// The separate header's two numbers.
-struct Separate {
-    session: u64,
-    packet: u64,
-}
-
-// The separate header of a datagram.
-fn read_separate(sbox: &[u8; 256], key: &[u8], s: &[u8]) -> Separate
+// The separate header of a datagram, in the clear.
+fn open_separate(sbox: &[u8; 256], key: &[u8], s: &[u8]) -> [u8; SEPARATE]
     requires { ⌜ 0 < nkOf (length (now key)) ⌝ }
     requires { ⌜ separateLength ≤ length (now s) ⌝ }
     requires { ⌜ IsTable sBox (now sbox) ⌝ }
-    ensures { λ r. ⌜ r .session ≡ sessionOf (now (key .entry)) (now (s .entry)) ⌝ }
-    ensures { λ r. ⌜ r .packet ≡ packetOf (now (key .entry)) (now (s .entry)) ⌝ }
+    ensures { λ r. ⌜ r ≡ separateOf (now (key .entry)) (now (s .entry)) ⌝ }
+    ensures { λ r. ⌜ length r ≡ separateLength ⌝ }
 {
     let mut header = [0u8; SEPARATE];
     octets::copy(&mut header, 0, &s[..SEPARATE]);
     aes_inverse::decrypt_with(sbox, key, &mut header);
-    Separate {
-        session: octets::read_u64_be(&header, 0),
-        packet: octets::read_u64_be(&header, 8),
-    }
+    header
 }
 
-// Opens a body to the front of a buffer: whether its tag is good; if not, nothing is written.
-fn open_body(
-    sbox: &[u8; 256],
-    key: &[u8],
-    id: u64,
-    packet: u64,
-    body: &[u8],
-    out: &mut [u8],
-) -> bool
+// Opens a body to the front of a buffer, by its separate header in the clear: whether its tag is good; if not, nothing is
+// written.
+fn open_body(sbox: &[u8; 256], key: &[u8], header: &[u8], body: &[u8], out: &mut [u8]) -> bool
     requires { ⌜ 0 < nkOf (length (now key)) ⌝ }
     requires { ⌜ tagLength ≤ length (now body) ⌝ }
     requires { ⌜ length (now body) ≤ maxDatagram ⌝ }
     requires { ⌜ length (now body) - tagLength ≤ length (now out) ⌝ }
     requires { ⌜ IsTable sBox (now sbox) ⌝ }
-    ensures { λ r. ⌜ r ≡ bodyAuthentic (now (key .entry)) id packet (now (body .entry)) ⌝ }
+    requires { ⌜ length (now header) ≡ separateLength ⌝ }
+    ensures { λ r. ⌜ r
+        ≡ bodyAuthentic (now (key .entry)) (be 8 (now (header .entry))) (be 8 (drop 8 (now (header .entry)))) (now (body .entry)) ⌝ }
     ensures { λ r. ⌜ now (out .exit)
-        ≡ cond r (put (now (out .entry)) 0 (bodyText (now (key .entry)) id packet (now (body .entry)))) (now (out .entry)) ⌝ }
+        ≡ cond r
+        (put (now (out .entry)) 0
+        (bodyText (now (key .entry)) (be 8 (now (header .entry))) (be 8 (drop 8 (now (header .entry)))) (now (body .entry))))
+        (now (out .entry)) ⌝ }
 {
-    let header = separate_header(id, packet);
     let mut subkey = [0u8; MAX_KEY];
-    protocol::derive_session_subkey(key, id, &mut subkey);
+    protocol::derive_subkey(key, &header[..8], &mut subkey);
     let n = key.len();
     let t = aes_tables::mix_table();
-    match gcm::open_with(&t, sbox, &subkey[..n], &header[4..16], body, out) {
+    match gcm::open_with(&t, sbox, &subkey[..n], &header[4..SEPARATE], body, out) {
         gcm::Opened::Text => true,
         gcm::Opened::Forged => false,
         gcm::Opened::Unlawful => false,
@@ -168,14 +157,13 @@ pub fn settle(answer: Opened, due: usize, out: &mut [u8])
     }
 }
 
-// The body, by the separate header's numbers.
+// The body, by the separate header in the clear.
 fn read_body(
     sbox: &[u8; 256],
     side: Side,
     clock: u64,
     key: &[u8],
-    id: u64,
-    packet: u64,
+    header: &[u8],
     body: &[u8],
     out: &mut [u8],
 ) -> Opened
@@ -184,11 +172,17 @@ fn read_body(
     requires { ⌜ length (now body) ≤ maxDatagram ⌝ }
     requires { ⌜ length (now body) - tagLength ≤ length (now out) ⌝ }
     requires { ⌜ IsTable sBox (now sbox) ⌝ }
-    ensures { λ r. ⌜ r ≡ readBody side clock (now (key .entry)) id packet (now (body .entry)) ⌝ }
-    ensures { λ r. ⌜ now (out .exit) ≡ bodyOut side clock (now (key .entry)) id packet (now (body .entry)) (now (out .entry)) ⌝ }
+    requires { ⌜ length (now header) ≡ separateLength ⌝ }
+    ensures { λ r. ⌜ r
+        ≡ readBody side clock (now (key .entry)) (be 8 (now (header .entry))) (be 8 (drop 8 (now (header .entry)))) (now (body .entry)) ⌝ }
+    ensures { λ r. ⌜ now (out .exit)
+        ≡ bodyOut side clock (now (key .entry)) (be 8 (now (header .entry))) (be 8 (drop 8 (now (header .entry)))) (now (body .entry))
+        (now (out .entry)) ⌝ }
 {
-    if open_body(sbox, key, id, packet, body, out) {
+    if open_body(sbox, key, header, body, out) {
         let due = body.len() - TAG;
+        let id = octets::read_u64_be(header, 0);
+        let packet = octets::read_u64_be(header, 8);
         let answer = read_main(side, clock, id, packet, &out[..due]);
         settle(answer, due, out);
         return answer;
@@ -219,17 +213,8 @@ pub fn read_datagram(
             return Opened::Refused(Refusal::Room);
         }
         let sbox = aes_tables::sbox();
-        let header = read_separate(&sbox, key, s);
-        return read_body(
-            &sbox,
-            side,
-            clock,
-            key,
-            header.session,
-            header.packet,
-            &s[SEPARATE..],
-            out,
-        );
+        let header = open_separate(&sbox, key, s);
+        return read_body(&sbox, side, clock, key, &header, &s[SEPARATE..], out);
     }
     Opened::Refused(Refusal::Settings)
 }

@@ -110,7 +110,8 @@ module _ (k n len due room nk : ℕ) (e : nk ≡ words k n len due room) where
 
 -- ---- sealing
 
-ciph-key : (nk : ℕ) (key w : List ℕ) → nk ≡ nkOf (length key) → map bytes (take (4 * nk + 28) w) ≡ keyExpansion nk key
+-- the cipher at the words of an expanded key is that of the key
+pub ciph-key : (nk : ℕ) (key w : List ℕ) → nk ≡ nkOf (length key) → map bytes (take (4 * nk + 28) w) ≡ keyExpansion nk key
     → ciphAt (nk + 6) w ≡ ciphOf key
 ciph-key nk key w en ew = ciph-aes nk key w ew ∙ ap (λ (m : ℕ). aesBlock m key) en
 
@@ -120,13 +121,13 @@ module _ (key nonce text out : List ℕ) where
   unfolding sealed sealLawful
   seal-refused e = (sym e, sym (ap (λ (b : Bool). cond b (put out 0 (seal (ciphOf key) nonce text)) out) e))
 
-  pub seal-done : (nk : ℕ) (w m o : List ℕ) → fits (length key) (length nonce) (length text) (length text + 16) (length out) ≡ true
-      → nk ≡ nkOf (length key) → map bytes (take (4 * nk + 28) w) ≡ keyExpansion nk key → m ≡ nonce
-      → o ≡ put out 0 (seal (ciphAt (nk + 6) w) m text) → (true ≡ sealLawful key nonce text out) × (o ≡ sealed key nonce text out)
+  pub seal-done : (nk : ℕ) (w o : List ℕ) → fits (length key) (length nonce) (length text) (length text + 16) (length out) ≡ true
+      → nk ≡ nkOf (length key) → map bytes (take (4 * nk + 28) w) ≡ keyExpansion nk key
+      → o ≡ put out 0 (seal (ciphAt (nk + 6) w) nonce text) → (true ≡ sealLawful key nonce text out) × (o ≡ sealed key nonce text out)
   unfolding sealed sealLawful
-  seal-done nk w m o e en ew em eo = (
+  seal-done nk w o e en ew eo = (
     sym e,
-    eo ∙ (λ i. put out 0 (seal (ciph-key nk key w en ew i) (em i) text))
+    eo ∙ (λ i. put out 0 (seal (ciph-key nk key w en ew i) nonce text))
         ∙ sym (ap (λ (b : Bool). cond b (put out 0 (seal (ciphOf key) nonce text)) out) e),
   )
 
@@ -151,14 +152,14 @@ module _ (key nonce s : List ℕ) where
   unfolding openLawful
   in-place-refused h e = in-place-decided false (ap₂ _&&_ (le-leb 16 (length s) h) e)
 
-  pub in-place-done : (nk : ℕ) (w m o : List ℕ) → 16 ≤ length s
+  pub in-place-done : (nk : ℕ) (w o : List ℕ) → 16 ≤ length s
       → fits (length key) (length nonce) (length s - 16) (length s - 16) (length s) ≡ true
-      → nk ≡ nkOf (length key) → map bytes (take (4 * nk + 28) w) ≡ keyExpansion nk key → m ≡ nonce
-      → o ≡ seal (ciphAt (nk + 6) w) m (textOf s) → (true ≡ inPlaceLawful key nonce s) × (o ≡ sealedInPlace key nonce s)
+      → nk ≡ nkOf (length key) → map bytes (take (4 * nk + 28) w) ≡ keyExpansion nk key
+      → o ≡ seal (ciphAt (nk + 6) w) nonce (textOf s) → (true ≡ inPlaceLawful key nonce s) × (o ≡ sealedInPlace key nonce s)
   unfolding openLawful
-  in-place-done nk w m o h e en ew em eo =
+  in-place-done nk w o h e en ew eo =
       let d = in-place-decided true (ap₂ _&&_ (le-leb 16 (length s) h) e) in
-      (d .0, eo ∙ (λ i. seal (ciph-key nk key w en ew i) (em i) (textOf s)) ∙ d .1)
+      (d .0, eo ∙ (λ i. seal (ciph-key nk key w en ew i) nonce (textOf s)) ∙ d .1)
 
 -- ---- opening
 

@@ -9,6 +9,7 @@ ghost use Rattle.octets.specs.Numbers.{toBe};
 ghost use Rattle.aes_tables.specs.SBox.{sBox};
 ghost use Rattle.aes_tables.specs.Tables.{IsTable, mixEntry};
 ghost use mathlib.Core.Bool.{cond};
+ghost use Rattle.ghash.specs.Table.{TableFor, keyIn};
 ghost use Rattle.ghash.specs.Words.{blockOf};
 ghost use Rattle.aes.specs.Words.{CanEncrypt};
 ghost use Rattle.ctr.specs.Gctr.{ciphAt};
@@ -26,16 +27,15 @@ pub enum Opened {
     Unlawful,
 }
 
-// GHASH of the ciphertext and its length.
-fn hashed(h: Element, c: &[u8]) -> Element
+// GHASH of the ciphertext and its length, with the table for the hash key.
+fn hashed(g: &[u64; 128], c: &[u8]) -> Element
     requires { ⌜ length (now c) ≤ maxText ⌝ }
-    ensures { λ r. ⌜ blockOf r ≡ spec.hashed (blockOf h) (now (c .entry)) ⌝ }
+    requires { ⌜ TableFor (now g) (keyIn (now g)) ⌝ }
+    ensures { λ r. ⌜ blockOf r ≡ spec.hashed (keyIn (now (g .entry))) (now (c .entry)) ⌝ }
 {
-    let mut t = [0u64; 128];
-    ghash::product::write_table(&mut t, h);
-    let y = ghash::over(&t, Element { hi: 0, lo: 0 }, c);
+    let y = ghash::ghash_from(g, Element { hi: 0, lo: 0 }, c);
     let bits = 8 * c.len() as u64;
-    ghash::over(&t, y, &element_bytes(Element { hi: 0, lo: bits }))
+    ghash::ghash_from(g, y, &element_bytes(Element { hi: 0, lo: bits }))
 }
 
 // The bytes of a block.
@@ -66,21 +66,38 @@ fn hash_key(t: &[u32; 256], sbox: &[u8; 256], w: &[u32; 60], rounds: usize) -> E
     }
 }
 
+// The table for the hash key of an expanded key: GHASH's part of what is made once for a key.
+pub fn write_hash_table(
+    g: &mut [u64; 128],
+    t: &[u32; 256],
+    sbox: &[u8; 256],
+    w: &[u32; 60],
+    rounds: usize,
+)
+    requires { ⌜ length (now g) ≡ 128 ⌝ }
+    requires { ⌜ CanEncrypt (now t) (now sbox) rounds ⌝ }
+    ensures { λ _. ⌜ TableFor (now (g .exit)) (spec.hashKey (ciphAt rounds (now (w .entry)))) ⌝ }
+{
+    let h = hash_key(t, sbox, w, rounds);
+    ghash::product::write_table(g, h);
+}
+
 // The tag of a ciphertext.
 fn tag_of(
     t: &[u32; 256],
     sbox: &[u8; 256],
     w: &[u32; 60],
     rounds: usize,
+    g: &[u64; 128],
     n: Nonce,
     c: &[u8],
 ) -> [u8; 16]
     requires { ⌜ CanEncrypt (now t) (now sbox) rounds ⌝ }
     requires { ⌜ length (now c) ≤ maxText ⌝ }
+    requires { ⌜ TableFor (now g) (spec.hashKey (ciphAt rounds (now w))) ⌝ }
     ensures { λ r. ⌜ r ≡ spec.tag (ciphAt rounds (now (w .entry))) (nonceBytes n) (now (c .entry)) ⌝ }
 {
-    let h = hash_key(t, sbox, w, rounds);
-    let mut tag = element_bytes(hashed(h, c));
+    let mut tag = element_bytes(hashed(g, c));
     ctr::gctr(t, sbox, w, rounds, n, 1, &mut tag);
     tag
 }
@@ -123,50 +140,58 @@ fn crypt_into(
     crypt_front(t, sbox, w, rounds, n, text.len(), out);
 }
 
-// Ciphertext and tag, at an expanded key and in place: the text is all but the last 16 bytes of the lent buffer.
+// Ciphertext and tag, at an expanded key with its hash table and in place: the text is all but the last 16 bytes of the lent
+// buffer.
 pub fn seal_in_place_at(
     t: &[u32; 256],
     sbox: &[u8; 256],
     w: &[u32; 60],
     rounds: usize,
-    n: Nonce,
+    g: &[u64; 128],
+    nonce: &[u8],
     body: &mut [u8],
 )
     requires { ⌜ CanEncrypt (now t) (now sbox) rounds ⌝ }
     requires { ⌜ spec.tagLength ≤ length (now body) ⌝ }
     requires { ⌜ length (now body) - spec.tagLength ≤ maxText ⌝ }
+    requires { ⌜ TableFor (now g) (spec.hashKey (ciphAt rounds (now w))) ⌝ }
+    requires { ⌜ length (now nonce) ≡ 12 ⌝ }
     ensures { λ _. ⌜ now (body .exit)
-        ≡ spec.seal (ciphAt rounds (now (w .entry))) (nonceBytes n) (spec.textOf (now (body .entry))) ⌝ }
+        ≡ spec.seal (ciphAt rounds (now (w .entry))) (now (nonce .entry)) (spec.textOf (now (body .entry))) ⌝ }
 {
+    let n = ctr::read_nonce(nonce);
     let len = body.len() - TAG;
     crypt_front(t, sbox, w, rounds, n, len, body);
-    let tag = tag_of(t, sbox, w, rounds, n, &body[..len]);
+    let tag = tag_of(t, sbox, w, rounds, g, n, &body[..len]);
     octets::copy(body, len, &tag);
 }
 
 // Ciphertext and tag of a text, at an expanded key, to the front of the lent buffer.
-pub fn seal_at(
+fn seal_at(
     t: &[u32; 256],
     sbox: &[u8; 256],
     w: &[u32; 60],
     rounds: usize,
-    n: Nonce,
+    nonce: &[u8],
     text: &[u8],
     out: &mut [u8],
 )
     requires { ⌜ CanEncrypt (now t) (now sbox) rounds ⌝ }
     requires { ⌜ length (now text) ≤ maxText ⌝ }
     requires { ⌜ length (now text) + spec.tagLength ≤ length (now out) ⌝ }
+    requires { ⌜ length (now nonce) ≡ 12 ⌝ }
     ensures { λ _. ⌜ now (out .exit)
-        ≡ put (now (out .entry)) 0 (spec.seal (ciphAt rounds (now (w .entry))) (nonceBytes n) (now (text .entry))) ⌝ }
+        ≡ put (now (out .entry)) 0 (spec.seal (ciphAt rounds (now (w .entry))) (now (nonce .entry)) (now (text .entry))) ⌝ }
 {
     let due = text.len() + TAG;
+    let mut g = [0u64; 128];
+    write_hash_table(&mut g, t, sbox, w, rounds);
     octets::copy(out, 0, text);
-    seal_in_place_at(t, sbox, w, rounds, n, &mut out[..due]);
+    seal_in_place_at(t, sbox, w, rounds, &g, nonce, &mut out[..due]);
 }
 
 // Whether the last 16 bytes are the tag of those before them; then the text goes to the front of the lent buffer.
-pub fn open_at(
+fn open_at(
     t: &[u32; 256],
     sbox: &[u8; 256],
     w: &[u32; 60],
@@ -185,7 +210,9 @@ pub fn open_at(
         (now (out .entry)) ⌝ }
 {
     let len = s.len() - TAG;
-    let tag = tag_of(t, sbox, w, rounds, n, &s[..len]);
+    let mut g = [0u64; 128];
+    write_hash_table(&mut g, t, sbox, w, rounds);
+    let tag = tag_of(t, sbox, w, rounds, &g, n, &s[..len]);
     let good = octets::equal(&tag, &s[len..]);
     if good {
         crypt_into(t, sbox, w, rounds, n, &s[..len], out);
@@ -230,7 +257,7 @@ pub fn seal(key: &[u8], nonce: &[u8], text: &[u8], out: &mut [u8]) -> bool
     let sbox = aes_tables::sbox();
     let t = aes_tables::mix_table();
     let w = aes::key::expand(&sbox, key, nk);
-    seal_at(&t, &sbox, &w, nk + 6, ctr::read_nonce(nonce), text, out);
+    seal_at(&t, &sbox, &w, nk + 6, nonce, text, out);
     true
 }
 
@@ -258,18 +285,10 @@ pub fn seal_in_place_with(
         return false;
     }
     let w = aes::key::expand(sbox, key, nk);
-    seal_in_place_at(t, sbox, &w, nk + 6, ctr::read_nonce(nonce), body);
+    let mut g = [0u64; 128];
+    write_hash_table(&mut g, t, sbox, &w, nk + 6);
+    seal_in_place_at(t, sbox, &w, nk + 6, &g, nonce, body);
     true
-}
-
-// The same, with tables of its own.
-pub fn seal_in_place(key: &[u8], nonce: &[u8], body: &mut [u8]) -> bool
-    ensures { λ r. ⌜ r ≡ inPlaceLawful (now (key .entry)) (now (nonce .entry)) (now (body .entry)) ⌝ }
-    ensures { λ r. ⌜ now (body .exit) ≡ sealedInPlace (now (key .entry)) (now (nonce .entry)) (now (body .entry)) ⌝ }
-{
-    let sbox = aes_tables::sbox();
-    let t = aes_tables::mix_table();
-    seal_in_place_with(&t, &sbox, key, nonce, body)
 }
 
 // Opens ciphertext and tag, from lent tables: the text, 16 bytes less, to the front of the lent buffer. Nothing is written where

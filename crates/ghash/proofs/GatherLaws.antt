@@ -72,8 +72,8 @@ joined h hi lo l =
 -- ---- on three words
 
 -- apart from the bounds of the words, with which omega would meet numbers past 38 digits
-moved16 : (hi lo : ℕ) → words hi lo / 2 ^ 16 ≡ words (hi / 2 ^ 16) (hi % 2 ^ 16 * 2 ^ 48 + lo / 2 ^ 16)
-moved16 hi lo = omega arith
+shifted16 : (hi lo : ℕ) → words hi lo / 2 ^ 16 ≡ words (hi / 2 ^ 16) (hi % 2 ^ 16 * 2 ^ 48 + lo / 2 ^ 16)
+shifted16 hi lo = omega arith
 
 last16 : (hi lo : ℕ) → words hi lo % 2 ^ 16 ≡ lo % 2 ^ 16
 last16 hi lo = omega arith
@@ -81,16 +81,16 @@ last16 hi lo = omega arith
 pub rest-lt : (hi lo : ℕ) → lo < 2 ^ 64 → hi % 2 ^ 16 * 2 ^ 48 + lo / 2 ^ 16 < 2 ^ 64
 rest-lt hi lo h = omega arith
 
-pub moved-words : (hi lo out eh el : ℕ) → lo < 2 ^ 64 → out < 2 ^ 64 → el < 2 ^ 64
+pub shifted-words : (hi lo out eh el : ℕ) → lo < 2 ^ 64 → out < 2 ^ 64 → el < 2 ^ 64
     → words (words (bitXor (hi / 2 ^ 16) eh) (bitXor (hi % 2 ^ 16 * 2 ^ 48 + lo / 2 ^ 16) el)) (lo % 2 ^ 16 * 2 ^ 48 + out / 2 ^ 16)
     ≡ bitXor (words (words hi lo) out / 2 ^ 16) (words eh el * 2 ^ 64)
-moved-words hi lo out eh el l o e =
+shifted-words hi lo out eh el l o e =
     let mid = hi % 2 ^ 16 * 2 ^ 48 + lo / 2 ^ 16 in
     let end = lo % 2 ^ 16 * 2 ^ 48 + out / 2 ^ 16 in
-    let moved : words (words hi lo) out / 2 ^ 16 ≡ words (words (hi / 2 ^ 16) mid) end =
-    moved16 (words hi lo) out ∙ ap₂ (λ (a b : ℕ). words a (b * 2 ^ 48 + out / 2 ^ 16)) (moved16 hi lo) (last16 hi lo) in
+    let shifted : words (words hi lo) out / 2 ^ 16 ≡ words (words (hi / 2 ^ 16) mid) end =
+    shifted16 (words hi lo) out ∙ ap₂ (λ (a b : ℕ). words a (b * 2 ^ 48 + out / 2 ^ 16)) (shifted16 hi lo) (last16 hi lo) in
     sym
-    (ap₂ bitXor moved (sym (add-zero (words eh el * 2 ^ 64)))
+    (ap₂ bitXor shifted (sym (add-zero (words eh el * 2 ^ 64)))
     ∙ xor-block 64 (words (hi / 2 ^ 16) mid) (words eh el) end 0 (rest-lt lo out o) (pow-pos 64)
     ∙ ap₂ (λ (a b : ℕ). a * 2 ^ 64 + b) (xor-block 64 (hi / 2 ^ 16) eh mid el (rest-lt hi lo l) e) (xor-zero-r end))
 

@@ -28,7 +28,7 @@ pub fn add(a: Element, b: Element) -> Element
 }
 
 // The block at a place, with zeros for what is past the end.
-pub fn block_at(s: &[u8], at: usize) -> Element
+fn block_at(s: &[u8], at: usize) -> Element
     requires { ⌜ at ≤ length (now s) ⌝ }
     ensures { λ r. ⌜ blockOf r ≡ be 16 (drop at (now (s .entry))) ⌝ }
 {
@@ -48,7 +48,7 @@ pub fn write_element(out: &mut [u8], x: Element)
 }
 
 // GHASH from y on over the bytes of s, the last block filled up with zeros, with the table for the hash key.
-pub fn over(t: &[u64; 128], y: Element, s: &[u8]) -> Element
+pub fn ghash_from(t: &[u64; 128], y: Element, s: &[u8]) -> Element
     requires { ⌜ TableFor (now t) (keyIn (now t)) ⌝ }
     ensures { λ r. ⌜ blockOf r ≡ ghashFrom (keyIn (now (t .entry))) (blockOf y) (blocks (now (s .entry))) ⌝ }
 {
@@ -58,13 +58,4 @@ pub fn over(t: &[u64; 128], y: Element, s: &[u8]) -> Element
         z = product::mul(t, add(z, block_at(s, 16 * i)));
     }
     z
-}
-
-// The same under a hash key.
-pub fn ghash(h: Element, y: Element, s: &[u8]) -> Element
-    ensures { λ r. ⌜ blockOf r ≡ ghashFrom (blockOf h) (blockOf y) (blocks (now (s .entry))) ⌝ }
-{
-    let mut t = [0u64; 128];
-    product::write_table(&mut t, h);
-    over(&t, y, s)
 }

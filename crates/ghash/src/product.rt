@@ -80,7 +80,7 @@ fn double(t: &mut [u64; 128], at: usize, m: usize, v: Element)
 }
 
 // Part j, for v, which is the hash key after 4 * j steps; and v after four more.
-fn part(t: &mut [u64; 128], j: usize, v: Element) -> Element
+fn write_part(t: &mut [u64; 128], j: usize, v: Element) -> Element
     requires { ⌜ length (now t) ≡ 128 ⌝ }
     requires { ⌜ j < 4 ⌝ }
     ensures { λ r. ⌜ ((h : ℕ) → blockOf v ≡ steps (4 * j) h → Made (now (t .entry)) h j → Made (now (t .exit)) h (j + 1)) ⌝ }
@@ -105,7 +105,7 @@ pub fn write_table(t: &mut [u64; 128], h: Element)
 {
     let mut v = h;
     for j in 0..4 {
-        v = part(t, j, v);
+        v = write_part(t, j, v);
     }
 }
 
@@ -123,7 +123,7 @@ fn entry_at(t: &[u64; 128], j: usize, w: u64) -> Element
 }
 
 // Four lookups, for the last 16 bits of w.
-fn four(t: &[u64; 128], w: u64) -> Element
+fn four_lookups(t: &[u64; 128], w: u64) -> Element
     requires { ⌜ TableFor (now t) (keyIn (now t)) ⌝ }
     ensures { λ r. ⌜ blockOf r ≡ lookups (keyIn (now (t .entry))) w 4 ⌝ }
 {
@@ -134,8 +134,8 @@ fn four(t: &[u64; 128], w: u64) -> Element
     add(add(add(a, b), c), d)
 }
 
-// z sixteen places on, and e. What is moved out is kept, to be reduced once.
-fn moved(z: Long, e: Element) -> Long
+// z sixteen places on, and e. What is shifted out is kept, to be reduced once.
+fn shifted(z: Long, e: Element) -> Long
     ensures { λ r. ⌜ longOf r ≡ bitXor (longOf z / 2 ^ 16) (blockOf e * 2 ^ 64) ⌝ }
 {
     Long {
@@ -155,8 +155,8 @@ fn lookup(t: &[u64; 128], x: Element, s: Sums, k: u64) -> Sums
         ≡ bitXor (longOf (s .low) / 2 ^ 16) (lookups (keyIn (now (t .entry))) (x .lo / 2 ^ (16 * k)) 4 * 2 ^ 64) ⌝ }
 {
     Sums {
-        high: moved(s.high, four(t, x.hi >> (16 * k))),
-        low: moved(s.low, four(t, x.lo >> (16 * k))),
+        high: shifted(s.high, four_lookups(t, x.hi >> (16 * k))),
+        low: shifted(s.low, four_lookups(t, x.lo >> (16 * k))),
     }
 }
 

@@ -4,16 +4,17 @@ use mathlib.Core.Path.{_≡_, refl, sym, ap, _∙_}
 use mathlib.Core.List.{List, [], _∷_, _++_, append-assoc}
 use Prim.Native.Nat.{ℕ, _+_, _-_, _≤_}
 use native.Mathlib.Omega.{arith}
-use lib.ListN.{length, take, set, replicate, length-append, length-replicate}
+use lib.ListN.{length, take, drop, set, replicate, length-append, length-replicate}
 use Rattle.octets.specs.Buffers.{put}
 use Rattle.octets.specs.Numbers.{toBe}
-use Rattle.octets.proofs.BufferLaws.{length-put, put-behind, put-one, take-put}
+use Rattle.octets.proofs.BufferLaws.{put-behind, put-one}
 use Rattle.octets.proofs.NumberLaws.{length-toBe}
 use Rattle.gcm.specs.Gcm.{textOf}
 use Rattle.protocol.specs.Subkey.{subkey}
 use Rattle.stream.specs.Pieces.{sealAt}
+use Rattle.stream.proofs.PieceLaws.{pair-law}
 use Rattle.head_seal.specs.HeadSealing.{fixedPart, front, variablePart, variableLength, requestAt, request, responseOf, response}
-use Rattle.head_seal.proofs.HeadLengthLaws.{length-fixedPart, length-front, length-variablePart}
+use Rattle.head_seal.proofs.HeadLengthLaws.{length-fixedPart, length-variablePart}
 
 -- ---- heads
 
@@ -32,83 +33,72 @@ fixed-law d v u w kind clock binding n h ev eu ew =
     ew
     ∙ ap (put d 0) (append-assoc s binding (toBe 2 n))
 
--- a text at the front of a buffer
-pub text-law : (d p o : List ℕ) (m : ℕ) → m ≡ length p → m ≤ length d → o ≡ put d 0 p → take m o ≡ p
-text-law d p o m e h eo =
-    let n : m ≡ 0 + length p = omega (arith, e) in
-    let l : 0 + length p ≤ length d = omega (arith, e) in
-    (λ i. take (n i) (eo i)) ∙ take-put d 0 p l
-
-pub front-law : (key d z f v b w salt : List ℕ) (kind clock : ℕ) (binding : List ℕ) (n : ℕ) → length salt ≤ length d
-    → 11 + length binding ≤ length z → f ≡ put z 0 (fixedPart kind clock binding n) → v ≡ put d 0 salt
-    → b ≡ sealAt key 0 (take (11 + length binding) f) → w ≡ put v (length salt) b → w ≡ put d 0 (front key salt kind clock binding n)
-unfolding front
-front-law key d z f v b w salt kind clock binding n h l ef ev eb ew =
-    let m : length salt ≡ 0 + length salt = omega arith in
-    let t : take (11 + length binding) f ≡ fixedPart kind clock binding n =
-    text-law z (fixedPart kind clock binding n) f (11 + length binding) (sym (length-fixedPart kind clock binding n)) l ef in
-    put-behind d salt b v w 0 (length salt) m (omega arith) ev ew ∙ ap (λ (x : List ℕ). put d 0 (salt ++ x)) (eb ∙ ap (sealAt key 0) t)
-
 -- ---- the variable header
 
-pub variable-law : (d v u t w address : List ℕ) (padding : ℕ) (payload : List ℕ)
-    → variableLength (length address) padding (length payload) ≤ length d → v ≡ put d 0 address → u ≡ put v (length address) (toBe 2 padding)
-    → t ≡ put u (length address + 2) (replicate padding 0) → w ≡ put t (length address + 2 + padding) payload
-    → w ≡ put d 0 (variablePart address padding payload)
+pub variable-law : (d v u t w address : List ℕ) (at padding : ℕ) (payload : List ℕ)
+    → at + variableLength (length address) padding (length payload) ≤ length d → v ≡ put d at address
+    → u ≡ put v (at + length address) (toBe 2 padding) → t ≡ put u (at + length address + 2) (replicate padding 0)
+    → w ≡ put t (at + length address + 2 + padding) payload → w ≡ put d at (variablePart address padding payload)
 unfolding variablePart variableLength
-variable-law d v u t w address padding payload h ev eu et ew =
+variable-law d v u t w address at padding payload h ev eu et ew =
     let p = toBe 2 padding in
     let z : List ℕ = replicate padding 0 in
     let lp = length-toBe 2 padding in
     let lz : length z ≡ padding = length-replicate {A = ℕ} padding 0 in
     let lap = length-append address p in
     let lapz = length-append (address ++ p) z in
-    let n₁ : length address ≡ 0 + length address = omega arith in
-    let n₂ : length address + 2 ≡ 0 + length (address ++ p) = omega (arith, lp, lap) in
-    let n₃ : length address + 2 + padding ≡ 0 + length (address ++ p ++ z) = omega (arith, lp, lz, lap, lapz) in
-    put-behind d (address ++ p ++ z) payload t w 0 (length address + 2 + padding) n₃ (omega (arith, sym n₃))
-    (put-behind d (address ++ p) z u t 0 (length address + 2) n₂ (omega (arith, sym n₂))
-    (put-behind d address p v u 0 (length address) n₁ (omega arith) ev eu) et)
+    let n₂ : at + length address + 2 ≡ at + length (address ++ p) = omega (arith, lp, lap) in
+    let n₃ : at + length address + 2 + padding ≡ at + length (address ++ p ++ z) = omega (arith, lp, lz, lap, lapz) in
+    put-behind d (address ++ p ++ z) payload t w at (at + length address + 2 + padding) n₃ (omega (arith, sym n₃))
+    (put-behind d (address ++ p) z u t at (at + length address + 2) n₂ (omega (arith, sym n₂))
+    (put-behind d address p v u at (at + length address) refl (omega arith) ev eu) et)
     ew
-    ∙ ap (put d 0) (append-assoc (address ++ p) z payload ∙ append-assoc address p (z ++ payload))
+    ∙ ap (put d at) (append-assoc (address ++ p) z payload ∙ append-assoc address p (z ++ payload))
 
-pub sealed-law : (key d o r address : List ℕ) (padding : ℕ) (payload : List ℕ)
-    → length d ≡ variableLength (length address) padding (length payload) + 16 → o ≡ put d 0 (variablePart address padding payload)
-    → r ≡ sealAt key 1 (textOf o) → r ≡ sealAt key 1 (variablePart address padding payload)
-unfolding textOf
-sealed-law key d o r address padding payload l eo er =
-    let p = variablePart address padding payload in
-    let lp = length-variablePart address padding payload in
-    let h : 0 + length p ≤ length d = omega (arith, l, lp) in
-    let m : length o - 16 ≡ length p = omega (arith, l, lp, ap length eo, length-put d 0 p h) in
-    er ∙ ap (sealAt key 1) (text-law d p o (length o - 16) m (omega (arith, m, h)) eo)
+-- ---- the two pieces, where they stand
 
--- ---- the whole
+pub request-pieces : (key d v o r address : List ℕ) (clock m padding : ℕ) (payload : List ℕ)
+    → length d ≡ 27 + variableLength (length address) padding (length payload) + 16 → m ≡ length d - 43 → v ≡ put d 0 (fixedPart 0 clock [] m)
+    → o ≡ put v 27 (variablePart address padding payload)
+    → r ≡ sealAt key 0 (textOf (take 27 o)) ++ sealAt key 1 (textOf (drop 27 o)) → let q = variablePart address padding payload in
+    r ≡ sealAt key 0 (fixedPart 0 clock [] (length q)) ++ sealAt key 1 q
+request-pieces key d v o r address clock m padding payload l em ev eo er =
+    let q = variablePart address padding payload in
+    let lq = length-variablePart address padding payload in
+    let n : m ≡ length q = omega (arith, em, l, lq) in
+    let p = fixedPart 0 clock [] (length q) in
+    let front : 27 ≡ length p + 16 = omega (arith, length-fixedPart 0 clock [] (length q)) in
+    pair-law d p q v o 27 front (omega (arith, l, lq)) (ev ∙ ap (λ (x : ℕ). put d 0 (fixedPart 0 clock [] x)) n) eo key r 0 er
 
-module _ (key d v b w salt : List ℕ) (clock : ℕ) where
-  pub request-law : (address : List ℕ) (padding : ℕ) (payload : List ℕ) → length salt + 27 ≤ length d
-      → v ≡ put d 0 (front key salt 0 clock [] (length address + 2 + padding + length payload))
-      → b ≡ sealAt key 1 (variablePart address padding payload) → w ≡ put v (length salt + 27) b
-      → w ≡ put d 0 (requestAt key salt clock address padding payload)
-  unfolding requestAt variableLength
-  request-law address padding payload h ev eb ew =
-      let p = variablePart address padding payload in
-      let n : length address + 2 + padding + length payload ≡ length p = sym (length-variablePart address padding payload) in
-      let s = front key salt 0 clock [] (length p) in
-      let l = length-front key salt 0 clock [] (length p) in
-      let m : length salt + 27 ≡ 0 + length s = omega (arith, l) in
-      put-behind d s b v w 0 (length salt + 27) m (omega (arith, l)) (ev ∙ ap (λ (k : ℕ). put d 0 (front key salt 0 clock [] k)) n) ew
-      ∙ ap (λ (x : List ℕ). put d 0 (s ++ x)) eb
+pub response-pieces : (key d v o r binding : List ℕ) (clock : ℕ) (payload : List ℕ)
+    → length d ≡ 27 + length binding + length payload + 16 → v ≡ put d 0 (fixedPart 1 clock binding (length payload))
+    → let at = 27 + length binding in o ≡ put v at payload
+    → r ≡ sealAt key 0 (textOf (take at o)) ++ sealAt key 1 (textOf (drop at o))
+    → r ≡ sealAt key 0 (fixedPart 1 clock binding (length payload)) ++ sealAt key 1 payload
+response-pieces key d v o r binding clock payload l ev eo er =
+    let p = fixedPart 1 clock binding (length payload) in
+    let front : 27 + length binding ≡ length p + 16 = omega (arith, length-fixedPart 1 clock binding (length payload)) in
+    pair-law d p payload v o (27 + length binding) front (omega (arith, l)) ev eo key r 0 er
 
-  pub response-law : (binding payload : List ℕ) → length salt + 27 + length binding ≤ length d
-      → v ≡ put d 0 (front key salt 1 clock binding (length payload)) → b ≡ sealAt key 1 payload
-      → w ≡ put v (length salt + 27 + length binding) b → w ≡ put d 0 (responseOf key salt binding clock payload)
-  unfolding responseOf
-  response-law binding payload h ev eb ew =
-      let s = front key salt 1 clock binding (length payload) in
-      let l = length-front key salt 1 clock binding (length payload) in
-      let m : length salt + 27 + length binding ≡ 0 + length s = omega (arith, l) in
-      put-behind d s b v w 0 (length salt + 27 + length binding) m (omega (arith, l)) ev ew ∙ ap (λ (x : List ℕ). put d 0 (s ++ x)) eb
+-- ---- the whole: the pieces behind the salt
+
+module _ (key d v b w salt : List ℕ) (clock : ℕ) (h : length salt ≤ length d) (ev : v ≡ put d 0 salt) (ew : w ≡ put v (length salt) b) where
+  behind : (x y : List ℕ) → b ≡ x ++ y → w ≡ put d 0 (salt ++ x ++ y)
+  behind x y eb =
+      let n : length salt ≡ 0 + length salt = omega arith in
+      put-behind d salt b v w 0 (length salt) n (omega arith) ev ew ∙ ap (put d 0) (ap (λ (z : List ℕ). salt ++ z) eb ∙ sym (append-assoc salt x y))
+
+  pub request-law : (address : List ℕ) (padding : ℕ) (payload : List ℕ) → let q = variablePart address padding payload in
+      b ≡ sealAt key 0 (fixedPart 0 clock [] (length q)) ++ sealAt key 1 q → w ≡ put d 0 (requestAt key salt clock address padding payload)
+  unfolding requestAt front
+  request-law address padding payload eb =
+      let q = variablePart address padding payload in
+      behind (sealAt key 0 (fixedPart 0 clock [] (length q))) (sealAt key 1 q) eb
+
+  pub response-law : (binding payload : List ℕ) → b ≡ sealAt key 0 (fixedPart 1 clock binding (length payload)) ++ sealAt key 1 payload
+      → w ≡ put d 0 (responseOf key salt binding clock payload)
+  unfolding responseOf front
+  response-law binding payload eb = behind (sealAt key 0 (fixedPart 1 clock binding (length payload))) (sealAt key 1 payload) eb
 
 -- under the subkey of a key and the salt
 module _ (k key salt d w : List ℕ) (clock : ℕ) (e : k ≡ subkey key salt) where

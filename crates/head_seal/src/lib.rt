@@ -10,10 +10,10 @@ use stream::Sender;
 use stream::Subkey;
 use stream::TAG;
 use stream::derive;
-use stream::seal_piece;
-use stream::seal_text;
+use stream::seal_pair;
 use stream::size_answer;
 ghost use mathlib.Core.Path.{_≡_};
+ghost use mathlib.Core.List.{[], _++_};
 ghost use Prim.Native.Nat.{_+_, _<_, _≤_, min};
 ghost use lib.ListN.{length};
 ghost use Rattle.octets.specs.Buffers.{put};
@@ -21,7 +21,7 @@ ghost use Rattle.aes.specs.Keyed.{nkOf};
 ghost use Rattle.protocol.specs.Method.{maxKey};
 ghost use Rattle.stream.specs.Pieces.{tagLength, fixedLength, fixedPiece, sealAt, keyOf};
 ghost use Rattle.stream.specs.Sealing.{maxChunk, sealOut};
-ghost use Rattle.head_seal.specs.HeadSealing.{fixedPart, front, variablePart, variableLength, requestAt, request, responseOf, response, begun, sizesFit, paddingLawful, requestAnswer, responseAnswer};
+ghost use Rattle.head_seal.specs.HeadSealing.{fixedPart, variablePart, variableLength, requestAt, request, responseOf, response, begun, sizesFit, paddingLawful, requestAnswer, responseAnswer};
 
 // The cap of a request's padding.
 pub const MAX_PADDING: usize = 900;
@@ -141,57 +141,68 @@ fn write_fixed(out: &mut [u8], kind: u8, clock: u64, binding: &[u8], n: u16)
     octets::write_u16_be(out, 9 + binding.len(), n);
 }
 
-// The salt and the fixed header, sealed, to the front of a buffer. The key is as long as the salt.
-fn write_front(out: &mut [u8], w: Subkey, salt: &[u8], kind: u8, clock: u64, binding: &[u8], n: u16)
-    requires { ⌜ 0 < nkOf (length (now salt)) ⌝ }
-    requires { ⌜ length (now binding) ≤ maxKey ⌝ }
-    requires { ⌜ length (now salt) + fixedPiece + length (now binding) ≤ length (now out) ⌝ }
-    ensures { λ _. ⌜ now (out .exit)
-        ≡ put (now (out .entry)) 0
-        (front (keyOf w (length (now (salt .entry)))) (now (salt .entry)) kind clock (now (binding .entry)) n) ⌝ }
-{
-    let mut fixed = [0u8; MAX_FIXED];
-    write_fixed(&mut fixed, kind, clock, binding, n);
-    let m = FIXED + binding.len();
-    let at = salt.len();
-    octets::copy(out, 0, salt);
-    seal_text(w, at, 0, &fixed[..m], &mut out[at..at + m + TAG]);
-}
-
-// The plaintext of a variable header, to the front of a buffer.
-fn write_variable(out: &mut [u8], address: &[u8], padding: usize, payload: &[u8])
+// The plaintext of a variable header, to a place.
+fn write_variable(out: &mut [u8], at: usize, address: &[u8], padding: usize, payload: &[u8])
     requires { ⌜ padding ≤ maxChunk ⌝ }
-    requires { ⌜ variableLength (length (now address)) padding (length (now payload)) + tagLength ≤ length (now out) ⌝ }
-    ensures { λ _. ⌜ now (out .exit)
-        ≡ put (now (out .entry)) 0 (variablePart (now (address .entry)) padding (now (payload .entry))) ⌝ }
+    requires { ⌜ at + variableLength (length (now address)) padding (length (now payload)) ≤ length (now out) ⌝ }
+    ensures { λ _. ⌜ now (out .exit) ≡ put (now (out .entry)) at (variablePart (now (address .entry)) padding (now (payload .entry))) ⌝ }
 {
-    let at = address.len();
-    octets::copy(out, 0, address);
-    octets::write_u16_be(out, at, padding as u16);
-    octets::zero(out, at + 2, padding);
-    octets::copy(out, at + 2 + padding, payload);
+    let behind = at + address.len();
+    octets::copy(out, at, address);
+    octets::write_u16_be(out, behind, padding as u16);
+    octets::zero(out, behind + 2, padding);
+    octets::copy(out, behind + 2 + padding, payload);
 }
 
-// A variable header, sealed in the buffer that it fills.
-fn seal_variable(
+// A request's two headers, sealed in the buffer that they fill, under a key of k bytes.
+fn seal_request_headers(
     body: &mut [u8],
     w: Subkey,
     k: usize,
+    clock: u64,
     address: &[u8],
     padding: usize,
     payload: &[u8],
 )
     requires { ⌜ 0 < nkOf k ⌝ }
     requires { ⌜ variableLength (length (now address)) padding (length (now payload)) ≤ maxChunk ⌝ }
-    requires { ⌜ length (now body) ≡ variableLength (length (now address)) padding (length (now payload)) + tagLength ⌝ }
+    requires { ⌜ length (now body)
+        ≡ fixedPiece + variableLength (length (now address)) padding (length (now payload)) + tagLength ⌝ }
     ensures { λ _. ⌜ now (body .exit)
-        ≡ sealAt (keyOf w k) 1 (variablePart (now (address .entry)) padding (now (payload .entry))) ⌝ }
+        ≡ sealAt (keyOf w k) 0
+        (fixedPart 0 clock [] (length (variablePart (now (address .entry)) padding (now (payload .entry)))))
+        ++ sealAt (keyOf w k) 1 (variablePart (now (address .entry)) padding (now (payload .entry))) ⌝ }
 {
-    write_variable(body, address, padding, payload);
-    seal_piece(w, k, 1, body);
+    let v = body.len() - FIXED_PIECE - TAG;
+    write_fixed(body, 0, clock, &address[..0], v as u16);
+    write_variable(body, FIXED_PIECE, address, padding, payload);
+    seal_pair(w, k, 0, FIXED_PIECE, body);
 }
 
-// The head of a request, of n bytes, to the front of a buffer.
+// A response's header and first payload, sealed in the buffer that they fill, under a key of k bytes.
+fn seal_response_headers(
+    body: &mut [u8],
+    w: Subkey,
+    k: usize,
+    clock: u64,
+    binding: &[u8],
+    payload: &[u8],
+)
+    requires { ⌜ 0 < nkOf k ⌝ }
+    requires { ⌜ length (now binding) ≤ maxKey ⌝ }
+    requires { ⌜ length (now payload) ≤ maxChunk ⌝ }
+    requires { ⌜ length (now body) ≡ fixedPiece + length (now binding) + length (now payload) + tagLength ⌝ }
+    ensures { λ _. ⌜ now (body .exit)
+        ≡ sealAt (keyOf w k) 0 (fixedPart 1 clock (now (binding .entry)) (length (now (payload .entry))))
+        ++ sealAt (keyOf w k) 1 (now (payload .entry)) ⌝ }
+{
+    let at = FIXED_PIECE + binding.len();
+    write_fixed(body, 1, clock, binding, payload.len() as u16);
+    octets::copy(body, at, payload);
+    seal_pair(w, k, 0, at, body);
+}
+
+// The head of a request, of n bytes, to the front of a buffer. The key is as long as the salt.
 fn write_request(
     out: &mut [u8],
     n: usize,
@@ -211,17 +222,9 @@ fn write_request(
         ≡ put (now (out .entry)) 0 (requestAt (keyOf w (length (now (salt .entry)))) (now (salt .entry)) clock
         (now (address .entry)) padding (now (payload .entry))) ⌝ }
 {
-    let v = address.len() + 2 + padding + payload.len();
     let k = salt.len();
-    write_front(out, w, salt, 0, clock, &salt[..0], v as u16);
-    seal_variable(
-        &mut out[k + FIXED_PIECE..n],
-        w,
-        k,
-        address,
-        padding,
-        payload,
-    );
+    octets::copy(out, 0, salt);
+    seal_request_headers(&mut out[k..n], w, k, clock, address, padding, payload);
 }
 
 // The head of a response with its first payload, of n bytes, to the front of a buffer.
@@ -244,9 +247,8 @@ fn write_response(
         clock (now (payload .entry))) ⌝ }
 {
     let k = salt.len();
-    let at = k + FIXED_PIECE + binding.len();
-    write_front(out, w, salt, 1, clock, binding, payload.len() as u16);
-    seal_text(w, k, 1, payload, &mut out[at..n]);
+    octets::copy(out, 0, salt);
+    seal_response_headers(&mut out[k..n], w, k, clock, binding, payload);
 }
 
 // ---- the whole

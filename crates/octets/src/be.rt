@@ -95,7 +95,7 @@ pub fn write_u16_be(out: &mut [u8], at: usize, x: u16)
     store_u8(out, at + 1, (x % 256) as u8);
 }
 
-pub fn write_u32_be(out: &mut [u8], at: usize, x: u32)
+fn write_u32_be(out: &mut [u8], at: usize, x: u32)
     requires { ⌜ at + 4 ≤ length (now out) ⌝ }
     ensures { λ _. ⌜ now (out .exit) ≡ put (now (out .entry)) at (toBe 4 x) ⌝ }
 {

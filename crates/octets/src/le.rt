@@ -29,26 +29,7 @@ fn load_u32(s: &[u8], at: usize) -> u32
     load_u16(s, at) as u32 | (load_u16(s, at + 2) as u32) << 16
 }
 
-fn load_u64(s: &[u8], at: usize) -> u64
-    requires { ⌜ at + 8 ≤ length (now s) ⌝ }
-    ensures { λ r. ⌜ r ≡ le 8 (drop at (now (s .entry))) ⌝ }
-{
-    load_u32(s, at) as u64 | (load_u32(s, at + 4) as u64) << 32
-}
-
 // ---- from a string, where a byte past the end counts as 0
-
-pub fn read_u16_le(s: &[u8], at: usize) -> u16
-    ensures { λ r. ⌜ r ≡ le 2 (drop at (now (s .entry))) ⌝ }
-{
-    if s.len() <= at {
-        return 0;
-    }
-    if 2 <= s.len() - at {
-        return load_u16(s, at);
-    }
-    load_u16(&padded(&s[at..]), 0)
-}
 
 pub fn read_u32_le(s: &[u8], at: usize) -> u32
     ensures { λ r. ⌜ r ≡ le 4 (drop at (now (s .entry))) ⌝ }
@@ -62,18 +43,6 @@ pub fn read_u32_le(s: &[u8], at: usize) -> u32
     load_u32(&padded(&s[at..]), 0)
 }
 
-pub fn read_u64_le(s: &[u8], at: usize) -> u64
-    ensures { λ r. ⌜ r ≡ le 8 (drop at (now (s .entry))) ⌝ }
-{
-    if s.len() <= at {
-        return 0;
-    }
-    if 8 <= s.len() - at {
-        return load_u64(s, at);
-    }
-    load_u64(&padded(&s[at..]), 0)
-}
-
 // ---- into a buffer
 
 fn store_u8(out: &mut [u8], at: usize, x: u8)
@@ -83,7 +52,7 @@ fn store_u8(out: &mut [u8], at: usize, x: u8)
     out[at] = x;
 }
 
-pub fn write_u16_le(out: &mut [u8], at: usize, x: u16)
+fn write_u16_le(out: &mut [u8], at: usize, x: u16)
     requires { ⌜ at + 2 ≤ length (now out) ⌝ }
     ensures { λ _. ⌜ now (out .exit) ≡ put (now (out .entry)) at (toLe 2 x) ⌝ }
 {

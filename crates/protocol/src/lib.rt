@@ -2,7 +2,7 @@
 ghost use mathlib.Core.Path.{_≡_};
 ghost use Rattle.protocol.specs.Method.{maxKey, aes128, aes256, methodOf, keyFits, keyLength, saltLength};
 ghost use Rattle.protocol.specs.Refusal.{refusalNumber, wantedBytes};
-ghost use Rattle.protocol.specs.Subkey.{subkey, sessionSubkey};
+ghost use Rattle.protocol.specs.Subkey.{subkey};
 ghost use Rattle.protocol.specs.Time.{timeValid};
 ghost use Prim.Native.Nat.{_≤_};
 ghost use lib.ListN.{length};
@@ -182,15 +182,4 @@ pub fn derive_subkey(key: &[u8], salt: &[u8], out: &mut [u8])
     octets::copy(&mut material, n, salt);
     let bytes = blake3::derive_subkey(&material[..end]);
     octets::copy(out, 0, &bytes[..n]);
-}
-
-// The subkey of a key and a session ID.
-pub fn derive_session_subkey(key: &[u8], id: u64, out: &mut [u8])
-    requires { ⌜ length (now key) ≤ maxKey ⌝ }
-    requires { ⌜ maxKey ≤ length (now out) ⌝ }
-    ensures { λ _. ⌜ now (out .exit) ≡ put (now (out .entry)) 0 (sessionSubkey (now (key .entry)) id) ⌝ }
-{
-    let mut salt = [0u8; 8];
-    octets::write_u64_be(&mut salt, 0, id);
-    derive_subkey(key, &salt, out);
 }

@@ -2,22 +2,25 @@
 -- Assumes nothing.
 use mathlib.Core.Path.{_≡_, sym, ap, _∙_, subst}
 use mathlib.Core.Bool.{Bool, true, false, cond}
-use mathlib.Core.List.{List, _++_, append-assoc}
-use Prim.Native.Nat.{ℕ, _+_, _-_, _/_, _<_, _≤_}
+use mathlib.Core.List.{List, [], _++_, map, append-assoc, append-nil}
+use Prim.Native.Nat.{ℕ, _+_, _-_, _*_, _/_, _<_, _≤_}
 use native.Mathlib.Omega.{arith}
-use lib.ListN.{length, take, drop, replicate, length-append}
-use lib.Seq.{length-take-le, getD-drop}
+use lib.ListN.{length, take, drop, replicate, length-append, length-drop}
+use lib.Seq.{length-take-le, getD-drop, take-at, drop-at, take-take, drop-length}
 use Rattle.octets.specs.Buffers.{put}
 use Rattle.octets.specs.Numbers.{be, toBe, toLe}
-use Rattle.octets.proofs.BufferLaws.{put-behind, put-whole, getD-padded}
+use Rattle.octets.proofs.BufferLaws.{put-behind, put-whole, getD-padded, rest, length-put, take-put}
 use Rattle.octets.proofs.NumberLaws.{be-same, toLe-add, length-toBe, length-toLe}
+use Rattle.aes.specs.KeyExpansion.{keyExpansion}
 use Rattle.aes.specs.Keyed.{nkOf}
-use Rattle.aes.proofs.KeyedLaws.{key-most}
-use Rattle.gcm.specs.Gcm.{textOf}
-use Rattle.gcm.specs.Keyed.{maxText, answer, openAnswer, openOut, sealedInPlace}
+use Rattle.aes.specs.Words.{bytes}
+use Rattle.aes.proofs.KeyedLaws.{KeyLength, key-length, key-most}
+use Rattle.ctr.specs.Gctr.{ciphAt}
+use Rattle.gcm.specs.Gcm.{seal, textOf}
+use Rattle.gcm.specs.Keyed.{maxText, ciphOf, answer, openAnswer, openOut}
 use Rattle.gcm.specs.declared.Opened.{Opened as Answer}
 use Rattle.gcm.specs.declared.Opened.the-variants.{Text, Forged, Unlawful}
-use Rattle.gcm.proofs.KeyedLaws.{in-place-seals, open-lawful, open-decided, answer-text, answer-forged, answer-lawful}
+use Rattle.gcm.proofs.KeyedLaws.{ciph-key, open-lawful, open-decided, answer-text, answer-forged, answer-lawful}
 use Rattle.stream.specs.declared.Subkey.{Subkey}
 use Rattle.stream.specs.Pieces.{nonce, sealAt, authenticAt, openAt, subkeyWords, subkeyBytes, keyOf}
 use Rattle.stream.proofs.LengthLaws.{length-nonce, length-subkeyBytes}
@@ -85,15 +88,70 @@ module _ (w : Subkey) (k : ℕ) (has-key : 0 < nkOf k) where
   key-lawful : 0 < nkOf (length (keyOf w k))
   key-lawful = subst (λ (m : ℕ). 0 < nkOf m) (sym length-keyOf) has-key
 
-  -- ---- sealed in place
+  -- what its length says of Nk
+  pub key-facts : KeyLength k (nkOf k)
+  key-facts = key-length k (λ e. let z : 0 < nkOf k = has-key in omega (arith, e, z))
 
-  pub sealed-piece : (counter : ℕ) (body key n r : List ℕ) → 16 ≤ length body → length body ≤ 65551 → key ≡ subkeyBytes w
-      → n ≡ nonce counter → r ≡ sealedInPlace (take k key) n body → r ≡ sealAt (keyOf w k) counter (textOf body)
-  unfolding sealAt keyOf
-  sealed-piece counter body key n r h m ek en er =
-      let long : length body - 16 ≤ maxText = omega arith in
-      er ∙ (λ i. sealedInPlace (take k (ek i)) (en i) body)
-      ∙ in-place-seals (keyOf w k) (nonce counter) body key-lawful (length-nonce counter) h long
+  -- the cipher at the words of its expansion
+  pub expanded : (nk : ℕ) (key r : List ℕ) → nk ≡ nkOf k → key ≡ subkeyBytes w
+      → map bytes (take (4 * nk + 28) r) ≡ keyExpansion nk (take k key) → ciphAt (nkOf k + 6) r ≡ ciphOf (keyOf w k)
+  unfolding keyOf
+  expanded nk key r en ek er =
+      ap (λ (m : ℕ). ciphAt (m + 6) r) (sym en)
+      ∙ ciph-key nk (keyOf w k) r (en ∙ ap nkOf (sym length-keyOf)) (er ∙ ap (λ (x : List ℕ). keyExpansion nk (take k x)) ek)
+
+-- ---- two pieces, one behind the other
+
+-- sealed one after the other in their buffer, under one cipher
+pub pair-sealed : (rounds : ℕ) (words key d n m a b : List ℕ) (counter at : ℕ) → ciphAt rounds words ≡ ciphOf key → n ≡ nonce counter
+    → m ≡ nonce (counter + 1) → a ≡ seal (ciphAt rounds words) n (textOf (take at d)) → length a ≡ at → let v = a ++ drop at d in
+    b ≡ seal (ciphAt rounds words) m (textOf (take (length v - at) (drop at v)))
+    → take at v ++ (b ++ drop (length v - at) (drop at v))
+    ≡ sealAt key counter (textOf (take at d)) ++ sealAt key (counter + 1) (textOf (drop at d))
+unfolding sealAt
+pair-sealed rounds words key d n m a b counter at ec en em ea la eb =
+    let v = a ++ drop at d in
+    let back : take (length v - at) (drop at v) ≡ drop at d = rest v at ∙ drop-at a (drop at d) at la in
+    let nothing : drop (length v - at) (drop at v) ≡ [] = ap (λ (x : ℕ). drop x (drop at v)) (sym (length-drop at v)) ∙ drop-length (drop at v) in
+    (λ i. take-at a (drop at d) at la i ++ (b ++ nothing i))
+    ∙ ap (λ (x : List ℕ). a ++ x) (append-nil b)
+    ∙ (λ i. (ea ∙ (λ j. seal (ec j) (en j) (textOf (take at d)))) i ++ (eb ∙ (λ j. seal (ec j) (em j) (textOf (back j)))) i)
+
+-- two texts, each with room for its tag behind it
+module _ (d p q v o : List ℕ) (at : ℕ) (front : at ≡ length p + 16) (whole : length d ≡ at + length q + 16) (ev : v ≡ put d 0 p)
+    (eo : o ≡ put v at q) where
+  lv : length v ≡ length d
+  lv = ap length ev ∙ length-put d 0 p (omega arith)
+
+  parts : o ≡ take at v ++ (q ++ drop (at + length q) v)
+  unfolding put
+  parts = eo ∙ append-assoc (take at v) q (drop (at + length q) v)
+
+  long : length (take at v) ≡ at
+  long = length-take-le at v (omega (arith, lv))
+
+  first-text : textOf (take at o) ≡ p
+  unfolding textOf
+  first-text =
+      let n : length (take at v) - 16 ≡ 0 + length p = omega (arith, long) in
+      ap textOf (ap (take at) parts ∙ take-at (take at v) (q ++ drop (at + length q) v) at long)
+      ∙ ap (λ (m : ℕ). take m (take at v)) n
+      ∙ take-take (0 + length p) at v (omega arith)
+      ∙ ap (take (0 + length p)) ev
+      ∙ take-put d 0 p (omega arith)
+
+  second-text : textOf (drop at o) ≡ q
+  unfolding textOf
+  second-text =
+      let r = drop (at + length q) v in
+      let n : length q ≡ length (q ++ r) - 16 = omega (arith, length-append q r, length-drop (at + length q) v, lv) in
+      ap textOf (ap (drop at) parts ∙ drop-at (take at v) (q ++ r) at long) ∙ take-at q r (length (q ++ r) - 16) n
+
+  -- so the two are sealed
+  pub pair-law : (key r : List ℕ) (counter : ℕ)
+      → r ≡ sealAt key counter (textOf (take at o)) ++ sealAt key (counter + 1) (textOf (drop at o))
+      → r ≡ sealAt key counter p ++ sealAt key (counter + 1) q
+  pair-law key r counter er = er ∙ (λ i. sealAt key counter (first-text i) ++ sealAt key (counter + 1) (second-text i))
 
 -- ---- opened
 

@@ -10,8 +10,7 @@ mod sealing;
 
 pub use pieces::derive;
 pub use pieces::open_piece;
-pub use pieces::seal_piece;
-pub use pieces::seal_text;
+pub use pieces::seal_pair;
 pub use sealing::seal_chunk;
 pub use sealing::size_answer;
 

@@ -2,16 +2,21 @@
 use super::Subkey;
 use protocol::MAX_KEY;
 ghost use mathlib.Core.Path.{_≡_};
-ghost use Prim.Native.Nat.{_+_, _-_, _<_, _≤_};
-ghost use lib.ListN.{length};
+ghost use mathlib.Core.List.{_++_};
+ghost use Prim.Native.Nat.{_+_, _-_, _*_, _<_, _≤_};
+ghost use lib.ListN.{length, take, drop};
 ghost use Rattle.octets.specs.Buffers.{put};
 ghost use mathlib.Core.Bool.{cond};
+ghost use Rattle.aes_tables.specs.SBox.{sBox};
+ghost use Rattle.aes_tables.specs.Tables.{IsTable};
 ghost use Rattle.aes.specs.Keyed.{nkOf};
+ghost use Rattle.ctr.specs.Gctr.{ciphAt};
 ghost use Rattle.gcm.specs.Gcm.{textOf};
 ghost use Rattle.protocol.specs.Method.{maxKey};
+ghost use Rattle.gcm.specs.Keyed.{ciphOf};
 ghost use Rattle.protocol.specs.Subkey.{subkey as subkeyOf};
 ghost use Rattle.stream.specs.Pieces.{nonce as nonceOf, tagLength, sealAt, authenticAt, openAt, subkeyWords, subkeyBytes, keyOf};
-ghost use Rattle.stream.specs.Sealing.{maxChunk};
+ghost use Rattle.stream.specs.Sealing.{maxChunk, lastCounter};
 
 // The counter in 12 bytes, little-endian.
 fn nonce(counter: u64) -> [u8; 12]
@@ -55,27 +60,38 @@ pub fn derive(key: &[u8], salt: &[u8]) -> Subkey
     subkey_words(&s)
 }
 
-// Seals a piece in place, under a key of k bytes: its last bytes are room for the tag.
-pub fn seal_piece(w: Subkey, k: usize, counter: u64, body: &mut [u8])
+// The words of the key expansion, for a subkey of k bytes.
+fn expand(sbox: &[u8; 256], w: Subkey, k: usize) -> [u32; 60]
     requires { ⌜ 0 < nkOf k ⌝ }
-    requires { ⌜ tagLength ≤ length (now body) ⌝ }
-    requires { ⌜ length (now body) ≤ maxChunk + tagLength ⌝ }
-    ensures { λ _. ⌜ now (body .exit) ≡ sealAt (keyOf w k) counter (textOf (now (body .entry))) ⌝ }
+    requires { ⌜ IsTable sBox (now sbox) ⌝ }
+    ensures { λ r. ⌜ ciphAt (nkOf k + 6) r ≡ ciphOf (keyOf w k) ⌝ }
 {
     let key = subkey_bytes(w);
-    let n = nonce(counter);
-    gcm::seal_in_place(&key[..k], &n, body);
+    aes::key::expand(sbox, &key[..k], aes::key::key_words(k))
 }
 
-// Seals a text into a buffer that it fills with its tag.
-pub fn seal_text(w: Subkey, k: usize, counter: u64, text: &[u8], body: &mut [u8])
+// Seals the two pieces of one call in place, the first up to a place and the second from there on; the last bytes of each
+// are room for its tag. The key is expanded and its tables are made once for both.
+pub fn seal_pair(w: Subkey, k: usize, counter: u64, at: usize, body: &mut [u8])
     requires { ⌜ 0 < nkOf k ⌝ }
-    requires { ⌜ length (now body) ≡ length (now text) + tagLength ⌝ }
-    requires { ⌜ length (now text) ≤ maxChunk ⌝ }
-    ensures { λ _. ⌜ now (body .exit) ≡ sealAt (keyOf w k) counter (now (text .entry)) ⌝ }
+    requires { ⌜ counter < lastCounter ⌝ }
+    requires { ⌜ tagLength ≤ at ⌝ }
+    requires { ⌜ at + tagLength ≤ length (now body) ⌝ }
+    requires { ⌜ length (now body) ≤ 2 * (maxChunk + tagLength) ⌝ }
+    ensures { λ _. ⌜ now (body .exit)
+        ≡ sealAt (keyOf w k) counter (textOf (take at (now (body .entry))))
+        ++ sealAt (keyOf w k) (counter + 1) (textOf (drop at (now (body .entry)))) ⌝ }
 {
-    octets::copy(body, 0, text);
-    seal_piece(w, k, counter, body);
+    let sbox = aes_tables::sbox();
+    let t = aes_tables::mix_table();
+    let words = expand(&sbox, w, k);
+    let rounds = aes::key::key_words(k) + 6;
+    let mut g = [0u64; 128];
+    gcm::write_hash_table(&mut g, &t, &sbox, &words, rounds);
+    let first = nonce(counter);
+    gcm::seal_in_place_at(&t, &sbox, &words, rounds, &g, &first, &mut body[..at]);
+    let second = nonce(counter + 1);
+    gcm::seal_in_place_at(&t, &sbox, &words, rounds, &g, &second, &mut body[at..]);
 }
 
 // Opens a piece to the front of a buffer: whether its tag is good; if not, nothing is written.

@@ -5,7 +5,7 @@ use super::MAX_CHUNK;
 use super::Sealed;
 use super::Sender;
 use super::Subkey;
-use super::pieces::seal_text;
+use super::pieces::seal_pair;
 use gcm::TAG;
 use protocol::Refusal;
 ghost use mathlib.Core.Path.{_≡_};
@@ -61,19 +61,17 @@ fn chunk_answer(stream: Sender, payload: usize, room: usize) -> Sealed
 
 // ---- what is written
 
-// A length with its payload, of n bytes, to the front of a buffer.
-fn write_chunk(out: &mut [u8], n: usize, w: Subkey, k: usize, counter: u64, payload: &[u8])
+// A length with its payload, into a buffer that they fill.
+fn write_chunk(body: &mut [u8], w: Subkey, k: usize, counter: u64, payload: &[u8])
     requires { ⌜ 0 < nkOf k ⌝ }
     requires { ⌜ counter < lastCounter ⌝ }
     requires { ⌜ length (now payload) ≤ maxChunk ⌝ }
-    requires { ⌜ n ≡ lengthPiece + length (now payload) + tagLength ⌝ }
-    requires { ⌜ n ≤ length (now out) ⌝ }
-    ensures { λ _. ⌜ now (out .exit) ≡ put (now (out .entry)) 0 (chunk (keyOf w k) counter (now (payload .entry))) ⌝ }
+    requires { ⌜ length (now body) ≡ lengthPiece + length (now payload) + tagLength ⌝ }
+    ensures { λ _. ⌜ now (body .exit) ≡ chunk (keyOf w k) counter (now (payload .entry)) ⌝ }
 {
-    let mut text = [0u8; 2];
-    octets::write_u16_be(&mut text, 0, payload.len() as u16);
-    seal_text(w, k, counter, &text, &mut out[..LENGTH_PIECE]);
-    seal_text(w, k, counter + 1, payload, &mut out[LENGTH_PIECE..n]);
+    octets::write_u16_be(body, 0, payload.len() as u16);
+    octets::copy(body, LENGTH_PIECE, payload);
+    seal_pair(w, k, counter, LENGTH_PIECE, body);
 }
 
 // Seals a length with its payload to the front of the lent buffer. A refusal writes nothing, and the stream stays as it was.
@@ -87,7 +85,7 @@ pub fn seal_chunk(stream: Sender, payload: &[u8], out: &mut [u8]) -> Sealed
         Sealed::Bytes(n, _) => {
             let w = stream.subkey;
             let k = protocol::key_length(stream.method);
-            write_chunk(out, n, w, k, stream.counter, payload);
+            write_chunk(&mut out[..n], w, k, stream.counter, payload);
             answer
         }
         Sealed::Refused(_) => answer,

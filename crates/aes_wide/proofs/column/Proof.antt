@@ -10,7 +10,7 @@ returns c =
     let d = c in
     let e = d .before in
     let b = e .before in
-    λ i. bitXor (bitXor (bitXor (b .before .part .ensures i) (b .part2 .ensures i)) (e .part3 .ensures i)) (d .part4 .ensures i)
+    λ i. bitXor (bitXor (bitXor (b .before .row-entry .ensures i) (b .row-entry2 .ensures i)) (e .row-entry3 .ensures i)) (d .row-entry4 .ensures i)
 
 pub column-spec : {M : Type 1} → statement M
 column-spec = tie.close (tie.spec (λ c κs. search needs) (λ c κs. search needs) (λ c κs. search needs) (λ c κs. search needs) returns)

@@ -32,31 +32,40 @@ returns-3 c =
 has-key : (c : tie.Then1) → 0 < nkOf (length (c .before .before .before .before .before .args .key .now))
 has-key c = key-of-size _ (fits-sizes _ _ (sym (c .before .key-fits .ensures) ∙ c .if1 .taken) .either)
 
-read-separate-requires : tie.Need-read-separate-requires
-read-separate-requires c κs =
+open-separate-requires : tie.Need-open-separate-requires
+open-separate-requires c κs =
     let x = c .before in
     let l = x .before .before .before in
     (has-key (l .before), (omega (arith, l .if2 .left), x .sbox .ensures))
 
 read-body-requires : tie.Need-read-body-requires
 read-body-requires c κs =
-    let x = c .before .before .before .before .before in
+    let h = c .before .before .before .before in
+    let x = h .before .before in
     let r = x .before in
     let m = r .before in
     let l = m .before in
-    let n = length-body (l .before .before .before .before .before .before .args .s .now) in
-    (has-key (l .before), (omega (arith, n, l .if2 .left), (omega (arith, n, m .if3 .left), (omega (arith, n, r .if4 .left), x .sbox .ensures))))
+    let n = length-body (l .before .before .before .before .before .before .args .s .now) in (
+      has-key (l .before),
+      (
+        omega (arith, n, l .if2 .left),
+        (
+          omega (arith, n, m .if3 .left),
+          (omega (arith, n, r .if4 .left), (x .sbox .ensures, h .open-separate .ensures .1)),
+        ),
+      ),
+    )
 
 returns-4 : tie.Need-returns-4
 returns-4 c =
     let b = c .before .before in
-    let h = b .before .before .before .before in
+    let h = b .before .before .before .before .before in
     let r = h .before .before .before in
     let m = r .before in
     let l = m .before in
     let k = l .before in
-    read-done _ _ _ _ _ _ _ (k .before .key-fits .ensures) (k .if1 .taken) (l .if2 .left) (m .if3 .left) (r .if4 .left) _ _
-    (h .read-separate .ensures .0) (h .read-separate .ensures .1) _ _ (b .read-body .ensures .0) (b .read-body .ensures .1)
+    read-done _ _ _ _ _ _ _ (k .before .key-fits .ensures) (k .if1 .taken) (l .if2 .left) (m .if3 .left) (r .if4 .left) _ (h .open-separate .ensures .0) _ _
+    (b .read-body .ensures .0) (b .read-body .ensures .1)
 
 returns-5 : tie.Need-returns-5
 returns-5 c = read-settings _ _ _ _ _ _ _ (c .before .key-fits .ensures) (c .if1 .left)
@@ -71,7 +80,8 @@ read-datagram-spec =
     (λ c. search needs)
     returns-3
     (λ c κs. search needs)
-    read-separate-requires
+    open-separate-requires
+    (λ c. search needs)
     (λ c. search needs)
     (λ c. search needs)
     (λ c. search needs)

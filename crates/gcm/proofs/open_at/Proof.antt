@@ -1,4 +1,4 @@
-use mathlib.Core.Path.{_≡_, sym, ap, _∙_}
+use mathlib.Core.Path.{_≡_, refl, sym, ap, _∙_}
 use mathlib.Core.Bool.{Bool, true, cond}
 use Prim.Native.Nat.{_-_, _≤_}
 use native.Mathlib.Omega.{arith}
@@ -17,20 +17,27 @@ use Rattle.gcm.proofs.open_at.Tie as tie
 before-tag : (c : tie.After-slice-known) → let s = c .before .before .args .s .now in length (take (length s - 16) s) ≡ length s - 16
 before-tag c = let s = c .before .before .args .s .now in length-take-le (length s - 16) s (omega arith)
 
+write-hash-table-requires : tie.Need-write-hash-table-requires
+write-hash-table-requires c κs =
+    let q = c .before .before .before .pre in
+    (refl, q .0)
+
 slice-aggregate-tag-of : tie.Need-slice-aggregate-tag-of
-slice-aggregate-tag-of c = sym (before-tag (c .before))
+slice-aggregate-tag-of c = sym (before-tag (c .before .before .before .before))
 
 tag-of-requires : tie.Need-tag-of-requires
 tag-of-requires c κs =
-    let q = c .before .before .before .pre in
-    (q .0, omega (arith, q .1 .1 .0, before-tag (c .before)))
+    let h = c .before .before in
+    let k = h .before .before in
+    let q = k .before .before .pre in
+    (q .0, (omega (arith, q .1 .1 .0, before-tag k), h .write-hash-table .ensures))
 
 slice-aggregate-crypt-into : tie.Need-slice-aggregate-crypt-into
-slice-aggregate-crypt-into c = sym (before-tag (c .before .before .before .before .before .before .before))
+slice-aggregate-crypt-into c = sym (before-tag (c .before .before .before .before .before .before .before .before .before .before))
 
 crypt-into-requires : tie.Need-crypt-into-requires
 crypt-into-requires c κs =
-    let k = c .before .before .before .before .before .before .before .before in
+    let k = c .before .before .before .before .before .before .before .before .before .before .before in
     let q = k .before .before .pre in
     (q .0, omega (arith, q .1 .1 .1, before-tag k))
 
@@ -40,7 +47,7 @@ returns c =
     let p = c .before .before in
     let e = p .before .before .before .before in
     let t = e .before .before .before in
-    let a = t .before .before .before .before .args in
+    let a = t .before .before .before .before .before .before .before .args in
     let ciph = ciphAt (a .rounds) (a .w .now) in
     let n = nonceBytes (a .n) in
     let good : e .equal .result ≡ true = p .before .before .before .if1 .taken in (
@@ -53,7 +60,7 @@ returns-2 : tie.Need-returns-2
 returns-2 c =
     let e = c .before in
     let t = e .before .before .before in
-    let a = t .before .before .before .before .args in
+    let a = t .before .before .before .before .before .before .before .args in
     let ciph = ciphAt (a .rounds) (a .w .now) in
     let n = nonceBytes (a .n) in (
       authentic-law ciph n (a .s .now) _ _ (t .tag-of .ensures) (e .equal .ensures),
@@ -65,6 +72,7 @@ open-at-spec =
     tie.close
     (tie.spec
     (λ c. search needs)
+    write-hash-table-requires
     slice-aggregate-tag-of
     tag-of-requires
     (λ c. search needs)

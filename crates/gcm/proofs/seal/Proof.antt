@@ -24,26 +24,21 @@ expand-requires c κs =
 add-seal-at : tie.Need-add-seal-at
 add-seal-at c = omega (arith, facts (c .before .before .before .before .before .before .before) .key .most)
 
-read-nonce-requires : tie.Need-read-nonce-requires
-read-nonce-requires c κs = facts (c .before .before .before .before .before .before .before) .nonce
-
 seal-at-requires : tie.Need-seal-at-requires
 seal-at-requires c κs =
-    let m = c .before .before .before .before .before .before .before in
+    let m = c .before .before .before .before .before .before in
     let f = facts (m .before .before) in (
       record { mix = m .mix-table .ensures; sub = m .before .sbox .ensures; least = omega (arith, f .key .least); most = omega (arith, f .key .most) },
-      (f .text, f .space),
+      (f .text, (f .space, f .nonce)),
     )
 
 returns-2 : tie.Need-returns-2
 returns-2 c =
     let r = c .before .before in
-    let n = r .before .before in
-    let e = n .before .before .before .before in
+    let e = r .before .before .before .before .before in
     let k = e .before .before .before .before in
     let f = facts k in
-    seal-done _ _ _ _ (k .before .lawful-words .result) (e .expand .result) _ _ (f .lawful) (f .words-are) (e .expand .ensures .0)
-    (n .read-nonce .ensures) (r .seal-at .ensures)
+    seal-done _ _ _ _ (k .before .lawful-words .result) (e .expand .result) _ (f .lawful) (f .words-are) (e .expand .ensures .0) (r .seal-at .ensures)
 
 pub seal-spec : {M : Type 1} → statement M
 seal-spec =
@@ -56,7 +51,6 @@ seal-spec =
     (λ c κs. search needs)
     expand-requires
     add-seal-at
-    read-nonce-requires
     seal-at-requires
     (λ c. search needs)
     returns-2)

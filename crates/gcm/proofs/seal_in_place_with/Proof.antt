@@ -1,3 +1,4 @@
+use mathlib.Core.Path.{refl}
 use Prim.Native.Nat.{_-_}
 use native.Mathlib.Omega.{arith}
 use borrow.Author.Needs.{needs}
@@ -22,30 +23,37 @@ expand-requires c κs =
     let k = facts c .key in
     (c .before .before .before .before .before .before .pre .1, (k .words, (k .least, k .most)))
 
-add-seal-in-place-at : tie.Need-add-seal-in-place-at
-add-seal-in-place-at c = omega (arith, facts (c .before .before) .key .most)
+add-write-hash-table : tie.Need-add-write-hash-table
+add-write-hash-table c = omega (arith, facts (c .before .before .before) .key .most)
 
-read-nonce-requires : tie.Need-read-nonce-requires
-read-nonce-requires c κs = facts (c .before .before) .nonce
+write-hash-table-requires : tie.Need-write-hash-table-requires
+write-hash-table-requires c κs =
+    let k = c .before .before .before in
+    let p = k .before .before .before .before .before .before .pre in
+    let f = facts k .key in
+    (refl, record { mix = p .0; sub = p .1; least = omega (arith, f .least); most = omega (arith, f .most) })
+
+add-seal-in-place-at : tie.Need-add-seal-in-place-at
+add-seal-in-place-at c = omega (arith, facts (c .before .before .before .before .before) .key .most)
 
 seal-in-place-at-requires : tie.Need-seal-in-place-at-requires
 seal-in-place-at-requires c κs =
-    let k = c .before .before .before .before in
+    let h = c .before .before .before in
+    let k = h .before .before .before .before in
     let p = k .before .before .before .before .before .before .pre in
     let f = facts k in (
       record { mix = p .0; sub = p .1; least = omega (arith, f .key .least); most = omega (arith, f .key .most) },
-      (k .before .before .if1 .left, f .text),
+      (k .before .before .if1 .left, (f .text, (h .write-hash-table .ensures, f .nonce))),
     )
 
 returns-3 : tie.Need-returns-3
 returns-3 c =
     let r = c .before .before in
-    let n = r .before .before in
-    let e = n .before .before in
+    let e = r .before .before .before .before .before .before .before in
     let k = e .before in
     let f = facts k in
-    in-place-done _ _ _ (k .before .lawful-words .result) (e .expand .result) _ _ (k .before .before .if1 .left) (f .lawful) (f .words-are)
-    (e .expand .ensures .0) (n .read-nonce .ensures) (r .seal-in-place-at .ensures)
+    in-place-done _ _ _ (k .before .lawful-words .result) (e .expand .result) _ (k .before .before .if1 .left) (f .lawful) (f .words-are)
+    (e .expand .ensures .0) (r .seal-in-place-at .ensures)
 
 pub seal-in-place-with-spec : {M : Type 1} → statement M
 seal-in-place-with-spec =
@@ -56,8 +64,9 @@ seal-in-place-with-spec =
     (λ c κs. search needs)
     returns-2
     expand-requires
+    add-write-hash-table
+    write-hash-table-requires
     add-seal-in-place-at
-    read-nonce-requires
     seal-in-place-at-requires
     (λ c. search needs)
     returns-3)

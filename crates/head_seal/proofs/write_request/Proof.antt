@@ -1,62 +1,60 @@
 use mathlib.Core.Path.{_≡_, _∙_}
-use Prim.Native.Nat.{_+_, _-_, _≤_}
+use Prim.Native.Nat.{_-_}
 use native.Mathlib.Omega.{arith}
 use borrow.Author.Needs.{needs}
 use lib.ListN.{length, take, drop, length-drop}
 use lib.Seq.{length-take-le}
 use Rattle.octets.proofs.BufferLaws.{part-put}
-use Rattle.stream.specs.Sealing.{maxChunk}
-use Rattle.head_seal.specs.HeadSealing.{variableLength}
 use Rattle.head_seal.proofs.HeadWriteLaws.{request-law}
 use Rattle.head_seal.proofs.write_request.Statement.{statement}
 use Rattle.head_seal.proofs.write_request.Tie as tie
 
--- the variable header's length as the code adds it up
-most : (c : tie.Start) → let a = c .args in length (a .address .now) + 2 + a .padding + length (a .payload .now) ≤ maxChunk
-unfolding variableLength
-most c = c .pre .1 .0
+copy-requires : tie.Need-copy-requires
+copy-requires c κs = let start = c .before .before .before .before .before in omega (arith, start .pre .1 .1 .0, start .pre .1 .1 .1)
 
-add-v-2 : tie.Need-add-v-2
-add-v-2 c = record { fits = omega (arith, most (c .before .before .before .before)) }
+sub-seal-request-headers : tie.Need-sub-seal-request-headers
+sub-seal-request-headers c = let start = c .before .before .before .before .before .before .before .before in omega (arith, start .pre .1 .1 .0)
 
-add-v-3 : tie.Need-add-v-3
-add-v-3 c = record { fits = omega (arith, most (c .before .before .before .before)) }
+part-seal-request-headers-start : tie.Need-part-seal-request-headers-start
+part-seal-request-headers-start c = sub-seal-request-headers c
 
-cast-write-front : tie.Need-cast-write-front
-cast-write-front c = record { fits = omega (arith, most (c .before .before .before .before .before .before)) }
+part-seal-request-headers-end : tie.Need-part-seal-request-headers-end
+part-seal-request-headers-end c =
+    let p = c .before .before in
+    let start = p .before .before .before .before .before .before in
+    omega (arith, p .copy .kept .0, start .pre .1 .1 .1)
 
--- the part behind the front
-body-part : (c : tie.After-write-front) → let a = c .before .before .before .before .before .before .before .args in
-    let n = length (a .salt .now) + 27 in
-    length (take (a .n - n) (drop n (c .write-front .last .0))) ≡ a .n - n
+-- the part behind the salt
+body-part : (c : tie.After-copy) → let a = c .before .before .before .before .before .before .args in
+    let k = length (a .salt .now) in
+    length (take (a .n - k) (drop k (c .copy .last .0))) ≡ a .n - k
 body-part c =
-    let start = c .before .before .before .before .before .before .before in
-    let n = length (start .args .salt .now) + 27 in
-    length-take-le _ _ (omega (arith, length-drop n (c .write-front .last .0), c .write-front .kept .0, start .pre .1 .1 .1))
+    let start = c .before .before .before .before .before .before in
+    let k = length (start .args .salt .now) in
+    length-take-le _ _ (omega (arith, length-drop k (c .copy .last .0), c .copy .kept .0, start .pre .1 .1 .1))
+
+seal-request-headers-requires : tie.Need-seal-request-headers-requires
+seal-request-headers-requires c κs =
+    let p = c .before .before .before in
+    let q = p .before .before .before .before .before .before .pre in
+    (q .0, (q .1 .0, omega (arith, body-part p, q .1 .1 .0)))
 
 returns : tie.Need-returns
 returns c =
-    let v = c .before .before in
-    let f = v .before .before .before .before in
-    let start = f .before .before .before .before .before .before .before in
-    let q = start .pre .1 .1 in
-    request-law _ _ _ _ _ _ _ _ _ _ (omega (arith, q)) (f .write-front .ensures) (v .seal-variable .ensures)
-    (part-put _ _ _ _ (v .seal-variable .kept .0 ∙ body-part f))
+    let s = c .before .before in
+    let p = s .before .before .before .before in
+    let start = p .before .before .before .before .before .before in
+    request-law _ _ _ _ _ _ _ (omega (arith, start .pre .1 .1 .0, start .pre .1 .1 .1)) (p .copy .ensures)
+    (part-put _ _ _ _ (s .seal-request-headers .kept .0 ∙ body-part p)) _ _ _ (s .seal-request-headers .ensures)
 
 pub write-request-spec : {M : Type 1} → statement M
 write-request-spec =
     tie.close
     (tie.spec
-    (λ c. search needs)
-    add-v-2
-    add-v-3
-    (λ c. search needs)
-    cast-write-front
-    (λ c κs. search needs)
-    (λ c. search needs)
-    (λ c. search needs)
-    (λ c. search needs)
-    (λ c. search needs)
-    (λ c κs. search needs)
+    copy-requires
+    sub-seal-request-headers
+    part-seal-request-headers-start
+    part-seal-request-headers-end
+    seal-request-headers-requires
     (λ c. search needs)
     returns)

@@ -1,5 +1,5 @@
 use mathlib.Core.Path.{_≡_, _∙_}
-use Prim.Native.Nat.{_+_, _-_}
+use Prim.Native.Nat.{_-_}
 use native.Mathlib.Omega.{arith}
 use borrow.Author.Needs.{needs}
 use lib.ListN.{length, take, drop, length-drop}
@@ -10,40 +10,52 @@ use Rattle.head_seal.proofs.HeadWriteLaws.{response-law}
 use Rattle.head_seal.proofs.write_response.Statement.{statement}
 use Rattle.head_seal.proofs.write_response.Tie as tie
 
-write-front-requires : tie.Need-write-front-requires
-write-front-requires c κs =
-    let q = c .before .before .before .before .before .pre in
-    let l = key-most _ (q .0) in
-    (q .0, (omega (arith, l, q .1 .0), omega (arith, q .1 .1)))
+copy-requires : tie.Need-copy-requires
+copy-requires c κs = let start = c .before .before .before .before .before in omega (arith, start .pre .1 .1 .1 .0, start .pre .1 .1 .1 .1)
 
--- the part behind the front
-body-part : (c : tie.After-write-front) → let a = c .before .before .before .before .before .before .args in
-    let n = length (a .salt .now) + 27 + length (a .binding .now) in
-    length (take (a .n - n) (drop n (c .write-front .last .0))) ≡ a .n - n
+sub-seal-response-headers : tie.Need-sub-seal-response-headers
+sub-seal-response-headers c = let start = c .before .before .before .before .before .before .before .before in omega (arith, start .pre .1 .1 .1 .0)
+
+part-seal-response-headers-start : tie.Need-part-seal-response-headers-start
+part-seal-response-headers-start c = sub-seal-response-headers c
+
+part-seal-response-headers-end : tie.Need-part-seal-response-headers-end
+part-seal-response-headers-end c =
+    let p = c .before .before in
+    let start = p .before .before .before .before .before .before in
+    omega (arith, p .copy .kept .0, start .pre .1 .1 .1 .1)
+
+-- the part behind the salt
+body-part : (c : tie.After-copy) → let a = c .before .before .before .before .before .before .args in
+    let k = length (a .salt .now) in
+    length (take (a .n - k) (drop k (c .copy .last .0))) ≡ a .n - k
 body-part c =
     let start = c .before .before .before .before .before .before in
-    let n = length (start .args .salt .now) + 27 + length (start .args .binding .now) in
-    length-take-le _ _ (omega (arith, length-drop n (c .write-front .last .0), c .write-front .kept .0, start .pre .1 .1 .1 .1))
+    let k = length (start .args .salt .now) in
+    length-take-le _ _ (omega (arith, length-drop k (c .copy .last .0), c .copy .kept .0, start .pre .1 .1 .1 .1))
+
+seal-response-headers-requires : tie.Need-seal-response-headers-requires
+seal-response-headers-requires c κs =
+    let p = c .before .before .before in
+    let q = p .before .before .before .before .before .before .pre in
+    (q .0, (omega (arith, key-most _ (q .0), q .1 .0), (q .1 .1 .0, omega (arith, body-part p, q .1 .1 .1 .0))))
 
 returns : tie.Need-returns
 returns c =
     let s = c .before .before in
-    let f = s .before .before .before .before in
-    let start = f .before .before .before .before .before .before in
-    response-law _ _ _ _ _ _ _ _ _ (omega (arith, start .pre .1 .1 .1)) (f .write-front .ensures) (s .seal-text .ensures)
-    (part-put _ _ _ _ (s .seal-text .kept .1 .1 .1 .1 .0 ∙ body-part f))
+    let p = s .before .before .before .before in
+    let start = p .before .before .before .before .before .before in
+    response-law _ _ _ _ _ _ _ (omega (arith, start .pre .1 .1 .1 .0, start .pre .1 .1 .1 .1)) (p .copy .ensures)
+    (part-put _ _ _ _ (s .seal-response-headers .kept .0 ∙ body-part p)) _ _ (s .seal-response-headers .ensures)
 
 pub write-response-spec : {M : Type 1} → statement M
 write-response-spec =
     tie.close
     (tie.spec
-    (λ c. search needs)
-    (λ c. search needs)
-    (λ c. search needs)
-    write-front-requires
-    (λ c. search needs)
-    (λ c. search needs)
-    (λ c. search needs)
-    (λ c κs. search needs)
+    copy-requires
+    sub-seal-response-headers
+    part-seal-response-headers-start
+    part-seal-response-headers-end
+    seal-response-headers-requires
     (λ c. search needs)
     returns)

@@ -17,8 +17,8 @@ returns c = λ w a b e q.
     let p1 = p2 .before .before in
     let start = p1 .before in
     let m = start .args .m in
-    (λ i. stateOf (bitXor (m .a) (p2 .part2 .ensures i)) (bitXor (m .b) (p3 .part3 .ensures i)) (bitXor (m .c) (p4 .part4 .ensures i)) (bitXor (m .d) (p5 .part5 .ensures i)))
-    ∙ resumes _ w (start .pre) a b e _ m q _ (ap (bitXor (m .first)) (p1 .part .ensures))
+    (λ i. stateOf (bitXor (m .a) (p2 .row-entry2 .ensures i)) (bitXor (m .b) (p3 .row-entry3 .ensures i)) (bitXor (m .c) (p4 .row-entry4 .ensures i)) (bitXor (m .d) (p5 .row-entry5 .ensures i)))
+    ∙ resumes _ w (start .pre) a b e _ m q _ (ap (bitXor (m .first)) (p1 .row-entry .ensures))
 
 pub resumed-spec : {M : Type 1} → statement M
 resumed-spec =

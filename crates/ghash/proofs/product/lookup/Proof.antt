@@ -12,8 +12,8 @@ returns c =
     let high = low .before .before in
     let first = high .before in
     let s = first .before .before .args .s in (
-      high .moved .ensures ∙ ap (λ (v : ℕ). bitXor (longOf (s .high) / 2 ^ 16) (v * 2 ^ 64)) (first .four .ensures),
-      c .moved2 .ensures ∙ ap (λ (v : ℕ). bitXor (longOf (s .low) / 2 ^ 16) (v * 2 ^ 64)) (low .four2 .ensures),
+      high .shifted .ensures ∙ ap (λ (v : ℕ). bitXor (longOf (s .high) / 2 ^ 16) (v * 2 ^ 64)) (first .four-lookups .ensures),
+      c .shifted2 .ensures ∙ ap (λ (v : ℕ). bitXor (longOf (s .low) / 2 ^ 16) (v * 2 ^ 64)) (low .four-lookups2 .ensures),
     )
 
 pub lookup-spec : {M : Type 1} → statement M

@@ -25,8 +25,8 @@ loop-again c =
     let l = c .before .before .before in
     let i = l .loop .inv in (
       omega arith,
-      c .part .ensures .1 ∙ ap (steps 4) (i .1) ∙ steps-more 4 (l .loop .j) _,
-      c .part .ensures .0 _ (i .1) (i .2),
+      c .write-part .ensures .1 ∙ ap (steps 4) (i .1) ∙ steps-more 4 (l .loop .j) _,
+      c .write-part .ensures .0 _ (i .1) (i .2),
     )
 
 returns : tie.Need-returns Inv-loop μ-loop

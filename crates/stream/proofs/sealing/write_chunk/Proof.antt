@@ -1,49 +1,29 @@
-use mathlib.Core.Path.{_≡_, refl, sym}
+use mathlib.Core.Path.{_≡_}
 use native.Mathlib.Omega.{arith}
 use borrow.Author.Needs.{needs}
-use lib.ListN.{length, take, replicate}
-use lib.Seq.{length-take-le}
+use lib.Dec.{lit≤}
 use Rattle.stream.proofs.SealWriteLaws.{chunk-law}
 use Rattle.stream.proofs.sealing.write_chunk.Statement.{statement}
 use Rattle.stream.proofs.sealing.write_chunk.Tie as tie
 
--- the part for the length
-front-part : (c : tie.Start) → length (take 18 (c .args .out .now)) ≡ 18
-front-part c = length-take-le 18 (c .args .out .now) (omega (arith, c .pre .1 .1 .1))
-
-slice-aggregate-seal-text-2 : tie.Need-slice-aggregate-seal-text-2
-slice-aggregate-seal-text-2 c = sym (front-part (c .before .before .before .before .before .before .before))
-
-seal-text-requires : tie.Need-seal-text-requires
-seal-text-requires c κs =
-    let u = c .before .before .before in
-    let start = u .before .before .before .before in
-    (start .pre .0, (omega (arith, front-part start, u .write-u16-be .kept .0), omega (arith, u .write-u16-be .kept .0)))
+seal-pair-requires : tie.Need-seal-pair-requires
+seal-pair-requires c κs =
+    let p = c .before .before .before in
+    let u = p .before .before .before .before in
+    let q = u .before .before .before .before .pre in
+    let l = p .copy .kept .0 in
+    let m = u .write-u16-be .kept .0 in
+    let n = q .1 .1 in
+    (q .0, (q .1 .0, (lit≤ tt, (omega (arith, l, m, n .1), omega (arith, l, m, n .0, n .1)))))
 
 returns : tie.Need-returns
 returns c =
-    let p = c .before .before in
-    let l = p .before .before .before .before in
-    let u = l .before .before .before .before in
-    let start = u .before .before .before .before in
-    let q = start .pre .1 .1 .1 in
-    chunk-law _ _ (replicate 2 0) _ _ _ _ _ _ (q .1) (q .0) refl (u .write-u16-be .ensures) (l .seal-text .ensures) (p .seal-text2 .ensures)
+    let s = c .before .before in
+    let p = s .before .before .before .before in
+    let u = p .before .before .before .before in
+    chunk-law _ _ _ _ _ _ _ (u .before .before .before .before .pre .1 .1 .1) (u .write-u16-be .ensures) (p .copy .ensures) (s .seal-pair .ensures)
 
 pub write-chunk-spec : {M : Type 1} → statement M
 write-chunk-spec =
     tie.close
-    (tie.spec
-    (λ c. search needs)
-    (λ c. search needs)
-    (λ c κs. search needs)
-    (λ c. search needs)
-    (λ c. search needs)
-    slice-aggregate-seal-text-2
-    seal-text-requires
-    (λ c. search needs)
-    (λ c. search needs)
-    (λ c. search needs)
-    (λ c. search needs)
-    (λ c κs. search needs)
-    (λ c. search needs)
-    returns)
+    (tie.spec (λ c. search needs) (λ c κs. search needs) (λ c κs. search needs) seal-pair-requires (λ c. search needs) returns)

@@ -4,8 +4,8 @@ use borrow.Author.Needs.{needs}
 use Rattle.ghash.specs.Field.{next}
 use Rattle.ghash.specs.Table.{steps}
 use Rattle.ghash.proofs.DoubledLaws.{part-made}
-use Rattle.ghash.proofs.product.part.Statement.{statement}
-use Rattle.ghash.proofs.product.part.Tie as tie
+use Rattle.ghash.proofs.product.write_part.Statement.{statement}
+use Rattle.ghash.proofs.product.write_part.Tie as tie
 
 double-requires : tie.Need-double-requires
 double-requires c κs = (c .before .set-entry .ensures .1 ∙ search needs, (omega arith, omega arith))
@@ -34,8 +34,8 @@ returns c =
       c .next4 .ensures ∙ ap next e3,
     )
 
-pub part-spec : {M : Type 1} → statement M
-part-spec =
+pub write-part-spec : {M : Type 1} → statement M
+write-part-spec =
     tie.close
     (tie.spec
     (λ c κs. search needs)

@@ -12,8 +12,8 @@ use Rattle.ghash.specs.Ghash.{blocks, firstBlocks, ghashFrom}
 use Rattle.ghash.specs.Table.{keyIn}
 use Rattle.ghash.specs.Words.{blockOf}
 use Rattle.ghash.proofs.GhashLaws.{ghash-step, ghash-end}
-use Rattle.ghash.proofs.over.Statement.{statement}
-use Rattle.ghash.proofs.over.Tie as tie
+use Rattle.ghash.proofs.ghash_from.Statement.{statement}
+use Rattle.ghash.proofs.ghash_from.Tie as tie
 
 abbrev Inv-loop : tie.InvT-loop
 Inv-loop t s n z₀ i₀ z i =
@@ -52,8 +52,8 @@ returns c =
     let s = a .s .now in
     sym (ghash-end (keyIn (a .t .now)) (blockOf (l .loop .z)) s (blockCount s) (l .loop .i) (omega arith)) ∙ l .loop .inv .1
 
-pub over-spec : {M : Type 1} → statement M
-over-spec =
+pub ghash-from-spec : {M : Type 1} → statement M
+ghash-from-spec =
     tie.close
     (tie.spec
     Inv-loop

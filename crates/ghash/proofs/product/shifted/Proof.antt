@@ -1,7 +1,7 @@
 use borrow.Author.Needs.{needs}
-use Rattle.ghash.proofs.GatherLaws.{rest-lt, moved-words}
-use Rattle.ghash.proofs.product.moved.Statement.{statement}
-use Rattle.ghash.proofs.product.moved.Tie as tie
+use Rattle.ghash.proofs.GatherLaws.{rest-lt, shifted-words}
+use Rattle.ghash.proofs.product.shifted.Statement.{statement}
+use Rattle.ghash.proofs.product.shifted.Tie as tie
 
 add-t8 : tie.Need-add-t8
 add-t8 c =
@@ -19,8 +19,8 @@ returns c =
     let a = k4 .before .before .before .before .args in
     let z = a .z in
     let e = a .e in
-    moved-words (z .hi) (z .lo) (z .out) (e .hi) (e .lo)
+    shifted-words (z .hi) (z .lo) (z .out) (e .hi) (e .lo)
     (k4 .struct-known4 .given .1 .0 .fits) (c .struct-known7 .given .1 .1 .0 .fits) (c .before .before .struct-known5 .given .1 .0 .fits)
 
-pub moved-spec : {M : Type 1} → statement M
-moved-spec = tie.close (tie.spec (λ c. search needs) add-t8 (λ c. search needs) add-t13 returns)
+pub shifted-spec : {M : Type 1} → statement M
+shifted-spec = tie.close (tie.spec (λ c. search needs) add-t8 (λ c. search needs) add-t13 returns)

@@ -2,8 +2,8 @@ use mathlib.Core.Path.{ap₂, _∙_}
 use borrow.Author.Needs.{needs}
 use lib.Bits.{bitXor}
 use Rattle.ghash.proofs.TableLaws.{four-parts}
-use Rattle.ghash.proofs.product.four.Statement.{statement}
-use Rattle.ghash.proofs.product.four.Tie as tie
+use Rattle.ghash.proofs.product.four_lookups.Statement.{statement}
+use Rattle.ghash.proofs.product.four_lookups.Tie as tie
 
 returns : tie.Need-returns
 returns c =
@@ -20,8 +20,8 @@ returns c =
     (d .entry-at4 .ensures)
     ∙ four-parts _ (a .before .args .w)
 
-pub four-spec : {M : Type 1} → statement M
-four-spec =
+pub four-lookups-spec : {M : Type 1} → statement M
+four-lookups-spec =
     tie.close
     (tie.spec
     (λ c κs. search needs)
