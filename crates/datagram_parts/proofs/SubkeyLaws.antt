@@ -10,7 +10,6 @@ use lib.Seq.{length-take-le, take-all}
 use Rattle.octets.specs.Buffers.{put, Octets}
 use Rattle.octets.specs.Numbers.{toBe, be}
 use Rattle.octets.proofs.BufferLaws.{take-put, octets-take, octets-drop}
-use lib.Dec.{lit<}
 use Rattle.octets.proofs.NumberLaws.{be-take, toBe-be}
 use Rattle.aes.specs.Keyed.{nkOf}
 use Rattle.aes.proofs.KeyedLaws.{key-most}
@@ -18,19 +17,9 @@ use Rattle.blake3.specs.Derivation.{subkeyContext}
 use Rattle.blake3.proofs.DerivationLaws.{length-deriveKey}
 use Rattle.gcm.specs.Gcm.{seal}
 use Rattle.gcm.specs.Keyed.{ciphOf}
-use Rattle.protocol.specs.Method.{keyFits}
-use Rattle.protocol.proofs.MethodLaws.{fits-sizes}
 use Rattle.protocol.specs.Subkey.{subkey, sessionSubkey}
 use Rattle.datagram_parts.specs.Headers.{separateHeader, nonce}
 use Rattle.datagram_parts.specs.Parts.{sealUnder, sealBody}
-
--- a key that has its method's length is a key of AES
-pub key-of-method : (method k : ℕ) → keyFits method k ≡ true → 0 < nkOf k
-unfolding nkOf
-key-of-method method k h = ⊎-elim (at 16 (lit< tt)) (at 32 (lit< tt)) (fits-sizes method k h .either)
-  where
-    at : (a : ℕ) → 0 < nkOf a → k ≡ a → 0 < nkOf k
-    at a l e = subst (λ (n : ℕ). 0 < nkOf n) (sym e) l
 
 module _ (key salt : List ℕ) (least : 0 < nkOf (length key)) where
   -- the subkey is as long as the key

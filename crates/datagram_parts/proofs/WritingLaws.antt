@@ -7,7 +7,7 @@ use native.Mathlib.Omega.{arith}
 use lib.ListN.{length, set, replicate, length-append, length-replicate, take, drop, length-drop}
 use Rattle.octets.specs.Buffers.{put}
 use Rattle.octets.specs.Numbers.{toBe}
-use Rattle.octets.proofs.BufferLaws.{put-behind, put-one, put-whole, length-put, part-put, take-put, drop-put}
+use Rattle.octets.proofs.BufferLaws.{put-behind, put-one, put-whole, part-put, take-put, drop-put}
 use Rattle.octets.proofs.NumberLaws.{length-toBe}
 use Rattle.aes.specs.KeyExpansion.{aes}
 use Rattle.aes.specs.Keyed.{nkOf, inPlace}
@@ -112,14 +112,6 @@ body-law key body h sub n r k least most lh es en er =
     let m : length (drop 4 h) ≡ 12 = omega (arith, length-drop 4 h, lh) in
     er ∙ ap₂ (λ (x y : List ℕ). sealedInPlace x y body) es en ∙ in-place-seals (subkey key (take 8 h)) (drop 4 h) body l m least long
 
--- a text at the front of a buffer with 16 bytes more
-pub text-law : (d p o : List ℕ) → length d ≡ length p + 16 → o ≡ put d 0 p → textOf o ≡ p
-unfolding textOf
-text-law d p o l e =
-    let h : 0 + length p ≤ length d = omega arith in
-    let n : length (put d 0 p) - 16 ≡ 0 + length p = omega (arith, l, length-put d 0 p h) in
-    ap textOf e ∙ ap (λ (k : ℕ). take k (put d 0 p)) n ∙ take-put d 0 p h
-
 pub sealed-law : (key h body o r p : List ℕ) → length body ≡ length p + 16 → o ≡ put body 0 p → r ≡ sealUnder key h (textOf o)
     → r ≡ sealUnder key h p
-sealed-law key h body o r p l eo er = er ∙ ap (sealUnder key h) (text-law body p o l eo)
+sealed-law key h body o r p l eo er = er ∙ ap (sealUnder key h) (text-put body p o l eo)

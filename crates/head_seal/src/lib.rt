@@ -26,6 +26,9 @@ ghost use Rattle.head_seal.specs.HeadSealing.{fixedPart, variablePart, v
 // The cap of a request's padding.
 pub const MAX_PADDING: usize = 900;
 
+// How many bytes a request's two pieces have more than its variable header.
+const OVERHEAD: usize = FIXED_PIECE + TAG;
+
 // ---- what is answered
 
 fn padding_lawful(padding: usize, payload: usize) -> bool
@@ -173,7 +176,7 @@ fn seal_request_headers(
         (fixedPart 0 clock [] (length (variablePart (now (address .entry)) padding (now (payload .entry)))))
         ++ sealAt (keyOf w k) 1 (variablePart (now (address .entry)) padding (now (payload .entry))) ⌝ }
 {
-    let v = body.len() - FIXED_PIECE - TAG;
+    let v = body.len() - OVERHEAD;
     write_fixed(body, 0, clock, &address[..0], v as u16);
     write_variable(body, FIXED_PIECE, address, padding, payload);
     seal_pair(w, k, 0, FIXED_PIECE, body);

@@ -11,7 +11,6 @@ use protocol::Refusal;
 ghost use mathlib.Core.Path.{_≡_};
 ghost use Prim.Native.Nat.{_+_, _-_, _<_, _≤_};
 ghost use lib.ListN.{length};
-ghost use Rattle.octets.specs.Buffers.{put};
 ghost use Rattle.aes.specs.Keyed.{nkOf};
 ghost use Rattle.stream.specs.Pieces.{tagLength, lengthPiece, keyOf};
 ghost use Rattle.stream.specs.Sealing.{maxChunk, lastCounter, chunk, moved as movedOf, senderKey, sizeAnswer, chunkAnswer, sealOut};
