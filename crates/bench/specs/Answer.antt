@@ -9,17 +9,17 @@ use Rattle.octets.specs.Numbers.{be, toBe}
 use Rattle.ghash.specs.Ghash.{blocks, ghash}
 use Rattle.protocol.specs.Subkey.{subkey}
 use Rattle.session_record.specs.declared.Peer.{Peer}
-use Rattle.book.specs.Call.{Answer, refused, opened}
-use Rattle.datagram.specs.declared.Sealed.{Sealed}
-use Rattle.datagram.specs.declared.Sealed.the-variants.{Datagram, Refused}
-use Rattle.datagram.specs.Sealing.{clientSender, sealAnswer, datagram, sealOut}
+use Rattle.session_book.specs.Call.{Answer, refused, opened}
+use Rattle.datagram_seal.specs.declared.Sealed.{Sealed}
+use Rattle.datagram_seal.specs.declared.Sealed.the-variants.{Datagram, Refused}
+use Rattle.datagram_seal.specs.Sealing.{clientSender, sealAnswer, datagram, sealOut}
 use Rattle.datagram_read.specs.declared.Header.{Header}
 use Rattle.protocol.specs.Refusal.{refusalNumber}
-use Rattle.stream.specs.declared.Subkey.{Subkey}
-use Rattle.stream.specs.declared.Sender.{Sender}
-use Rattle.stream.specs.declared.Sealed.{Sealed as ChunkSealed}
-use Rattle.stream.specs.declared.Sealed.the-variants.{Bytes, Refused as ChunkRefused}
-use Rattle.stream.specs.Sealing.{chunkAnswer, chunk, senderKey, sealOut as chunkOut}
+use Rattle.stream_pieces.specs.declared.Subkey.{Subkey}
+use Rattle.stream_seal.specs.declared.Sender.{Sender}
+use Rattle.stream_seal.specs.declared.Sealed.{Sealed as ChunkSealed}
+use Rattle.stream_seal.specs.declared.Sealed.the-variants.{Bytes, Refused as ChunkRefused}
+use Rattle.stream_seal.specs.Sealing.{chunkAnswer, chunk, senderKey, sealOut as chunkOut}
 use Rattle.stream_open.specs.declared.Turn.the-variants.{Payload}
 use Rattle.stream_open.specs.declared.Receiver.{Receiver}
 use Rattle.stream_open.specs.declared.Stepped.{Stepped}

@@ -1,13 +1,13 @@
 // What the benchmark calls, one primitive at a time.
-use datagram::Sealed;
-use datagram::Sender;
+use datagram_seal::Sealed;
+use datagram_seal::Sender;
 use gcm::Opened;
 use ghash::Element;
-use session::Peer;
-use stream::Subkey;
+use session_table::Peer;
 use stream_open::Receiver;
 use stream_open::Stepped;
 use stream_open::Turn;
+use stream_pieces::Subkey;
 ghost use mathlib.Core.Path.{_≡_};
 ghost use mathlib.Core.Option.{none};
 ghost use lib.ListN.{length};
@@ -121,7 +121,7 @@ pub extern "C" fn bench_datagram_seal(
         ≡ firstDatagramOut method (now (key .entry)) id clock (now (address .entry)) (now (payload .entry))
         (now (out .entry)) ⌝ }
 {
-    let done = datagram::seal(
+    let done = datagram_seal::seal(
         method,
         key,
         Sender::client(id),
@@ -182,7 +182,7 @@ pub extern "C" fn bench_chunk_seal(
     ensures { λ r. ⌜ r ≡ chunkNumber (firstChunk method (subkeyIn a b c d) (now (payload .entry)) (now (out .entry))) ⌝ }
     ensures { λ r. ⌜ now (out .exit) ≡ firstChunkOut method (subkeyIn a b c d) (now (payload .entry)) (now (out .entry)) ⌝ }
 {
-    let sender = stream::Sender {
+    let sender = stream_seal::Sender {
         method: method,
         counter: 0,
         subkey: Subkey {
@@ -192,9 +192,9 @@ pub extern "C" fn bench_chunk_seal(
             d: d,
         },
     };
-    match stream::seal_chunk(sender, payload, out) {
-        stream::Sealed::Bytes(n, _) => n,
-        stream::Sealed::Refused(_) => 0,
+    match stream_seal::seal_chunk(sender, payload, out) {
+        stream_seal::Sealed::Bytes(n, _) => n,
+        stream_seal::Sealed::Refused(_) => 0,
     }
 }
 

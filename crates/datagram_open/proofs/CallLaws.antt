@@ -12,10 +12,10 @@ use borrow.Author.Tests.{eqb-true}
 use Rattle.octets.specs.Buffers.{put}
 use Rattle.octets.proofs.BufferLaws.{put-again}
 use Rattle.session_record.specs.declared.Peer.{Peer}
-use Rattle.session.specs.declared.Admitted.{Admitted}
-use Rattle.session.specs.Table.{tableWords, lawful, Entry, stores, replay, full, meet, keep, admitted}
-use Rattle.book.specs.Call.{Call, Decision, early, reaches, refused, onto}
-use Rattle.book.specs.Runs.{report, tableOutcomeBy, tableNextBy}
+use Rattle.session_table.specs.declared.Admitted.{Admitted}
+use Rattle.session_table.specs.Table.{tableWords, lawful, Entry, stores, replay, full, meet, keep, admitted}
+use Rattle.session_book.specs.Call.{Call, Decision, early, reaches, refused, onto}
+use Rattle.session_book.specs.Runs.{report, tableOutcomeBy, tableNextBy}
 use Rattle.protocol.specs.declared.Refusal.{Refusal}
 use Rattle.protocol.specs.Refusal.{refusalNumber}
 use Rattle.datagram_parts.specs.declared.Side.{Side}

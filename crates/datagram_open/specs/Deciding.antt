@@ -7,11 +7,11 @@ use Prim.Native.Nat.{ℕ}
 use lib.Dec.{leb}
 use lib.ListN.{length, drop}
 use Rattle.session_record.specs.declared.Peer.{Peer}
-use Rattle.session.specs.declared.Admitted.{Admitted}
-use Rattle.session.specs.declared.Admitted.the-variants.{Accepted, Replay, Full}
-use Rattle.session.specs.Table.{meet, admitted}
-use Rattle.book.specs.Call.{Call, Answer, refused, opened, Decision, early, reaches}
-use Rattle.book.specs.Runs.{tableOutcome, tableNext}
+use Rattle.session_table.specs.declared.Admitted.{Admitted}
+use Rattle.session_table.specs.declared.Admitted.the-variants.{Accepted, Replay, Full}
+use Rattle.session_table.specs.Table.{meet, admitted}
+use Rattle.session_book.specs.Call.{Call, Answer, refused, opened, Decision, early, reaches}
+use Rattle.session_book.specs.Runs.{tableOutcome, tableNext}
 use Rattle.protocol.specs.Method.{keyFits}
 use Rattle.protocol.specs.declared.Refusal.the-variants.{Replay as RefusedReplay, Full as RefusedFull}
 use Rattle.protocol.specs.Refusal.{refusalNumber}

@@ -3,16 +3,16 @@ use datagram_parts::OVERHEAD;
 use datagram_parts::Side;
 pub use datagram_read::Header;
 pub use datagram_read::Opened;
+use datagram_read::clear_refused;
 use datagram_read::read_datagram;
-use datagram_read::settle;
 use protocol::Refusal;
-use session::Admitted;
-use session::Peer;
+use session_table::Admitted;
+use session_table::Peer;
 ghost use mathlib.Core.Path.{_≡_};
 ghost use mathlib.Core.Option.{none, some};
 ghost use Prim.Native.Nat.{_≤_};
 ghost use lib.ListN.{length, drop};
-ghost use Rattle.session.specs.Table.{tableWords, meet, keep};
+ghost use Rattle.session_table.specs.Table.{tableWords, meet, keep};
 ghost use Rattle.datagram_read.specs.Opening.{settled};
 ghost use Rattle.datagram_open.specs.Deciding.{openerOf, answerOf, admittedAs, entered, openAnswer, openOut, openTable};
 
@@ -27,7 +27,7 @@ fn admitted_as(header: Header, met: Admitted) -> Opened
 }
 
 // Takes a header that was read to its session. Refusals 8 and 9 clear the plaintext and leave the table as it was.
-fn enter(
+fn take_to_session(
     header: Header,
     clock: u64,
     peer: Peer,
@@ -42,9 +42,9 @@ fn enter(
         ≡ keep (meet (now (table .entry)) clock peer (header .session) (header .packet)) (now (table .entry)) ⌝ }
     ensures { λ r. ⌜ now (out .exit) ≡ settled (entered header (now (table .entry)) clock peer) due (now (out .entry)) ⌝ }
 {
-    let met = session::admit(table, clock, header.session, header.packet, peer);
+    let met = session_table::admit(table, clock, header.session, header.packet, peer);
     let answer = admitted_as(header, met);
-    settle(answer, due, out);
+    clear_refused(answer, due, out);
     answer
 }
 
@@ -68,11 +68,18 @@ fn open(
         ≡ openTable method (now (key .entry)) (openerOf side) clock peer (now (s .entry)) (now (table .entry))
         (now (out .entry)) ⌝ }
 {
-    if session::is_lawful(table) {
+    if session_table::is_lawful(table) {
         let read = read_datagram(method, key, side, clock, s, out);
         return match read {
             Opened::Refused(_) => read,
-            Opened::Datagram(header) => enter(header, clock, peer, s.len() - OVERHEAD, table, out),
+            Opened::Datagram(header) => take_to_session(
+                header,
+                clock,
+                peer,
+                s.len() - OVERHEAD,
+                table,
+                out,
+            ),
         };
     }
     Opened::Refused(Refusal::Settings)

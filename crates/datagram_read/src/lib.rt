@@ -148,7 +148,7 @@ fn read_main(side: Side, clock: u64, id: u64, packet: u64, plain: &[u8]) -> Open
 // ---- the whole
 
 // A refusal clears what the plaintext has filled.
-pub fn settle(answer: Opened, due: usize, out: &mut [u8])
+pub fn clear_refused(answer: Opened, due: usize, out: &mut [u8])
     requires { ⌜ due ≤ length (now out) ⌝ }
     ensures { λ _. ⌜ now (out .exit) ≡ settled answer due (now (out .entry)) ⌝ }
 {
@@ -184,7 +184,7 @@ fn read_body(
         let id = octets::read_u64_be(header, 0);
         let packet = octets::read_u64_be(header, 8);
         let answer = read_main(side, clock, id, packet, &out[..due]);
-        settle(answer, due, out);
+        clear_refused(answer, due, out);
         return answer;
     }
     Opened::Refused(Refusal::NotAuthentic)

@@ -10,16 +10,17 @@ use Rattle.octets.specs.Buffers.{put}
 use Rattle.octets.specs.Numbers.{be}
 use Rattle.protocol.specs.Subkey.{subkey}
 use Rattle.protocol.specs.Method.{saltLength}
-use Rattle.pool.specs.Pool.{meet, store}
-use Rattle.stream.specs.Pieces.{authenticAt, openAt, subkeyWords}
+use Rattle.salt_pool.specs.Pool.{meet, store}
+use Rattle.stream_pieces.specs.Pieces.{authenticAt, openAt, subkeyWords}
 use Rattle.stream_open.specs.declared.Turn.{Turn}
 use Rattle.stream_open.specs.declared.Turn.the-variants.{Length, Payload, Ended}
 use Rattle.stream_open.specs.declared.Receiver.{Receiver}
 use Rattle.stream_open.specs.declared.Chunk.{Chunk}
-use Rattle.request_open.specs.declared.Request.{Request}
-use Rattle.response_open.specs.declared.Response.{Response}
-use Rattle.response_open.specs.Heads.{frontLength, fixedOf, bindingOf, receiver}
-use Rattle.stream_open.specs.Chunks.{streamKey}
+use Rattle.stream_open_request.specs.declared.Request.{Request}
+use Rattle.stream_open_response.specs.declared.Response.{Response}
+use Rattle.stream_heads.specs.Heads.{frontLength, fixedOf}
+use Rattle.stream_open_response.specs.Responses.{bindingOf}
+use Rattle.stream_open.specs.Chunks.{receiver, streamKey}
 use Rattle.demands.specs.StreamsKeep.{saltOf}
 use Rattle.demands.specs.StreamsOpen.{FixedOpens, ValidVariable, variableAt, RequestOpens, ResponseOpens, PieceOpens, TurnOpens, turnText, Begins, BeyondUnread}
 use Rattle.demands.proofs.HeadTells.{request-exactly-when, response-exactly-when}

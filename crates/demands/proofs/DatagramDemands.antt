@@ -14,8 +14,8 @@ use Rattle.octets.specs.Buffers.{put}
 use Rattle.octets.specs.Numbers.{be}
 use Rattle.octets.proofs.BufferLaws.{length-put, drop-put}
 use Rattle.session_record.specs.declared.Peer.{Peer}
-use Rattle.session.specs.Table.{lawful}
-use Rattle.book.specs.Call.{Answer, refused, opened}
+use Rattle.session_table.specs.Table.{lawful}
+use Rattle.session_book.specs.Call.{Answer, refused, opened}
 use Rattle.protocol.specs.Method.{keyFits}
 use Rattle.protocol.specs.declared.Refusal.the-variants.{Settings, Malformed}
 use Rattle.protocol.specs.Refusal.{refusalNumber}
@@ -26,7 +26,7 @@ use Rattle.socks5.specs.Address.{parseAt}
 use Rattle.datagram_parts.specs.declared.Side.{Side}
 use Rattle.datagram_parts.specs.Headers.{typeOf, fixedLength}
 use Rattle.datagram_parts.specs.Parts.{maxDatagram}
-use Rattle.datagram.specs.Sealing.{sealAnswer, datagram}
+use Rattle.datagram_seal.specs.Sealing.{sealAnswer, datagram}
 use Rattle.datagram_read.specs.declared.Header.{Header}
 use Rattle.datagram_read.specs.declared.Opened.the-variants.{Datagram, Refused}
 use Rattle.datagram_read.specs.Opening.{sessionOf, packetOf, timeOf, paddingOf, meant, headerWith, readAddress, lengthLawful, readAnswer, readOut}

@@ -32,17 +32,17 @@ use Rattle.socks5.specs.Address.{parseAt, isAddress, moved}
 use Rattle.socks5.proofs.PlaceLaws.{found-anywhere}
 use Rattle.datagram_parts.specs.declared.Side.{Side}
 use Rattle.datagram_parts.specs.declared.Side.the-variants.{Client, Server}
-use Rattle.datagram.specs.declared.Sender.{Sender}
+use Rattle.datagram_seal.specs.declared.Sender.{Sender}
 use Rattle.datagram_parts.specs.Headers.{separateHeader, nonce, typeOf, clientField, fixedPart, fixedLength, plaintext}
 use Rattle.datagram_parts.specs.Parts.{maxDatagram, separateBlock, sealBody}
-use Rattle.datagram.specs.Sealing.{sealedLength, datagram}
+use Rattle.datagram_seal.specs.Sealing.{sealedLength, datagram}
 use Rattle.datagram_read.specs.declared.Header.{Header}
 use Rattle.datagram_read.specs.declared.Opened.{Opened}
 use Rattle.datagram_read.specs.declared.Opened.the-variants.{Datagram, Refused}
 use Rattle.datagram_read.specs.Opening.{separateOf, sessionOf, packetOf, bodyAuthentic, bodyText, timeOf, paddingOf, meant, headerWith, readAddress, readMain, lengthLawful, readBody, readAnswer, settled, bodyOut, readOut}
 use Rattle.demands.specs.Datagrams.{clientOf, headerOf}
 use Rattle.datagram_parts.proofs.LengthLaws.{length-separateHeader, length-separateBlock, length-clientField, length-fixedPart, length-plaintext}
-use Rattle.datagram.proofs.LengthLaws.{length-datagram}
+use Rattle.datagram_seal.proofs.LengthLaws.{length-datagram}
 
 -- ---- the separate header
 

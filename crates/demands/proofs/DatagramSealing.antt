@@ -15,15 +15,15 @@ use Rattle.socks5.specs.declared.Address.{Address}
 use Rattle.socks5.specs.declared.Parsed.the-variants.{Found}
 use Rattle.socks5.specs.Address.{parseAt}
 use Rattle.socks5.proofs.PlaceLaws.{One, one-found}
-use Rattle.datagram.specs.declared.Sender.{Sender}
-use Rattle.datagram.specs.declared.Sealed.the-variants.{Datagram as Written}
+use Rattle.datagram_seal.specs.declared.Sender.{Sender}
+use Rattle.datagram_seal.specs.declared.Sealed.the-variants.{Datagram as Written}
 use Rattle.datagram_parts.specs.Headers.{plaintext}
-use Rattle.datagram.specs.Sealing.{sealAnswer, datagram, sealOut}
+use Rattle.datagram_seal.specs.Sealing.{sealAnswer, datagram, sealOut}
 use Rattle.datagram_read.specs.declared.Opened.the-variants.{Datagram}
 use Rattle.datagram_read.specs.Opening.{readAnswer, readOut}
 use Rattle.demands.specs.Datagrams.{clientOf, headerOf}
-use Rattle.datagram.proofs.LengthLaws.{length-datagram}
-use Rattle.datagram.proofs.AnswerLaws.{Sealable, sealable}
+use Rattle.datagram_seal.proofs.LengthLaws.{length-datagram}
+use Rattle.datagram_seal.proofs.AnswerLaws.{Sealable, sealable}
 use Rattle.demands.proofs.DatagramReadBack.{sealed-reads}
 
 module _ (method : ℕ) (key : List ℕ) (sender : Sender) (clock : ℕ) (address : List ℕ) (padding : ℕ) (payload out : List ℕ) (n : ℕ)

@@ -11,8 +11,8 @@ use lib.ListN.{length, getD, replicate, length-replicate}
 use Rattle.octets.specs.Buffers.{put}
 use Rattle.octets.proofs.BufferLaws.{put-again}
 use Rattle.session_record.specs.declared.Peer.{Peer}
-use Rattle.session.specs.Table.{recordAt, lawful, freshIn, acceptIn, sessionPlace, freePlace, Entry, stores, replay, full, meetBy, meet, keep, admitted}
-use Rattle.book.specs.Call.{Answer, refused, opened}
+use Rattle.session_table.specs.Table.{recordAt, lawful, freshIn, acceptIn, sessionPlace, freePlace, Entry, stores, replay, full, meetBy, meet, keep, admitted}
+use Rattle.session_book.specs.Call.{Answer, refused, opened}
 use Rattle.protocol.specs.Method.{keyFits}
 use Rattle.protocol.specs.declared.Refusal.{Refusal}
 use Rattle.protocol.specs.declared.Refusal.the-variants.{Settings, Length, Room, NotAuthentic, Malformed, WrongType, WrongTime, Replay, Full, Binding}

@@ -2,7 +2,7 @@
 -- Assumes nothing.
 use mathlib.Core.Path.{_≡_, refl, sym, ap, _∙_}
 use mathlib.Core.Bool.{Bool, true, false, cond, and-eq-true-iff}
-use mathlib.Core.List.{List, []}
+use mathlib.Core.List.{List}
 use Prim.Native.Nat.{ℕ, _*_, _≤_}
 use native.Mathlib.Nat.{add-zero}
 use native.Mathlib.Omega.{arith}
@@ -13,18 +13,18 @@ use Rattle.octets.proofs.BufferLaws.{length-put}
 use Rattle.protocol.specs.declared.Refusal.{Refusal}
 use Rattle.protocol.specs.declared.Refusal.the-variants.{Argument}
 use Rattle.protocol.specs.Refusal.{refusalNumber, wantedBytes}
-use Rattle.session.specs.Table.{recordWords, tableWords, newTable, makeLawful, madeRetention}
-use Rattle.session.proofs.TableLaws.{new-length}
-use Rattle.session.specs.Sizes.{capacity}
-use Rattle.pool.specs.Pool as pool
+use Rattle.session_table.specs.Table.{recordWords, tableWords, newTable, makeLawful, madeRetention}
+use Rattle.session_table.proofs.TableLaws.{new-length}
+use Rattle.session_table.specs.Sizes.{capacity}
+use Rattle.salt_pool.specs.Pool as pool
 use Rattle.datagram_parts.specs.declared.Side.the-variants.{Server}
-use Rattle.datagram.specs.declared.Sender.{Sender}
-use Rattle.datagram.specs.declared.Begun.{Begun}
-use Rattle.datagram.specs.declared.Begun.the-variants.{Ready, Refused as NotBegun}
-use Rattle.datagram.specs.declared.Sealed.{Sealed}
-use Rattle.datagram.specs.declared.Sealed.the-variants.{Datagram, Refused}
-use Rattle.datagram.specs.Sealing.{begun, sealAnswer, sealNext, datagram, sealOut}
-use Rattle.datagram.proofs.AnswerLaws.{sealable}
+use Rattle.datagram_seal.specs.declared.Sender.{Sender}
+use Rattle.datagram_seal.specs.declared.Begun.{Begun}
+use Rattle.datagram_seal.specs.declared.Begun.the-variants.{Ready, Refused as NotBegun}
+use Rattle.datagram_seal.specs.declared.Sealed.{Sealed}
+use Rattle.datagram_seal.specs.declared.Sealed.the-variants.{Datagram, Refused}
+use Rattle.datagram_seal.specs.Sealing.{begun, sealAnswer, sealNext, datagram, sealOut}
+use Rattle.datagram_seal.proofs.AnswerLaws.{sealable}
 use Rattle.demands.specs.Demand1.{SealAnswered, sealed, refused, SealKeeps, BeginAnswered, begins, refused-12, Made, Demand1}
 use Rattle.demands.specs.Orders.{saidSealed, sealOrder}
 use Rattle.demands.proofs.DatagramDemands.{openers-keep}

@@ -9,9 +9,9 @@ use native.Mathlib.Omega.{arith}
 use lib.Dec.{leb}
 use lib.ListN.{length}
 use borrow.Author.Tests.{le-leb, lt-leb}
-use Rattle.book.specs.Call.{Call, Decision, early, reaches}
-use Rattle.book.specs.Demand3.{Named}
-use Rattle.book.proofs.Demand3 as book
+use Rattle.session_book.specs.Call.{Call, Decision, early, reaches}
+use Rattle.session_book.specs.Demand3.{Named}
+use Rattle.session_book.proofs.Demand3 as book
 use Rattle.datagram_read.specs.declared.Header.{Header}
 use Rattle.datagram_read.specs.declared.Opened.{Opened}
 use Rattle.datagram_read.specs.declared.Opened.the-variants.{Datagram, Refused}

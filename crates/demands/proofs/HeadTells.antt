@@ -22,30 +22,31 @@ use Rattle.socks5.specs.declared.Address.{Address}
 use Rattle.socks5.specs.declared.Parsed.{Parsed}
 use Rattle.socks5.specs.declared.Parsed.the-variants.{Found, Malformed as NoAddress}
 use Rattle.socks5.specs.Address.{parseAt}
-use Rattle.pool.specs.declared.Met.{Met}
-use Rattle.pool.specs.declared.Met.the-variants.{Room as Free, Replay as Known, Full as NoRoom}
-use Rattle.pool.specs.Pool.{meet, store}
-use Rattle.stream.specs.declared.Subkey.{Subkey}
-use Rattle.stream.specs.Pieces.{authenticAt, openAt, subkeyWords}
-use Rattle.head_seal.specs.HeadSealing.{maxPadding}
+use Rattle.salt_pool.specs.declared.Met.{Met}
+use Rattle.salt_pool.specs.declared.Met.the-variants.{Room as Free, Replay as Known, Full as NoRoom}
+use Rattle.salt_pool.specs.Pool.{meet, store}
+use Rattle.stream_pieces.specs.declared.Subkey.{Subkey}
+use Rattle.stream_pieces.specs.Pieces.{authenticAt, openAt, subkeyWords}
+use Rattle.stream_heads.specs.Heads.{maxPadding, frontLength, fixedOf, fieldsOf, readFixed, openFixed}
 use Rattle.stream_open.specs.declared.Turn.the-variants.{Length}
 use Rattle.stream_open.specs.declared.Receiver.{Receiver}
-use Rattle.response_open.specs.declared.Fixed.{Fixed}
-use Rattle.response_open.specs.declared.FixedRead.{FixedRead}
-use Rattle.response_open.specs.declared.FixedRead.the-variants.{Read, Refused as Unread}
-use Rattle.request_open.specs.declared.Request.{Request}
-use Rattle.request_open.specs.declared.RequestRead.{RequestRead}
-use Rattle.request_open.specs.declared.RequestRead.the-variants.{Header, Refused as Unheaded}
-use Rattle.request_open.specs.declared.RequestOpened.{RequestOpened}
-use Rattle.request_open.specs.declared.RequestOpened.the-variants.{Accepted, Refused}
-use Rattle.response_open.specs.declared.Response.{Response}
-use Rattle.response_open.specs.declared.ResponseOpened.{ResponseOpened}
-use Rattle.response_open.specs.declared.ResponseOpened.the-variants.{Accepted as Answered, Refused as Unanswered}
-use Rattle.response_open.specs.Heads.{frontLength, fixedOf, receiver, fieldsOf, readFixed, openFixed, bindingOf, boundAs, boundOf, responseAt, openedResponse}
-use Rattle.request_open.specs.Requests.{paddingAt, paddingFits, headerWith, readVariable, headLength, variableOf, openVariable, settled, variableOut, openedAs, fixedAs, readHead, fixedOut, headOut, storedIn, headPool, settings, openedRequest, requestOut, requestPool}
+use Rattle.stream_heads.specs.declared.Fixed.{Fixed}
+use Rattle.stream_heads.specs.declared.FixedRead.{FixedRead}
+use Rattle.stream_heads.specs.declared.FixedRead.the-variants.{Read, Refused as Unread}
+use Rattle.stream_open_request.specs.declared.Request.{Request}
+use Rattle.stream_open_request.specs.declared.RequestRead.{RequestRead}
+use Rattle.stream_open_request.specs.declared.RequestRead.the-variants.{Header, Refused as Unheaded}
+use Rattle.stream_open_request.specs.declared.RequestOpened.{RequestOpened}
+use Rattle.stream_open_request.specs.declared.RequestOpened.the-variants.{Accepted, Refused}
+use Rattle.stream_open_response.specs.declared.Response.{Response}
+use Rattle.stream_open_response.specs.declared.ResponseOpened.{ResponseOpened}
+use Rattle.stream_open_response.specs.declared.ResponseOpened.the-variants.{Accepted as Answered, Refused as Unanswered}
+use Rattle.stream_open.specs.Chunks.{receiver}
+use Rattle.stream_open_response.specs.Responses.{bindingOf, boundAs, boundOf, responseAt, openedResponse}
+use Rattle.stream_open_request.specs.Requests.{paddingAt, paddingFits, headerWith, readVariable, headLength, variableOf, openVariable, settled, variableOut, openedAs, fixedAs, readHead, fixedOut, headOut, storedIn, headPool, settings, openedRequest, requestOut, requestPool}
 use Rattle.demands.specs.StreamsKeep.{saltOf, ofRequest, ofFront, ofResponse, dueOf, ResponseAnswered, accepted-response, refused-response}
 use Rattle.demands.specs.StreamsOpen.{FixedOpens, ValidVariable, variableAt, HeadOpens, RequestOpens, RequestExactlyWhen, ResponseOpens, ResponseExactlyWhen}
-use Rattle.stream.proofs.LengthLaws.{length-openAt}
+use Rattle.stream_pieces.proofs.LengthLaws.{length-openAt}
 
 -- ---- the fixed header
 

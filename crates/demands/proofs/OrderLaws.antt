@@ -11,7 +11,7 @@ use Rattle.protocol.specs.declared.Numbered.the-variants.{Known, Unknown}
 use Rattle.protocol.specs.Method.{aes128, aes256, methodOf, asks, keyFits, keyIn, keyLength, saltLength}
 use Rattle.datagram_parts.specs.declared.Side.{Side}
 use Rattle.datagram_parts.specs.declared.Side.the-variants.{Client, Server}
-use Rattle.datagram.specs.Sealing.{differs}
+use Rattle.datagram_seal.specs.Sealing.{differs}
 use Rattle.demands.specs.StreamsKeep.{among}
 use Rattle.demands.specs.Orders.{Rule, rule, Said, refuses, gives, first, otherMethod, otherKey, sameIds}
 

@@ -13,9 +13,9 @@ use borrow.Author.Tests.{leb-true, ne-eqb}
 use Rattle.octets.specs.Buffers.{same}
 use Rattle.octets.specs.Numbers.{be}
 use Rattle.session_record.specs.declared.Peer.{Peer}
-use Rattle.session.specs.Table.{Record, recordAt, lawful, freshIn, acceptIn, sessionPlace, freePlace, stores, replay, meetBy, meet}
-use Rattle.book.specs.Call.{Call, Outcome}
-use Rattle.book.specs.Runs.{report, tableOutcomeBy}
+use Rattle.session_table.specs.Table.{Record, recordAt, lawful, freshIn, acceptIn, sessionPlace, freePlace, stores, replay, meetBy, meet}
+use Rattle.session_book.specs.Call.{Call, Outcome}
+use Rattle.session_book.specs.Runs.{report, tableOutcomeBy}
 use Rattle.protocol.specs.declared.Refusal.{Refusal}
 use Rattle.protocol.specs.declared.Refusal.the-variants.{Length as Long, Room as Narrow, NotAuthentic, WrongType, WrongTime}
 use Rattle.protocol.specs.Method.{keyFits, keyLength, saltLength}
@@ -28,35 +28,36 @@ use Rattle.datagram_parts.specs.declared.Side.{Side}
 use Rattle.datagram_parts.specs.declared.Side.the-variants.{Client, Server}
 use Rattle.datagram_parts.specs.Headers.{typeOf, fixedLength}
 use Rattle.datagram_parts.specs.Parts.{maxDatagram}
-use Rattle.datagram.specs.declared.Sender.{Sender as Session}
-use Rattle.datagram.specs.declared.Sealed.the-variants.{Datagram, Refused as NoDatagram}
-use Rattle.datagram.specs.Sealing.{begun as begunSession, idsDiffer, sealedLength, capped, lengthAnswer, argumentAnswer, sealAnswer}
+use Rattle.datagram_seal.specs.declared.Sender.{Sender as Session}
+use Rattle.datagram_seal.specs.declared.Sealed.the-variants.{Datagram, Refused as NoDatagram}
+use Rattle.datagram_seal.specs.Sealing.{begun as begunSession, idsDiffer, sealedLength, capped, lengthAnswer, argumentAnswer, sealAnswer}
 use Rattle.datagram_read.specs.declared.Header.{Header}
 use Rattle.datagram_read.specs.declared.Opened.{Opened}
 use Rattle.datagram_read.specs.Opening.{sessionOf, packetOf, timeOf, meant, headerWith, readAddress, readMain, lengthLawful, readBody, readAnswer, readOut}
 use Rattle.datagram_open.specs.Deciding.{expected, plainOf, decidedBy, decide, callOf, openAnswer}
-use Rattle.pool.specs.declared.Met.{Met}
-use Rattle.pool.specs.declared.Met.the-variants.{Room as Free, Replay as Known, Full as NoRoom}
-use Rattle.pool.specs.Pool.{meet as meetSalt, lawful as lawfulPool}
-use Rattle.stream.specs.declared.Sender.{Sender}
-use Rattle.stream.specs.Pieces.{authenticAt, openAt, subkeyWords}
-use Rattle.stream.specs.Sealing.{maxChunk, lastCounter, moved, sizeAnswer, chunkAnswer}
-use Rattle.head_seal.specs.HeadSealing.{variableLength, begun, sizesFit, paddingLawful, requestAnswer, responseAnswer}
+use Rattle.salt_pool.specs.declared.Met.{Met}
+use Rattle.salt_pool.specs.declared.Met.the-variants.{Room as Free, Replay as Known, Full as NoRoom}
+use Rattle.salt_pool.specs.Pool.{meet as meetSalt, lawful as lawfulPool}
+use Rattle.stream_seal.specs.declared.Sender.{Sender}
+use Rattle.stream_pieces.specs.Pieces.{authenticAt, openAt, subkeyWords, maxChunk, lastCounter}
+use Rattle.stream_seal.specs.Sealing.{moved, sizeAnswer, chunkAnswer}
+use Rattle.stream_seal_heads.specs.HeadSealing.{variableLength, begun, sizesFit, paddingLawful, requestAnswer, responseAnswer}
 use Rattle.stream_open.specs.declared.Turn.{Turn}
 use Rattle.stream_open.specs.declared.Turn.the-variants.{Length, Payload, Ended}
 use Rattle.stream_open.specs.declared.Receiver.{Receiver}
 use Rattle.stream_open.specs.declared.Chunk.{Chunk}
 use Rattle.stream_open.specs.declared.Stepped.the-variants.{Opened as OpenedChunk}
 use Rattle.stream_open.specs.Chunks.{streamKey, pieceAnswer, lengthRead, turnAnswer, stepAnswer}
-use Rattle.response_open.specs.declared.Fixed.{Fixed}
-use Rattle.response_open.specs.declared.FixedRead.{FixedRead}
-use Rattle.response_open.specs.declared.FixedRead.the-variants.{Read as Fields, Refused as Unread}
-use Rattle.response_open.specs.declared.Response.{Response}
-use Rattle.response_open.specs.Heads.{frontLength, fieldsOf, readFixed, openFixed, boundAs, boundOf, responseAt, openedResponse}
-use Rattle.request_open.specs.declared.Request.{Request}
-use Rattle.request_open.specs.declared.RequestRead.{RequestRead}
-use Rattle.request_open.specs.Requests.{paddingAt, paddingFits, headerWith as requestHeaderWith, readVariable, openVariable, openedAs, metAs, fixedAs, readHead, settings, openedRequest}
-use Rattle.stream.proofs.LengthLaws.{length-openAt}
+use Rattle.stream_heads.specs.declared.Fixed.{Fixed}
+use Rattle.stream_heads.specs.declared.FixedRead.{FixedRead}
+use Rattle.stream_heads.specs.declared.FixedRead.the-variants.{Read as Fields, Refused as Unread}
+use Rattle.stream_open_response.specs.declared.Response.{Response}
+use Rattle.stream_heads.specs.Heads.{frontLength, fieldsOf, readFixed, openFixed}
+use Rattle.stream_open_response.specs.Responses.{boundAs, boundOf, responseAt, openedResponse}
+use Rattle.stream_open_request.specs.declared.Request.{Request}
+use Rattle.stream_open_request.specs.declared.RequestRead.{RequestRead}
+use Rattle.stream_open_request.specs.Requests.{paddingAt, paddingFits, headerWith as requestHeaderWith, readVariable, openVariable, openedAs, metAs, fixedAs, readHead, settings, openedRequest}
+use Rattle.stream_pieces.proofs.LengthLaws.{length-openAt}
 use Rattle.demands.specs.Datagrams.{tagGood}
 use Rattle.demands.specs.Orders.{Rule, rule, more, Said, first, refusesWith, otherKey, addressIn, noAddress, othersDatagram, notFresh, noRoom, saidOpened, openOrder, openedHeader, isReplay, isFull, badVariable, saidRequest, requestOrder, requestOpened, saidResponse, responseOrder, responseOpened, isEnded, textBytes, dueBytes, lengthTold, saidStep, stepOrder, chunkOpened, ownHeader, saidSealed, datagramBytes, sealOrder, saidPiece, sealRequestOrder, requestSealed, sealResponseOrder, responseSealed, sealChunkOrder, chunkSealed, saidBegun, beginOrder, sessionBegun, Orders}
 use Rattle.demands.proofs.OrderLaws.{next, unless, done, stops, passes, split, not-and, under, under-or-over, other-key, other-method, unsuited, unsuited-both, bad-padding, same-ids, bad-behind}

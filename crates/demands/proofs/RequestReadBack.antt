@@ -23,25 +23,25 @@ use Rattle.socks5.specs.declared.Target.the-variants.{V4, V6, Name}
 use Rattle.socks5.specs.declared.Parsed.the-variants.{Found}
 use Rattle.socks5.specs.Address.{parseAt, isAddress, moved as movedBy}
 use Rattle.socks5.proofs.PlaceLaws.{One, one-found, found-anywhere}
-use Rattle.pool.specs.declared.Met.the-variants.{Room as Free}
-use Rattle.pool.specs.Pool.{lawful, meet, store}
-use Rattle.stream.specs.declared.Sender.{Sender}
-use Rattle.stream.specs.declared.Sealed.the-variants.{Bytes}
-use Rattle.stream.specs.Pieces.{sealAt, authenticAt, openAt, subkeyWords}
-use Rattle.stream.specs.Sealing.{maxChunk}
-use Rattle.head_seal.specs.HeadSealing.{maxPadding, front, variablePart, variableLength, requestAt, request, begun, sizesFit, paddingLawful, requestAnswer}
+use Rattle.salt_pool.specs.declared.Met.the-variants.{Room as Free}
+use Rattle.salt_pool.specs.Pool.{lawful, meet, store}
+use Rattle.stream_seal.specs.declared.Sender.{Sender}
+use Rattle.stream_seal.specs.declared.Sealed.the-variants.{Bytes}
+use Rattle.stream_pieces.specs.Pieces.{sealAt, authenticAt, openAt, subkeyWords, maxChunk}
+use Rattle.stream_heads.specs.Heads.{maxPadding, frontLength, fixedOf, openFixed}
+use Rattle.stream_seal_heads.specs.HeadSealing.{front, variablePart, variableLength, requestAt, request, begun, sizesFit, paddingLawful, requestAnswer}
 use Rattle.stream_open.specs.declared.Turn.the-variants.{Length}
-use Rattle.response_open.specs.declared.FixedRead.the-variants.{Read}
-use Rattle.response_open.specs.declared.Fixed.{Fixed}
-use Rattle.request_open.specs.declared.Request.{Request}
-use Rattle.request_open.specs.declared.RequestRead.{RequestRead}
-use Rattle.request_open.specs.declared.RequestRead.the-variants.{Header, Refused as Unheaded}
-use Rattle.request_open.specs.declared.RequestOpened.the-variants.{Accepted, Refused as NoRequest}
-use Rattle.response_open.specs.Heads.{frontLength, fixedOf, receiver, openFixed}
-use Rattle.request_open.specs.Requests.{paddingAt, paddingFits, headerWith, readVariable, headLength, variableOf, openVariable, settled, variableOut, openedAs, fixedAs, readHead, fixedOut, headOut, storedIn, headPool, settings, openedRequest, requestOut, requestPool}
+use Rattle.stream_heads.specs.declared.FixedRead.the-variants.{Read}
+use Rattle.stream_heads.specs.declared.Fixed.{Fixed}
+use Rattle.stream_open_request.specs.declared.Request.{Request}
+use Rattle.stream_open_request.specs.declared.RequestRead.{RequestRead}
+use Rattle.stream_open_request.specs.declared.RequestRead.the-variants.{Header, Refused as Unheaded}
+use Rattle.stream_open_request.specs.declared.RequestOpened.the-variants.{Accepted, Refused as NoRequest}
+use Rattle.stream_open.specs.Chunks.{receiver}
+use Rattle.stream_open_request.specs.Requests.{paddingAt, paddingFits, headerWith, readVariable, headLength, variableOf, openVariable, settled, variableOut, openedAs, fixedAs, readHead, fixedOut, headOut, storedIn, headPool, settings, openedRequest, requestOut, requestPool}
 use Rattle.demands.specs.StreamsBack.{partner, requestHeader, RequestBack, RequestsGivenBack}
-use Rattle.stream.proofs.LengthLaws.{length-sealAt}
-use Rattle.head_seal.proofs.HeadLengthLaws.{length-front, length-variablePart, length-requestAt}
+use Rattle.stream_pieces.proofs.LengthLaws.{length-sealAt}
+use Rattle.stream_seal_heads.proofs.HeadLengthLaws.{length-front, length-variablePart, length-requestAt}
 use Rattle.demands.proofs.StreamReadBack.{piece-back, answers, Sized, sized, salt-back, front-whole, behind-front, fixed-back}
 
 -- ---- the variable header of a request

@@ -16,18 +16,18 @@ use Rattle.protocol.specs.Subkey.{subkey}
 use Rattle.protocol.specs.Time.{timeValid}
 use Rattle.protocol.proofs.MethodLaws.{fits-sizes}
 use Rattle.protocol.specs.declared.Refusal.the-variants.{Settings, More}
-use Rattle.stream.specs.declared.Sender.{Sender}
-use Rattle.stream.specs.declared.Sealed.the-variants.{Bytes}
-use Rattle.stream.specs.Pieces.{sealAt, openAt, subkeyWords, keyOf}
-use Rattle.stream.specs.Sealing.{lastCounter}
-use Rattle.head_seal.specs.HeadSealing.{front, responseOf, response, begun, sizesFit, responseAnswer}
+use Rattle.stream_seal.specs.declared.Sender.{Sender}
+use Rattle.stream_seal.specs.declared.Sealed.the-variants.{Bytes}
+use Rattle.stream_pieces.specs.Pieces.{sealAt, openAt, subkeyWords, keyOf, lastCounter}
+use Rattle.stream_seal_heads.specs.HeadSealing.{front, responseOf, response, begun, sizesFit, responseAnswer}
 use Rattle.stream_open.specs.declared.Turn.the-variants.{Length, Payload}
-use Rattle.response_open.specs.declared.FixedRead.the-variants.{Read}
-use Rattle.response_open.specs.declared.ResponseOpened.the-variants.{Accepted as Answered, Refused as NoResponse}
-use Rattle.response_open.specs.Heads.{frontLength, fixedOf, receiver, openFixed, bindingOf, boundAs, boundOf, responseAt, openedResponse}
-use Rattle.stream_open.specs.Chunks.{stepAnswer, stepOut}
+use Rattle.stream_heads.specs.declared.FixedRead.the-variants.{Read}
+use Rattle.stream_open_response.specs.declared.ResponseOpened.the-variants.{Accepted as Answered, Refused as NoResponse}
+use Rattle.stream_heads.specs.Heads.{frontLength, fixedOf, openFixed}
+use Rattle.stream_open.specs.Chunks.{receiver, stepAnswer, stepOut}
+use Rattle.stream_open_response.specs.Responses.{bindingOf, boundAs, boundOf, responseAt, openedResponse}
 use Rattle.demands.specs.StreamsBack.{ResponseBack, ResponsesGivenBack}
-use Rattle.head_seal.proofs.HeadLengthLaws.{length-responseOf}
+use Rattle.stream_seal_heads.proofs.HeadLengthLaws.{length-responseOf}
 use Rattle.demands.proofs.StreamReadBack.{answers, Sized, sized, sent-behind, payload-step, payload-out, salt-back, front-whole, behind-front, binding-back, fixed-back, stream-key}
 
 -- ---- the head of a response

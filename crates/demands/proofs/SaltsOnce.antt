@@ -11,21 +11,21 @@ use Rattle.protocol.specs.declared.Refusal.{Refusal}
 use Rattle.protocol.specs.declared.Refusal.the-variants.{Settings, Malformed, Replay}
 use Rattle.protocol.specs.Method.{keyFits, saltLength}
 use Rattle.protocol.specs.Subkey.{subkey}
-use Rattle.pool.specs.declared.Met.{Met}
-use Rattle.pool.specs.declared.Met.the-variants.{Room as Free, Replay as Known, Full as NoRoom}
-use Rattle.pool.specs.Pool.{poolWords, lawful, meet}
-use Rattle.pool.specs.Runs.{Item, nextBy, next, run, Forward}
-use Rattle.pool.proofs.StoreLaws.{lawful-store}
-use Rattle.pool.proofs.RunLaws.{never-twice-forward}
-use Rattle.stream.specs.Pieces.{subkeyWords}
+use Rattle.salt_pool.specs.declared.Met.{Met}
+use Rattle.salt_pool.specs.declared.Met.the-variants.{Room as Free, Replay as Known, Full as NoRoom}
+use Rattle.salt_pool.specs.Pool.{poolWords, lawful, meet}
+use Rattle.salt_pool.specs.Runs.{Item, nextBy, next, run, Forward}
+use Rattle.salt_pool.proofs.StoreLaws.{lawful-store}
+use Rattle.salt_pool.proofs.RunLaws.{never-twice-forward}
+use Rattle.stream_pieces.specs.Pieces.{subkeyWords}
 use Rattle.stream_open.specs.declared.Receiver.{Receiver}
-use Rattle.response_open.specs.declared.FixedRead.{FixedRead}
-use Rattle.response_open.specs.declared.FixedRead.the-variants.{Read, Refused as Unread}
-use Rattle.request_open.specs.declared.Request.{Request}
-use Rattle.request_open.specs.declared.RequestOpened.{RequestOpened}
-use Rattle.request_open.specs.declared.RequestOpened.the-variants.{Accepted, Refused}
-use Rattle.response_open.specs.Heads.{frontLength, fixedOf, openFixed}
-use Rattle.request_open.specs.Requests.{openedAs, settings, requestPool}
+use Rattle.stream_heads.specs.declared.FixedRead.{FixedRead}
+use Rattle.stream_heads.specs.declared.FixedRead.the-variants.{Read, Refused as Unread}
+use Rattle.stream_open_request.specs.declared.Request.{Request}
+use Rattle.stream_open_request.specs.declared.RequestOpened.{RequestOpened}
+use Rattle.stream_open_request.specs.declared.RequestOpened.the-variants.{Accepted, Refused}
+use Rattle.stream_heads.specs.Heads.{frontLength, fixedOf, openFixed}
+use Rattle.stream_open_request.specs.Requests.{openedAs, settings, requestPool}
 use Rattle.demands.specs.StreamsKeep.{ofFront, saltOf}
 use Rattle.demands.specs.SaltsOnce.{HeadCall, headAnswer, poolAfter, ForwardCalls, ReplayOrEarlier, replayed, front-missing, front-refused, NoSaltTwice}
 use Rattle.demands.proofs.HeadTells.{ofFixed, not-read, fixed-given, fixed-refusals, read-by, not-accepted, answer-by, Way, refused, zeroed, accepted, way, request-tells}

@@ -18,28 +18,29 @@ use Rattle.protocol.specs.Refusal.{refusalNumber}
 use Rattle.protocol.specs.Method.{keyLength, saltLength}
 use Rattle.protocol.specs.Subkey.{subkey}
 use Rattle.socks5.specs.Address.{isAddress}
-use Rattle.stream.specs.declared.Sender.{Sender}
-use Rattle.stream.specs.declared.Sealed.{Sealed}
-use Rattle.stream.specs.declared.Sealed.the-variants.{Bytes, Refused as Unsealed}
-use Rattle.stream.specs.Pieces.{authenticAt, openAt}
-use Rattle.stream.specs.Sealing.{maxChunk, lastCounter, chunk, moved, senderKey, sizeAnswer, chunkAnswer, sealOut}
-use Rattle.head_seal.specs.HeadSealing.{variableLength, request, response, begun, sizesFit, paddingLawful, requestAnswer, responseAnswer}
+use Rattle.stream_seal.specs.declared.Sender.{Sender}
+use Rattle.stream_seal.specs.declared.Sealed.{Sealed}
+use Rattle.stream_seal.specs.declared.Sealed.the-variants.{Bytes, Refused as Unsealed}
+use Rattle.stream_pieces.specs.Pieces.{authenticAt, openAt, maxChunk, lastCounter}
+use Rattle.stream_seal.specs.Sealing.{chunk, moved, senderKey, sizeAnswer, chunkAnswer, sealOut}
+use Rattle.stream_seal_heads.specs.HeadSealing.{variableLength, request, response, begun, sizesFit, paddingLawful, requestAnswer, responseAnswer}
 use Rattle.stream_open.specs.declared.Turn.{Turn}
 use Rattle.stream_open.specs.declared.Turn.the-variants.{Length, Payload, Ended}
 use Rattle.stream_open.specs.declared.Receiver.{Receiver}
-use Rattle.response_open.specs.declared.Fixed.{Fixed}
+use Rattle.stream_heads.specs.declared.Fixed.{Fixed}
 use Rattle.stream_open.specs.declared.Chunk.{Chunk}
 use Rattle.stream_open.specs.declared.Stepped.{Stepped}
 use Rattle.stream_open.specs.declared.Stepped.the-variants.{Opened, Refused as Unopened}
-use Rattle.request_open.specs.declared.RequestOpened.{RequestOpened}
-use Rattle.request_open.specs.declared.RequestOpened.the-variants.{Accepted, Refused}
-use Rattle.request_open.specs.Requests.{variableOf, openedRequest, requestOut, requestPool}
+use Rattle.stream_open_request.specs.declared.RequestOpened.{RequestOpened}
+use Rattle.stream_open_request.specs.declared.RequestOpened.the-variants.{Accepted, Refused}
+use Rattle.stream_open_request.specs.Requests.{variableOf, openedRequest, requestOut, requestPool}
 use Rattle.stream_open.specs.Chunks.{streamKey, pieceAnswer, lengthRead, turnAnswer, writtenBy, payloadPiece, stepAnswer, stepOut, ended, stepNext}
 use Rattle.demands.specs.StreamsKeep.{saltOf, ofStep, ofSealer, dueOf, RequestAnswered, accepted-request, refused-request, RequestKeeps, StepAnswered, opened-step, refused-step, dueAt, StepKeeps, SealAnswered, sealed-text, refused-text, SealKeeps, SealersKeep, StreamsDemand1}
 use Rattle.demands.specs.StreamsOpen.{TurnOpens, turnText}
 use Rattle.demands.specs.StreamsBack.{StreamsDemand2}
-use Rattle.stream.proofs.LengthLaws.{length-openAt, length-chunk}
-use Rattle.head_seal.proofs.HeadLengthLaws.{length-requestAt, length-responseOf}
+use Rattle.stream_pieces.proofs.LengthLaws.{length-openAt}
+use Rattle.stream_seal.proofs.LengthLaws.{length-chunk}
+use Rattle.stream_seal_heads.proofs.HeadLengthLaws.{length-requestAt, length-responseOf}
 use Rattle.demands.proofs.StreamReadBack.{Sized, chunkable, chunk-back}
 use Rattle.demands.proofs.ResponseReadBack.{responds, response-back}
 use Rattle.demands.proofs.RequestReadBack.{requests, request-back}

@@ -24,26 +24,28 @@ use Rattle.protocol.specs.Time.{timeValid}
 use Rattle.protocol.proofs.MethodLaws.{fits-sizes}
 use Rattle.protocol.specs.declared.Refusal.{Refusal}
 use Rattle.protocol.specs.declared.Refusal.the-variants.{Settings, Room, NotAuthentic, WrongType, WrongTime, More, Counter}
-use Rattle.stream.specs.declared.Subkey.{Subkey}
-use Rattle.stream.specs.declared.Sender.{Sender}
-use Rattle.stream.specs.declared.Sealed.{Sealed}
-use Rattle.stream.specs.declared.Sealed.the-variants.{Bytes, Refused as Unsealed}
-use Rattle.stream.specs.Pieces.{nonce, sealAt, authenticAt, openAt, subkeyWords, keyOf}
-use Rattle.stream.specs.Sealing.{maxChunk, lastCounter, chunk, senderKey, moved, sizeAnswer, chunkAnswer}
-use Rattle.head_seal.specs.HeadSealing.{fixedPart, front}
+use Rattle.stream_pieces.specs.declared.Subkey.{Subkey}
+use Rattle.stream_seal.specs.declared.Sender.{Sender}
+use Rattle.stream_seal.specs.declared.Sealed.{Sealed}
+use Rattle.stream_seal.specs.declared.Sealed.the-variants.{Bytes, Refused as Unsealed}
+use Rattle.stream_pieces.specs.Pieces.{nonce, sealAt, authenticAt, openAt, subkeyWords, keyOf, maxChunk, lastCounter}
+use Rattle.stream_seal.specs.Sealing.{chunk, senderKey, moved, sizeAnswer, chunkAnswer}
+use Rattle.stream_seal_heads.specs.HeadSealing.{fixedPart, front}
 use Rattle.stream_open.specs.declared.Turn.{Turn}
 use Rattle.stream_open.specs.declared.Turn.the-variants.{Length, Payload}
 use Rattle.stream_open.specs.declared.Receiver.{Receiver}
 use Rattle.stream_open.specs.declared.Stepped.{Stepped}
 use Rattle.stream_open.specs.declared.Stepped.the-variants.{Opened, Refused}
-use Rattle.response_open.specs.declared.FixedRead.the-variants.{Read, Refused as Unread}
-use Rattle.response_open.specs.Heads.{frontLength, fixedOf, receiver, fieldsOf, readFixed, openFixed, bindingOf}
-use Rattle.stream_open.specs.Chunks.{pieceAnswer, lengthRead, turnAnswer, writtenBy, stepAnswer, stepOut}
+use Rattle.stream_heads.specs.declared.FixedRead.the-variants.{Read, Refused as Unread}
+use Rattle.stream_heads.specs.Heads.{frontLength, fixedOf, fieldsOf, readFixed, openFixed}
+use Rattle.stream_open.specs.Chunks.{receiver, pieceAnswer, lengthRead, turnAnswer, writtenBy, stepAnswer, stepOut}
+use Rattle.stream_open_response.specs.Responses.{bindingOf}
 use Rattle.stream_open.proofs.ChunkLaws.{length-kept}
 use Rattle.demands.specs.StreamsBack.{partner, midway, ChunkBack, ChunksGivenBack}
-use Rattle.stream.proofs.LengthLaws.{length-sealAt, length-chunk}
-use Rattle.head_seal.proofs.HeadLengthLaws.{length-fixedPart, length-front}
-use Rattle.stream.proofs.KeyLaws.{length-subkey, octets-subkey, subkey-back}
+use Rattle.stream_pieces.proofs.LengthLaws.{length-sealAt}
+use Rattle.stream_seal.proofs.LengthLaws.{length-chunk}
+use Rattle.stream_seal_heads.proofs.HeadLengthLaws.{length-fixedPart, length-front}
+use Rattle.stream_pieces.proofs.KeyLaws.{length-subkey, octets-subkey, subkey-back}
 
 -- ---- a piece
 

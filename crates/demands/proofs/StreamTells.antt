@@ -14,8 +14,7 @@ use Rattle.octets.proofs.NumberLaws.{le-toLe}
 use Rattle.protocol.specs.Method.{keyLength}
 use Rattle.protocol.specs.declared.Refusal.{Refusal}
 use Rattle.protocol.specs.declared.Refusal.the-variants.{Settings, Room, NotAuthentic, More, Counter}
-use Rattle.stream.specs.Pieces.{nonce, authenticAt, openAt}
-use Rattle.stream.specs.Sealing.{lastCounter}
+use Rattle.stream_pieces.specs.Pieces.{nonce, authenticAt, openAt, lastCounter}
 use Rattle.stream_open.specs.declared.Turn.{Turn}
 use Rattle.stream_open.specs.declared.Turn.the-variants.{Length, Payload, Ended}
 use Rattle.stream_open.specs.declared.Receiver.{Receiver}

@@ -8,16 +8,15 @@ use native.Mathlib.Omega.{arith}
 use lib.ListN.{length, take, drop}
 use Rattle.octets.specs.Buffers.{put}
 use Rattle.octets.proofs.BufferLaws.{length-put, take-put}
-use Rattle.stream.specs.declared.Sender.{Sender}
-use Rattle.stream.specs.declared.Sealed.{Sealed}
-use Rattle.stream.specs.declared.Sealed.the-variants.{Bytes}
-use Rattle.stream.specs.Sealing.{chunk, moved, senderKey, chunkAnswer}
-use Rattle.head_seal.specs.HeadSealing.{response}
+use Rattle.stream_seal.specs.declared.Sender.{Sender}
+use Rattle.stream_seal.specs.declared.Sealed.{Sealed}
+use Rattle.stream_seal.specs.declared.Sealed.the-variants.{Bytes}
+use Rattle.stream_seal.specs.Sealing.{chunk, moved, senderKey, chunkAnswer}
+use Rattle.stream_seal_heads.specs.HeadSealing.{response}
 use Rattle.stream_open.specs.declared.Turn.the-variants.{Length, Payload}
 use Rattle.stream_open.specs.declared.Chunk.{Chunk}
 use Rattle.stream_open.specs.declared.Stepped.the-variants.{Opened}
-use Rattle.response_open.specs.Heads.{receiver}
-use Rattle.stream_open.specs.Chunks.{stepNext}
+use Rattle.stream_open.specs.Chunks.{receiver, stepNext}
 use Rattle.demands.specs.StreamsBack.{partner, midway, ChunkBack, Flow, answerTo, writtenIn, usedBy, stepped, after, gives, received, AllOpened, sentBy, leaves, sentChunk, sentAll, chunksFrom, senderAfter, AllSealed, Fit, StreamBack, StreamsGivenBack, SendersCount, RequestStreamsGivenBack, ResponseStreamsGivenBack}
 use Rattle.demands.proofs.StreamReadBack.{chunkable, chunk-back}
 use Rattle.demands.proofs.RequestReadBack.{request-back}

@@ -10,8 +10,8 @@ use lib.ListN.{length, getD, drop, replicate}
 use Rattle.octets.specs.Buffers.{Octets, put}
 use Rattle.octets.specs.Numbers.{be}
 use Rattle.session_record.specs.declared.Peer.{Peer}
-use Rattle.session.specs.Table.{recordAt, lawful, freshIn, sessionPlace, freePlace}
-use Rattle.book.specs.Call.{Answer, refused, opened}
+use Rattle.session_table.specs.Table.{recordAt, lawful, freshIn, sessionPlace, freePlace}
+use Rattle.session_book.specs.Call.{Answer, refused, opened}
 use Rattle.protocol.specs.Method.{keyFits}
 use Rattle.protocol.specs.declared.Refusal.{Refusal}
 use Rattle.protocol.specs.declared.Refusal.the-variants.{Settings, Length, Room, NotAuthentic, Malformed, WrongType, WrongTime, Replay, Full, More, Counter, Argument, Binding}
@@ -22,11 +22,11 @@ use Rattle.socks5.specs.declared.Parsed.the-variants.{Found}
 use Rattle.socks5.specs.Address.{parseAt, moved}
 use Rattle.datagram_parts.specs.declared.Side.{Side}
 use Rattle.datagram_parts.specs.declared.Side.the-variants.{Client, Server}
-use Rattle.datagram.specs.declared.Sender.{Sender}
-use Rattle.datagram.specs.declared.Sealed.the-variants.{Datagram as Written}
+use Rattle.datagram_seal.specs.declared.Sender.{Sender}
+use Rattle.datagram_seal.specs.declared.Sealed.the-variants.{Datagram as Written}
 use Rattle.datagram_parts.specs.Headers.{typeOf, fixedLength, plaintext}
 use Rattle.datagram_parts.specs.Parts.{maxDatagram}
-use Rattle.datagram.specs.Sealing.{sealAnswer, datagram}
+use Rattle.datagram_seal.specs.Sealing.{sealAnswer, datagram}
 use Rattle.datagram_read.specs.declared.Header.{Header}
 use Rattle.datagram_read.specs.Opening.{sessionOf, packetOf, bodyAuthentic, timeOf, paddingOf}
 use Rattle.datagram_open.specs.Deciding.{expected, plainOf, openerOf, openAnswer, openOut, openTable}

@@ -9,15 +9,15 @@ use lib.ListN.{length, drop}
 use Rattle.protocol.specs.declared.Refusal.{Refusal}
 use Rattle.protocol.specs.declared.Refusal.the-variants.{Argument}
 use Rattle.protocol.specs.Refusal.{refusalNumber}
-use Rattle.session.specs.Table.{makeLawful, made}
-use Rattle.pool.specs.Pool.{makeLawful as makeLawfulPool, made as madePool}
+use Rattle.session_table.specs.Table.{makeLawful, made}
+use Rattle.salt_pool.specs.Pool.{makeLawful as makeLawfulPool, made as madePool}
 use Rattle.datagram_parts.specs.declared.Side.the-variants.{Client, Server}
-use Rattle.datagram.specs.declared.Sender.{Sender}
-use Rattle.datagram.specs.declared.Begun.{Begun}
-use Rattle.datagram.specs.declared.Begun.the-variants.{Ready, Refused as NotBegun}
-use Rattle.datagram.specs.declared.Sealed.{Sealed}
-use Rattle.datagram.specs.declared.Sealed.the-variants.{Datagram, Refused}
-use Rattle.datagram.specs.Sealing.{clientSender, begun, sealAnswer, sealNext, datagram, sealOut}
+use Rattle.datagram_seal.specs.declared.Sender.{Sender}
+use Rattle.datagram_seal.specs.declared.Begun.{Begun}
+use Rattle.datagram_seal.specs.declared.Begun.the-variants.{Ready, Refused as NotBegun}
+use Rattle.datagram_seal.specs.declared.Sealed.{Sealed}
+use Rattle.datagram_seal.specs.declared.Sealed.the-variants.{Datagram, Refused}
+use Rattle.datagram_seal.specs.Sealing.{clientSender, begun, sealAnswer, sealNext, datagram, sealOut}
 use Rattle.demands.specs.Datagrams.{OpenersKeep}
 use Rattle.demands.specs.StreamsKeep.{among, StreamsDemand1}
 

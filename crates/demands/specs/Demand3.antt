@@ -10,8 +10,8 @@ use lib.ListN.{length, take}
 use Rattle.octets.specs.Numbers.{be}
 use Rattle.aes.specs.Keyed.{nkOf}
 use Rattle.aes_inverse.specs.InvCipher.{invAes}
-use Rattle.book.specs.Call.{Call}
-use Rattle.book.specs.Demand3.{FollowsBook, Rearrangement}
+use Rattle.session_book.specs.Call.{Call}
+use Rattle.session_book.specs.Demand3.{FollowsBook, Rearrangement}
 use Rattle.protocol.specs.Method.{keyFits}
 use Rattle.datagram_open.specs.Deciding.{decide, belongs}
 

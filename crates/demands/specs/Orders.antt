@@ -12,8 +12,8 @@ use lib.ListN.{length, getD, take, drop}
 use Rattle.octets.specs.Buffers.{same}
 use Rattle.octets.specs.Numbers.{be}
 use Rattle.session_record.specs.declared.Peer.{Peer}
-use Rattle.session.specs.Table.{recordAt, lawful, freshIn, sessionPlace, freePlace}
-use Rattle.book.specs.Call.{Answer, refused, opened}
+use Rattle.session_table.specs.Table.{recordAt, lawful, freshIn, sessionPlace, freePlace}
+use Rattle.session_book.specs.Call.{Answer, refused, opened}
 use Rattle.protocol.specs.Method.{saltLength}
 use Rattle.protocol.specs.declared.Refusal.{Refusal}
 use Rattle.protocol.specs.Refusal.{refusalNumber, wantedBytes}
@@ -26,24 +26,24 @@ use Rattle.socks5.specs.declared.Parsed.the-variants.{Found, Malformed}
 use Rattle.socks5.specs.Address.{parseAt, isAddress}
 use Rattle.datagram_parts.specs.declared.Side.{Side}
 use Rattle.datagram_parts.specs.declared.Side.the-variants.{Client, Server}
-use Rattle.datagram.specs.declared.Sender.{Sender as Session}
-use Rattle.datagram.specs.declared.Begun.{Begun}
-use Rattle.datagram.specs.declared.Begun.the-variants.{Ready, Refused as NotBegun}
-use Rattle.datagram.specs.declared.Sealed.{Sealed as SealedDatagram}
-use Rattle.datagram.specs.declared.Sealed.the-variants.{Datagram, Refused as NoDatagram}
-use Rattle.datagram.specs.Sealing.{begun, sealAnswer}
+use Rattle.datagram_seal.specs.declared.Sender.{Sender as Session}
+use Rattle.datagram_seal.specs.declared.Begun.{Begun}
+use Rattle.datagram_seal.specs.declared.Begun.the-variants.{Ready, Refused as NotBegun}
+use Rattle.datagram_seal.specs.declared.Sealed.{Sealed as SealedDatagram}
+use Rattle.datagram_seal.specs.declared.Sealed.the-variants.{Datagram, Refused as NoDatagram}
+use Rattle.datagram_seal.specs.Sealing.{begun, sealAnswer}
 use Rattle.datagram_read.specs.declared.Header.{Header}
 use Rattle.datagram_read.specs.Opening.{sessionOf, packetOf}
 use Rattle.datagram_open.specs.Deciding.{plainOf, openAnswer}
-use Rattle.pool.specs.declared.Met.{Met}
-use Rattle.pool.specs.declared.Met.the-variants.{Room, Replay, Full}
-use Rattle.pool.specs.Pool.{meet, lawful as lawfulPool}
-use Rattle.stream.specs.declared.Sender.{Sender}
-use Rattle.stream.specs.declared.Sealed.{Sealed}
-use Rattle.stream.specs.declared.Sealed.the-variants.{Bytes, Refused as Unsealed}
-use Rattle.stream.specs.Pieces.{authenticAt, openAt, subkeyWords}
-use Rattle.stream.specs.Sealing.{chunkAnswer}
-use Rattle.head_seal.specs.HeadSealing.{requestAnswer, responseAnswer}
+use Rattle.salt_pool.specs.declared.Met.{Met}
+use Rattle.salt_pool.specs.declared.Met.the-variants.{Room, Replay, Full}
+use Rattle.salt_pool.specs.Pool.{meet, lawful as lawfulPool}
+use Rattle.stream_seal.specs.declared.Sender.{Sender}
+use Rattle.stream_seal.specs.declared.Sealed.{Sealed}
+use Rattle.stream_seal.specs.declared.Sealed.the-variants.{Bytes, Refused as Unsealed}
+use Rattle.stream_pieces.specs.Pieces.{authenticAt, openAt, subkeyWords}
+use Rattle.stream_seal.specs.Sealing.{chunkAnswer}
+use Rattle.stream_seal_heads.specs.HeadSealing.{requestAnswer, responseAnswer}
 use Rattle.stream_open.specs.declared.Turn.{Turn}
 use Rattle.stream_open.specs.declared.Turn.the-variants.{Length, Payload, Ended}
 use Rattle.stream_open.specs.declared.Receiver.{Receiver}
@@ -51,14 +51,14 @@ use Rattle.stream_open.specs.declared.Chunk.{Chunk}
 use Rattle.stream_open.specs.declared.Stepped.{Stepped}
 use Rattle.stream_open.specs.declared.Stepped.the-variants.{Opened, Refused as Unopened}
 use Rattle.stream_open.specs.Chunks.{streamKey, stepAnswer}
-use Rattle.response_open.specs.declared.Response.{Response}
-use Rattle.response_open.specs.declared.ResponseOpened.{ResponseOpened}
-use Rattle.response_open.specs.declared.ResponseOpened.the-variants.{Accepted as Answered, Refused as Unanswered}
-use Rattle.response_open.specs.Heads.{openedResponse}
-use Rattle.request_open.specs.declared.Request.{Request}
-use Rattle.request_open.specs.declared.RequestOpened.{RequestOpened}
-use Rattle.request_open.specs.declared.RequestOpened.the-variants.{Accepted, Refused as Unaccepted}
-use Rattle.request_open.specs.Requests.{openedRequest}
+use Rattle.stream_open_response.specs.declared.Response.{Response}
+use Rattle.stream_open_response.specs.declared.ResponseOpened.{ResponseOpened}
+use Rattle.stream_open_response.specs.declared.ResponseOpened.the-variants.{Accepted as Answered, Refused as Unanswered}
+use Rattle.stream_open_response.specs.Responses.{openedResponse}
+use Rattle.stream_open_request.specs.declared.Request.{Request}
+use Rattle.stream_open_request.specs.declared.RequestOpened.{RequestOpened}
+use Rattle.stream_open_request.specs.declared.RequestOpened.the-variants.{Accepted, Refused as Unaccepted}
+use Rattle.stream_open_request.specs.Requests.{openedRequest}
 use Rattle.demands.specs.Datagrams.{tagGood}
 
 -- ---- the first of a list

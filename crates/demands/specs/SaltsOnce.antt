@@ -10,11 +10,11 @@ use Rattle.protocol.specs.declared.Refusal.the-variants.{Replay, More}
 use Rattle.protocol.specs.Subkey.{subkey}
 use Rattle.protocol.specs.Method.{saltLength}
 use Rattle.stream_open.specs.declared.Receiver.{Receiver}
-use Rattle.request_open.specs.declared.Request.{Request}
-use Rattle.request_open.specs.declared.RequestOpened.{RequestOpened}
-use Rattle.request_open.specs.declared.RequestOpened.the-variants.{Accepted, Refused as Unaccepted}
-use Rattle.response_open.specs.Heads.{frontLength, fixedOf}
-use Rattle.request_open.specs.Requests.{openedRequest, requestPool}
+use Rattle.stream_open_request.specs.declared.Request.{Request}
+use Rattle.stream_open_request.specs.declared.RequestOpened.{RequestOpened}
+use Rattle.stream_open_request.specs.declared.RequestOpened.the-variants.{Accepted, Refused as Unaccepted}
+use Rattle.stream_heads.specs.Heads.{frontLength, fixedOf}
+use Rattle.stream_open_request.specs.Requests.{openedRequest, requestPool}
 use Rattle.demands.specs.StreamsKeep.{ofFront, saltOf}
 use Rattle.demands.specs.StreamsOpen.{FixedOpens}
 

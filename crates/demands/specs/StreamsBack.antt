@@ -12,26 +12,26 @@ use Rattle.protocol.specs.Time.{timeValid}
 use Rattle.socks5.specs.declared.Address.{Address}
 use Rattle.socks5.specs.declared.Parsed.the-variants.{Found}
 use Rattle.socks5.specs.Address.{parseAt}
-use Rattle.pool.specs.declared.Met.the-variants.{Room as Free}
-use Rattle.pool.specs.Pool.{lawful, meet, store}
-use Rattle.stream.specs.declared.Sender.{Sender}
-use Rattle.stream.specs.declared.Sealed.{Sealed}
-use Rattle.stream.specs.declared.Sealed.the-variants.{Bytes, Refused as Unsealed}
-use Rattle.stream.specs.Pieces.{nonce, sealAt}
-use Rattle.stream.specs.Sealing.{chunk, senderKey, chunkAnswer}
-use Rattle.head_seal.specs.HeadSealing.{variablePart, variableLength, request, response, requestAnswer, responseAnswer}
+use Rattle.salt_pool.specs.declared.Met.the-variants.{Room as Free}
+use Rattle.salt_pool.specs.Pool.{lawful, meet, store}
+use Rattle.stream_seal.specs.declared.Sender.{Sender}
+use Rattle.stream_seal.specs.declared.Sealed.{Sealed}
+use Rattle.stream_seal.specs.declared.Sealed.the-variants.{Bytes, Refused as Unsealed}
+use Rattle.stream_pieces.specs.Pieces.{nonce, sealAt}
+use Rattle.stream_seal.specs.Sealing.{chunk, senderKey, chunkAnswer}
+use Rattle.stream_seal_heads.specs.HeadSealing.{variablePart, variableLength, request, response, requestAnswer, responseAnswer}
 use Rattle.stream_open.specs.declared.Turn.{Turn}
 use Rattle.stream_open.specs.declared.Turn.the-variants.{Length, Payload, Ended}
 use Rattle.stream_open.specs.declared.Receiver.{Receiver}
 use Rattle.stream_open.specs.declared.Chunk.{Chunk}
 use Rattle.stream_open.specs.declared.Stepped.{Stepped}
 use Rattle.stream_open.specs.declared.Stepped.the-variants.{Opened, Refused as Unopened}
-use Rattle.response_open.specs.declared.ResponseOpened.the-variants.{Accepted as Answered}
-use Rattle.request_open.specs.declared.Request.{Request}
-use Rattle.request_open.specs.declared.RequestOpened.the-variants.{Accepted}
-use Rattle.response_open.specs.Heads.{receiver, openedResponse}
-use Rattle.request_open.specs.Requests.{openedRequest, requestOut, requestPool}
-use Rattle.stream_open.specs.Chunks.{streamKey, stepAnswer, stepOut, stepNext}
+use Rattle.stream_open_response.specs.declared.ResponseOpened.the-variants.{Accepted as Answered}
+use Rattle.stream_open_request.specs.declared.Request.{Request}
+use Rattle.stream_open_request.specs.declared.RequestOpened.the-variants.{Accepted}
+use Rattle.stream_open.specs.Chunks.{receiver, streamKey, stepAnswer, stepOut, stepNext}
+use Rattle.stream_open_response.specs.Responses.{openedResponse}
+use Rattle.stream_open_request.specs.Requests.{openedRequest, requestOut, requestPool}
 use Rattle.demands.specs.StreamsOpen.{RequestExactlyWhen, ResponseExactlyWhen, TurnOpens, turnText, StepExactlyWhen}
 
 -- ---- one chunk

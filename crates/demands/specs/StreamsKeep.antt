@@ -12,26 +12,27 @@ use Rattle.protocol.specs.declared.Refusal.the-variants.{NotAuthentic, Malforme
 use Rattle.protocol.specs.Refusal.{refusalNumber}
 use Rattle.protocol.specs.Subkey.{subkey}
 use Rattle.protocol.specs.Method.{keyLength, saltLength}
-use Rattle.stream.specs.declared.Sender.{Sender}
-use Rattle.stream.specs.declared.Sealed.{Sealed}
-use Rattle.stream.specs.declared.Sealed.the-variants.{Bytes, Refused as Unsealed}
-use Rattle.stream.specs.Pieces.{openAt}
-use Rattle.stream.specs.Sealing.{chunk, senderKey, chunkAnswer, sealOut}
-use Rattle.head_seal.specs.HeadSealing.{request, response, requestAnswer, responseAnswer}
+use Rattle.stream_seal.specs.declared.Sender.{Sender}
+use Rattle.stream_seal.specs.declared.Sealed.{Sealed}
+use Rattle.stream_seal.specs.declared.Sealed.the-variants.{Bytes, Refused as Unsealed}
+use Rattle.stream_pieces.specs.Pieces.{openAt}
+use Rattle.stream_seal.specs.Sealing.{chunk, senderKey, chunkAnswer, sealOut}
+use Rattle.stream_seal_heads.specs.HeadSealing.{request, response, requestAnswer, responseAnswer}
 use Rattle.stream_open.specs.declared.Turn.{Turn}
 use Rattle.stream_open.specs.declared.Turn.the-variants.{Length, Payload, Ended}
 use Rattle.stream_open.specs.declared.Receiver.{Receiver}
 use Rattle.stream_open.specs.declared.Chunk.{Chunk}
 use Rattle.stream_open.specs.declared.Stepped.{Stepped}
 use Rattle.stream_open.specs.declared.Stepped.the-variants.{Opened, Refused as Unopened}
-use Rattle.response_open.specs.declared.Response.{Response}
-use Rattle.response_open.specs.declared.ResponseOpened.{ResponseOpened}
-use Rattle.response_open.specs.declared.ResponseOpened.the-variants.{Accepted as Answered, Refused as Unanswered}
-use Rattle.request_open.specs.declared.Request.{Request}
-use Rattle.request_open.specs.declared.RequestOpened.{RequestOpened}
-use Rattle.request_open.specs.declared.RequestOpened.the-variants.{Accepted, Refused as Unaccepted}
-use Rattle.response_open.specs.Heads.{fixedOf, openedResponse}
-use Rattle.request_open.specs.Requests.{openedRequest, requestOut, requestPool}
+use Rattle.stream_open_response.specs.declared.Response.{Response}
+use Rattle.stream_open_response.specs.declared.ResponseOpened.{ResponseOpened}
+use Rattle.stream_open_response.specs.declared.ResponseOpened.the-variants.{Accepted as Answered, Refused as Unanswered}
+use Rattle.stream_open_request.specs.declared.Request.{Request}
+use Rattle.stream_open_request.specs.declared.RequestOpened.{RequestOpened}
+use Rattle.stream_open_request.specs.declared.RequestOpened.the-variants.{Accepted, Refused as Unaccepted}
+use Rattle.stream_heads.specs.Heads.{fixedOf}
+use Rattle.stream_open_response.specs.Responses.{openedResponse}
+use Rattle.stream_open_request.specs.Requests.{openedRequest, requestOut, requestPool}
 use Rattle.stream_open.specs.Chunks.{stepAnswer, stepOut, ended, stepNext}
 use lib.Dec.{eqb}
 

@@ -13,23 +13,22 @@ use Rattle.protocol.specs.Time.{timeValid}
 use Rattle.socks5.specs.declared.Address.{Address}
 use Rattle.socks5.specs.declared.Parsed.the-variants.{Found}
 use Rattle.socks5.specs.Address.{parseAt}
-use Rattle.pool.specs.declared.Met.the-variants.{Room as Free}
-use Rattle.pool.specs.Pool.{meet, store}
-use Rattle.stream.specs.Pieces.{authenticAt, openAt, subkeyWords}
-use Rattle.stream.specs.Sealing.{lastCounter}
-use Rattle.head_seal.specs.HeadSealing.{maxPadding}
+use Rattle.salt_pool.specs.declared.Met.the-variants.{Room as Free}
+use Rattle.salt_pool.specs.Pool.{meet, store}
+use Rattle.stream_pieces.specs.Pieces.{authenticAt, openAt, subkeyWords, lastCounter}
+use Rattle.stream_heads.specs.Heads.{maxPadding, frontLength, fixedOf}
 use Rattle.stream_open.specs.declared.Turn.{Turn}
 use Rattle.stream_open.specs.declared.Turn.the-variants.{Length, Payload, Ended}
 use Rattle.stream_open.specs.declared.Receiver.{Receiver}
 use Rattle.stream_open.specs.declared.Chunk.{Chunk}
 use Rattle.stream_open.specs.declared.Stepped.the-variants.{Opened}
-use Rattle.response_open.specs.declared.Response.{Response}
-use Rattle.response_open.specs.declared.ResponseOpened.the-variants.{Accepted as Answered}
-use Rattle.request_open.specs.declared.Request.{Request}
-use Rattle.request_open.specs.declared.RequestOpened.the-variants.{Accepted}
-use Rattle.response_open.specs.Heads.{frontLength, fixedOf, receiver, bindingOf, openedResponse}
-use Rattle.request_open.specs.Requests.{paddingAt, settings, openedRequest, requestOut, requestPool}
-use Rattle.stream_open.specs.Chunks.{streamKey, stepAnswer, stepOut}
+use Rattle.stream_open_response.specs.declared.Response.{Response}
+use Rattle.stream_open_response.specs.declared.ResponseOpened.the-variants.{Accepted as Answered}
+use Rattle.stream_open_request.specs.declared.Request.{Request}
+use Rattle.stream_open_request.specs.declared.RequestOpened.the-variants.{Accepted}
+use Rattle.stream_open.specs.Chunks.{receiver, streamKey, stepAnswer, stepOut}
+use Rattle.stream_open_response.specs.Responses.{bindingOf, openedResponse}
+use Rattle.stream_open_request.specs.Requests.{paddingAt, settings, openedRequest, requestOut, requestPool}
 use Rattle.demands.specs.StreamsKeep.{saltOf, timeIn, lengthIn}
 
 -- ---- a head is accepted exactly when

@@ -5,7 +5,7 @@ use Rattle.aes_tables.specs.Field.{xTimes, times, _•_, square, powers, invers
 use Rattle.aes_tables.specs.SBox.{bit, fromBits, affine, sBox}
 use Rattle.protocol.specs.Time.{timeValid}
 use Rattle.socks5.specs.Address.{nameAt, parseAt}
-use Rattle.session.specs.Table.{meet, sessionPlace, freePlace}
+use Rattle.session_table.specs.Table.{meet, sessionPlace, freePlace}
 use Rattle.datagram_parts.specs.Headers.{fixedPart, plaintext}
 use Rattle.datagram_read.specs.Opening.{readAddress, readMain}
 use Rattle.edges.specs.Edges.{rows, Edges}

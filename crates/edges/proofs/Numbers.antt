@@ -1,30 +1,30 @@
 -- The scope's numbers and layouts, by computing all of them.
 -- Assumes nothing.
-use mathlib.Core.Path.{_≡_, refl, sym, ap, _∙_, subst}
+use mathlib.Core.Path.{_≡_, refl, sym, subst}
 use mathlib.Core.Bool.{Bool, true, false, cond}
-use Prim.Native.Nat.{ℕ, _+_}
+use Prim.Native.Nat.{_+_}
 use lib.Dec.{T, eqb}
-use Rattle.octets.specs.Buffers.{same}
+use Rattle.octets.specs.Buffers.{put, same}
 use Rattle.octets.specs.Numbers.{be, toBe, toLe}
 use Rattle.aes.specs.Keyed.{nkOf}
-use Rattle.protocol.specs.declared.Method.{Method}
 use Rattle.protocol.specs.declared.Numbered.{Numbered}
 use Rattle.protocol.specs.declared.Numbered.the-variants.{Known, Unknown}
 use Rattle.protocol.specs.Method.{aes128, aes256, methodOf, keyFits, keyLength, saltLength}
 use Rattle.protocol.specs.Subkey.{subkey, sessionSubkey}
 use Rattle.protocol.specs.Time.{timeValid}
 use Rattle.socks5.specs.Address.{v4At, v6At, nameAt, parseAt, isAddress}
-use Rattle.pool.specs.Pool.{kept, store}
-use Rattle.datagram_parts.specs.Headers.{separateHeader, nonce, fixedPart}
-use Rattle.datagram.specs.Sealing.{sealedLength}
+use Rattle.salt_pool.specs.Pool.{kept, store}
+use Rattle.datagram_parts.specs.Headers.{separateHeader, nonce, fixedPart, plaintext}
+use Rattle.datagram_seal.specs.Sealing.{sealedLength}
 use Rattle.datagram_read.specs.Opening.{readAddress, readMain}
 use Rattle.datagram_open.specs.Deciding.{belongs}
-use Rattle.stream.specs.Pieces.{nonce as counterNonce}
-use Rattle.head_seal.specs.HeadSealing.{fixedPart as fixedHeader}
-use Rattle.edges.specs.Numbers.{methodFacts, tableFacts, poolFacts, addressFacts, datagramFacts, streamFacts, wordFacts, every, facts, MethodsFit, Material, Numbers}
+use Rattle.stream_pieces.specs.Pieces.{nonce as counterNonce}
+use Rattle.stream_seal_heads.specs.HeadSealing.{fixedPart as fixedHeader, variablePart}
+use Rattle.words.specs.Answers.{refusedAnswer}
+use Rattle.edges.specs.Numbers.{methodFacts, tableFacts, poolFacts, addressFacts, datagramFacts, streamFacts, wordFacts, hostFacts, every, facts, MethodsFit, Material, Numbers}
 
 all-facts : T (every facts)
-unfolding methodFacts tableFacts poolFacts addressFacts datagramFacts streamFacts wordFacts same methodOf keyFits keyLength saltLength timeValid be toBe toLe store kept v4At v6At nameAt parseAt isAddress separateHeader nonce fixedPart sealedLength readAddress readMain belongs counterNonce fixedHeader
+unfolding methodFacts tableFacts poolFacts addressFacts datagramFacts streamFacts wordFacts hostFacts same methodOf keyFits keyLength saltLength timeValid be toBe toLe store kept v4At v6At nameAt parseAt isAddress separateHeader nonce fixedPart plaintext variablePart refusedAnswer put sealedLength readAddress readMain belongs counterNonce fixedHeader
 all-facts = tt
 
 methods-fit : MethodsFit

@@ -22,11 +22,11 @@ use Rattle.socks5.specs.declared.Parsed.the-variants.{Found, Malformed}
 use Rattle.socks5.specs.Address.{parseAt}
 use Rattle.session_record.specs.declared.Peer.{Peer}
 use Rattle.records.specs.Records.{current}
-use Rattle.session.specs.Table.{Record, freshIn, acceptIn, newRecord, newTable, store, live}
-use Rattle.book.specs.Call.{Call, Answer, refused, opened, reaches}
-use Rattle.book.specs.Book.{Page, until, pageAlive, fresh, accept, newPage, outcomeBy}
-use Rattle.book.specs.Runs.{tableOutcomeBy}
-use Rattle.book.specs.Demand3.{viewOfPage, viewOfRecord}
+use Rattle.session_table.specs.Table.{Record, freshIn, acceptIn, newRecord, newTable, store, live}
+use Rattle.session_book.specs.Call.{Call, Answer, refused, opened, reaches}
+use Rattle.session_book.specs.Book.{Page, until, pageAlive, fresh, accept, newPage, outcomeBy}
+use Rattle.session_book.specs.Runs.{tableOutcomeBy}
+use Rattle.session_book.specs.Demand3.{viewOfPage, viewOfRecord}
 use Rattle.datagram_parts.specs.declared.Side.the-variants.{Client}
 use Rattle.datagram_parts.specs.Headers.{plaintext}
 use Rattle.datagram_read.specs.declared.Opened.{Opened}

@@ -10,7 +10,6 @@ use Prim.Native.Nat.{ℕ, zero, suc, _+_, _-_, _*_, _^_}
 use lib.Dec.{T}
 use lib.ListN.{length, getD, take, drop, replicate}
 use Rattle.octets.specs.Buffers.{same}
-use Rattle.octets.specs.Numbers.{toBe}
 use Rattle.aes.specs.Keyed.{nkOf}
 use Rattle.blake3.specs.Tree.{deriveKey}
 use Rattle.protocol.specs.declared.Method.{Method}
@@ -27,31 +26,33 @@ use Rattle.socks5.specs.declared.Target.the-variants.{V4, V6, Name}
 use Rattle.socks5.specs.declared.Parsed.{Parsed}
 use Rattle.socks5.specs.declared.Parsed.the-variants.{Found, Malformed as NoAddress}
 use Rattle.socks5.specs.Address.{parseAt, isAddress}
-use Rattle.window.specs.Window.{window, join4}
-use Rattle.session_record.specs.declared.Peer.{Peer}
-use Rattle.session.specs.Sizes.{capacity}
-use Rattle.session.specs.Table.{Record, acceptIn, newRecord, recordWords, tableWords, start, retention, lawful, newTable, makeLawful, made, recordAt, wordsOf, store, live}
-use Rattle.pool.specs.Pool as pool
-use Rattle.book.specs.Call.{Call}
-use Rattle.book.specs.Demand3.{viewOfRecord}
+use Rattle.session_window.specs.Window.{window, join4}
+use Rattle.session_table.specs.Sizes.{capacity}
+use Rattle.session_table.specs.Table.{Record, acceptIn, newRecord, recordWords, tableWords, start, retention, lawful, newTable, makeLawful, made, recordAt, wordsOf, store, live}
+use Rattle.salt_pool.specs.Pool as pool
+use Rattle.session_book.specs.Call.{refused}
+use Rattle.session_book.specs.Demand3.{viewOfRecord}
 use Rattle.datagram_parts.specs.declared.Side.{Side}
 use Rattle.datagram_parts.specs.declared.Side.the-variants.{Client, Server}
-use Rattle.datagram_parts.specs.Headers.{separateHeader, nonce, typeOf, fixedPart, fixedLength}
+use Rattle.datagram_parts.specs.Headers.{separateHeader, nonce, typeOf, fixedPart, fixedLength, plaintext}
 use Rattle.datagram_parts.specs.Parts.{maxDatagram}
-use Rattle.datagram.specs.Sealing.{sealedLength}
+use Rattle.datagram_seal.specs.declared.Begun.the-variants.{Ready, Refused as NotBegun}
+use Rattle.datagram_seal.specs.declared.Sealed.the-variants.{Datagram, Refused as NoDatagram}
+use Rattle.datagram_seal.specs.Sealing.{sealedLength}
 use Rattle.datagram_read.specs.Opening.{readMain}
 use Rattle.datagram_open.specs.Deciding.{belongs}
-use Rattle.stream.specs.Pieces.{nonce as counterNonce, subkeyWords}
-use Rattle.stream.specs.Sealing.{maxChunk, lastCounter}
-use Rattle.head_seal.specs.HeadSealing.{maxPadding, fixedPart as fixedHeader}
+use Rattle.stream_pieces.specs.Pieces.{nonce as counterNonce, maxChunk, lastCounter}
+use Rattle.stream_heads.specs.Heads.{maxPadding, frontLength}
+use Rattle.stream_seal_heads.specs.HeadSealing.{fixedPart as fixedHeader, variablePart}
 use Rattle.stream_open.specs.declared.Turn.{Turn}
 use Rattle.stream_open.specs.declared.Turn.the-variants.{Length as LengthTurn, Payload, Ended}
 use Rattle.stream_open.specs.declared.Receiver.{Receiver}
-use Rattle.response_open.specs.Heads.{frontLength}
-use Rattle.words.specs.Answers.{answerWords, kindOf, headerWords, requestWords, chunkWords}
+use Rattle.stream_open.specs.declared.Stepped.the-variants.{Opened as StepOpened, Refused as StepRefused}
+use Rattle.words.specs.Answers.{answerWords, kindOf, headerWords, requestWords, chunkWords, refusedAnswer}
 use Rattle.words.specs.States.{sessionSize, sessionWords, streamSize, senderWords, receiverWords, receiverLawful}
-use Rattle.relay.specs.Datagrams.{callerOf}
-use Rattle.edges.specs.Edges.{home, numberOf}
+use Rattle.stream_answers.specs.Told.{steppedAnswer, stepStream}
+use Rattle.relay.specs.Datagrams.{settingsNumber, begunWords, sealed, openedNumber, openedWords, callerOf}
+use Rattle.edges.specs.Edges.{home, nameA, numberOf}
 
 pub record Fact : Type 0 where
   pub says : List ℕ
@@ -253,6 +254,8 @@ datagramFacts =
     ∷ fact (typeOf Client ∷ typeOf (Server 0) ∷ fixedLength Client ∷ fixedLength (Server 0) ∷ []) (0 ∷ 1 ∷ 11 ∷ 19 ∷ [])
     ∷ fact (fixedPart Client 1000 258) (0 ∷ thousand ++ (1 ∷ 2 ∷ []))
     ∷ fact (fixedPart (Server id18) 1000 258) (1 ∷ thousand ++ (bytes18 ++ (1 ∷ 2 ∷ [])))
+    -- padding is zeros
+    ∷ fact (plaintext Client 1000 2 nameA (7 ∷ [])) (fixedPart Client 1000 2 ++ (0 ∷ 0 ∷ 3 ∷ 1 ∷ 0x61 ∷ 0 ∷ 80 ∷ 7 ∷ []))
     -- a plaintext of 16 bytes, and a datagram of 48
     ∷ fact (sealedLength Client 5 0 0 ∷ sealedLength (Server 0) 5 0 0 ∷ []) (48 ∷ 56 ∷ [])
     -- two faults, for each neighbouring pair of 5, 6, 7, 13, 5
@@ -281,6 +284,7 @@ streamFacts =
     ∷ fact (frontLength 16 0 ∷ frontLength 32 0 ∷ frontLength 16 16 ∷ frontLength 32 32 ∷ []) (43 ∷ 59 ∷ 59 ∷ 91 ∷ [])
     ∷ fact (fixedHeader 0 1000 [] 258) (0 ∷ thousand ++ (1 ∷ 2 ∷ []))
     ∷ fact (fixedHeader 1 1000 bytes18 258) (1 ∷ thousand ++ (bytes18 ++ (1 ∷ 2 ∷ [])))
+    ∷ fact (variablePart nameA 2 (7 ∷ [])) (3 ∷ 1 ∷ 0x61 ∷ 0 ∷ 80 ∷ 0 ∷ 2 ∷ 0 ∷ 0 ∷ 7 ∷ [])
     ∷ fact (counterNonce 258) (2 ∷ 1 ∷ 0 ∷ 0 ∷ 0 ∷ 0 ∷ 0 ∷ 0 ∷ 0 ∷ 0 ∷ 0 ∷ 0 ∷ [])
     ∷ []
 
@@ -330,8 +334,43 @@ wordFacts =
     ∷ fact (callerOf 1 2 3 .first ∷ callerOf 1 2 3 .second ∷ callerOf 1 2 3 .port ∷ []) (1 ∷ 2 ∷ 3 ∷ [])
     ∷ []
 
+-- ---- what the exported functions tell
+
+-- an answer as it was lent
+abbrev pub sevens : List ℕ
+sevens = replicate 9 7
+
+-- the words of a stream as it was lent, of which the first is its turn
+abbrev pub lentStream : List ℕ
+lentStream = 1 ∷ 1 ∷ 2 ∷ 0 ∷ 4 ∷ 5 ∷ 6 ∷ 7 ∷ []
+
+-- its turn behind a step that was refused
+abbrev pub turnBehind : Refusal → ℕ
+turnBehind r = getD (stepStream (StepRefused r) (streamAt LengthTurn) lentStream) 0 0
+
+unfoldable pub hostFacts : List Fact
+hostFacts =
+    fact (settingsNumber true ∷ settingsNumber false ∷ []) (0 ∷ 1 ∷ [])
+    -- beginning
+    ∷ number (begunWords (Ready (record { side = Client; id = 2; packet = 0 })) [] .number) 0
+    ∷ fact (begunWords (NotBegun Argument) (7 ∷ []) .number ∷ begunWords (NotBegun Argument) (7 ∷ []) .session) (12 ∷ 7 ∷ [])
+    -- a sealed datagram: one packet ID further, and its length; refused, nothing
+    ∷ fact (sealed (Datagram 48) [] (1 ∷ 2 ∷ 3 ∷ 4 ∷ []) [] sevens .session) (1 ∷ 2 ∷ 3 ∷ 5 ∷ [])
+    ∷ fact (sealed (Datagram 48) [] (1 ∷ 2 ∷ 3 ∷ 4 ∷ []) [] sevens .answer) (48 ∷ replicate 8 7)
+    ∷ fact (sealed (NoDatagram Counter) [] (1 ∷ 2 ∷ 3 ∷ 4 ∷ []) [] sevens .session) (1 ∷ 2 ∷ 3 ∷ 4 ∷ [])
+    ∷ fact (sealed (NoDatagram Counter) [] [] [] sevens .number ∷ sealed (NoDatagram Counter) [] [] [] sevens .answer) (11 ∷ sevens)
+    -- an opened one: the refusal's number, and no word of the answer
+    ∷ fact (openedNumber (refused 8) ∷ openedWords (refused 8) sevens) (8 ∷ sevens)
+    -- only 10 writes a word: how many bytes are wanted
+    ∷ fact (refusedAnswer (More 43) sevens) (43 ∷ replicate 8 7)
+    ∷ fact (refusedAnswer Room sevens) sevens
+    ∷ fact (steppedAnswer (StepOpened (record { used = 18; length = 5 })) sevens) (18 ∷ 5 ∷ replicate 7 7)
+    -- of all refusals 4 alone ends a stream
+    ∷ fact (map turnBehind refusals) (1 ∷ 1 ∷ 1 ∷ 0 ∷ 1 ∷ 1 ∷ 1 ∷ 1 ∷ 1 ∷ 1 ∷ 1 ∷ 1 ∷ 1 ∷ [])
+    ∷ []
+
 abbrev pub facts : List Fact
-facts = methodFacts ++ (tableFacts ++ (poolFacts ++ (addressFacts ++ (datagramFacts ++ (streamFacts ++ wordFacts)))))
+facts = methodFacts ++ (tableFacts ++ (poolFacts ++ (addressFacts ++ (datagramFacts ++ (streamFacts ++ (wordFacts ++ hostFacts))))))
 
 -- ---- the statement
 

@@ -12,20 +12,20 @@ use Rattle.octets.specs.Buffers.{put}
 use Rattle.protocol.specs.declared.Refusal.{Refusal}
 use Rattle.protocol.specs.Refusal.{refusalNumber}
 use Rattle.session_record.specs.declared.Peer.{Peer}
-use Rattle.book.specs.Call.{Answer}
+use Rattle.session_book.specs.Call.{Answer}
 use Rattle.datagram_read.specs.declared.Header.{Header}
-use Rattle.datagram.specs.declared.Sender.{Sender}
-use Rattle.datagram.specs.declared.Begun.{Begun}
-use Rattle.datagram.specs.declared.Begun.the-variants.{Ready, Refused as NotBegun}
-use Rattle.datagram.specs.declared.Sealed.{Sealed}
-use Rattle.datagram.specs.declared.Sealed.the-variants.{Datagram, Refused}
+use Rattle.datagram_seal.specs.declared.Sender.{Sender}
+use Rattle.datagram_seal.specs.declared.Begun.{Begun}
+use Rattle.datagram_seal.specs.declared.Begun.the-variants.{Ready, Refused as NotBegun}
+use Rattle.datagram_seal.specs.declared.Sealed.{Sealed}
+use Rattle.datagram_seal.specs.declared.Sealed.the-variants.{Datagram, Refused}
 use Rattle.datagram_read.specs.declared.Opened.{Opened}
 use Rattle.datagram_read.specs.declared.Opened.the-variants.{Datagram as OpenedDatagram, Refused as NotOpened}
-use Rattle.datagram.specs.Sealing.{sealAnswer, packetsOf, datagram, sealOut}
+use Rattle.datagram_seal.specs.Sealing.{sealAnswer, packetsOf, datagram, sealOut}
 use Rattle.datagram_open.specs.Deciding.{answerOf, openAnswer, openOut, openTable}
 use Rattle.words.specs.Answers.{answerWords, headerWords}
 use Rattle.words.specs.States.{sessionSize, sessionLawful, sessionIn, sessionWords}
-use Rattle.relay.specs.Datagrams.{AfterBegin, begunWords, begins, AfterSeal, sealed, sealsDatagram, AfterOpen, openedNumber, openedWords, opensTold, opensDatagram}
+use Rattle.relay.specs.Datagrams.{begunWords, begins, AfterSeal, sealed, sealsDatagram, AfterOpen, openedNumber, openedWords, opensTold, opensDatagram}
 use Rattle.words.proofs.LentLaws.{filled}
 
 -- ---- beginning a session in lent words

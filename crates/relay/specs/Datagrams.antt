@@ -9,13 +9,13 @@ use lib.ListN.{length, getD, set}
 use Rattle.octets.specs.Buffers.{put}
 use Rattle.protocol.specs.Refusal.{refusalNumber}
 use Rattle.session_record.specs.declared.Peer.{Peer}
-use Rattle.book.specs.Call.{Answer, refused, opened}
+use Rattle.session_book.specs.Call.{Answer, refused, opened}
 use Rattle.datagram_read.specs.declared.Header.{Header}
-use Rattle.datagram.specs.declared.Begun.{Begun}
-use Rattle.datagram.specs.declared.Begun.the-variants.{Ready, Refused as NotBegun}
-use Rattle.datagram.specs.declared.Sealed.{Sealed}
-use Rattle.datagram.specs.declared.Sealed.the-variants.{Datagram, Refused}
-use Rattle.datagram.specs.Sealing.{sealAnswer, datagram}
+use Rattle.datagram_seal.specs.declared.Begun.{Begun}
+use Rattle.datagram_seal.specs.declared.Begun.the-variants.{Ready, Refused as NotBegun}
+use Rattle.datagram_seal.specs.declared.Sealed.{Sealed}
+use Rattle.datagram_seal.specs.declared.Sealed.the-variants.{Datagram, Refused}
+use Rattle.datagram_seal.specs.Sealing.{sealAnswer, datagram}
 use Rattle.datagram_open.specs.Deciding.{openAnswer, openOut, openTable}
 use Rattle.words.specs.Answers.{answerWords, headerWords}
 use Rattle.words.specs.States.{sessionSize, sessionLawful, sessionIn, sessionWords}

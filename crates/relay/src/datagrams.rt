@@ -1,10 +1,10 @@
 // Session tables, sending sessions and datagrams.
 use super::SETTINGS;
-use datagram::Begun;
-use datagram::Sealed;
-use datagram::Sender;
 use datagram_read::Opened;
-use session::Peer;
+use datagram_seal::Begun;
+use datagram_seal::Sealed;
+use datagram_seal::Sender;
+use session_table::Peer;
 use words::ANSWER;
 use words::SESSION;
 use words::header_words;
@@ -14,9 +14,9 @@ use words::session_words;
 ghost use mathlib.Core.Path.{_≡_};
 ghost use mathlib.Core.Option.{none, some};
 ghost use lib.ListN.{length};
-ghost use Rattle.session.specs.Table.{makeLawful, made};
-ghost use Rattle.datagram.specs.declared.Begun.the-variants.{Ready};
-ghost use Rattle.datagram.specs.Sealing.{clientSender, begun};
+ghost use Rattle.session_table.specs.Table.{makeLawful, made};
+ghost use Rattle.datagram_seal.specs.declared.Begun.the-variants.{Ready};
+ghost use Rattle.datagram_seal.specs.Sealing.{clientSender, begun};
 ghost use Rattle.datagram_open.specs.Deciding.{answerOf};
 ghost use Rattle.words.specs.Answers.{answerWords};
 ghost use Rattle.relay.specs.Datagrams.{settingsNumber, begins, sealsDatagram, openedNumber, openedWords, opensDatagram};
@@ -28,7 +28,7 @@ pub extern "C" fn relay_table_new(retention: u64, table: &mut [u64]) -> u64
     ensures { λ r. ⌜ r ≡ settingsNumber (makeLawful retention (now (table .entry))) ⌝ }
     ensures { λ r. ⌜ now (table .exit) ≡ made retention (now (table .entry)) ⌝ }
 {
-    if session::make(retention, table) {
+    if session_table::make(retention, table) {
         return 0;
     }
     SETTINGS
@@ -93,7 +93,7 @@ pub extern "C" fn relay_datagram_seal(
     }
     if is_session(session) {
         let sender = session_in(session);
-        let done = datagram::seal(method, key, sender, clock, address, padding, payload, out);
+        let done = datagram_seal::seal(method, key, sender, clock, address, padding, payload, out);
         let sealed = done.answer;
         let next = done.sender;
         return match sealed {
@@ -111,7 +111,7 @@ pub extern "C" fn relay_datagram_seal(
 // ---- opening
 
 // Gives an opened datagram's header to the caller.
-fn tell(opened: Opened, answer: &mut [u64]) -> u64
+fn write_opened(opened: Opened, answer: &mut [u64]) -> u64
     requires { ⌜ length (now answer) ≡ answerWords ⌝ }
     ensures { λ r. ⌜ r ≡ openedNumber (answerOf opened) ⌝ }
     ensures { λ r. ⌜ now (answer .exit) ≡ openedWords (answerOf opened) (now (answer .entry)) ⌝ }
@@ -153,7 +153,7 @@ pub extern "C" fn relay_datagram_open_server(
         port,
     };
     let opened = datagram_open::open_server(method, key, clock, caller, datagram, table, out);
-    tell(opened, answer)
+    write_opened(opened, answer)
 }
 
 // Opens a server's datagram, for the client of a session ID, into the lent buffer.
@@ -193,5 +193,5 @@ pub extern "C" fn relay_datagram_open_client(
         table,
         out,
     );
-    tell(opened, answer)
+    write_opened(opened, answer)
 }

@@ -1,10 +1,10 @@
 // Salt pools and streams.
 use super::SETTINGS;
 use protocol::Refusal;
-use stream_answers::tell_request;
-use stream_answers::tell_response;
-use stream_answers::tell_sealed;
-use stream_answers::tell_step;
+use stream_answers::write_request;
+use stream_answers::write_response;
+use stream_answers::write_sealed;
+use stream_answers::write_step;
 use words::ANSWER;
 use words::ENDED;
 use words::SEALING;
@@ -13,7 +13,7 @@ use words::is_receiver;
 use words::receiver_in;
 use words::sender_in;
 ghost use mathlib.Core.Path.{_≡_};
-ghost use Rattle.pool.specs.Pool.{makeLawful, made};
+ghost use Rattle.salt_pool.specs.Pool.{makeLawful, made};
 ghost use Rattle.relay.specs.Datagrams.{settingsNumber};
 ghost use Rattle.relay.specs.Streams.{fits as fitsOf, notSealing, sealsRequest, sealsResponse, sealsChunk};
 ghost use Rattle.relay.specs.Streams.{opensRequest, opensResponse, opensChunk};
@@ -24,7 +24,7 @@ pub extern "C" fn relay_pool_new(method: u64, pool: &mut [u64]) -> u64
     ensures { λ r. ⌜ r ≡ settingsNumber (makeLawful method (now (pool .entry))) ⌝ }
     ensures { λ r. ⌜ now (pool .exit) ≡ made method (now (pool .entry)) ⌝ }
 {
-    if pool::make(method, pool) {
+    if salt_pool::make(method, pool) {
         return 0;
     }
     SETTINGS
@@ -61,7 +61,7 @@ pub extern "C" fn relay_stream_seal_request(
         (now (payload .entry)) (now (out .entry)) (now (stream .entry)) (now (answer .entry)) ⌝ }
 {
     if fits(stream.len(), answer.len()) {
-        let sealed = head_seal::seal_request(
+        let sealed = stream_seal_heads::seal_request(
             method,
             key,
             salt,
@@ -71,7 +71,7 @@ pub extern "C" fn relay_stream_seal_request(
             payload,
             out,
         );
-        return tell_sealed(sealed, stream, answer);
+        return write_sealed(sealed, stream, answer);
     }
     SETTINGS
 }
@@ -94,8 +94,16 @@ pub extern "C" fn relay_stream_seal_response(
         (now (payload .entry)) (now (out .entry)) (now (stream .entry)) (now (answer .entry)) ⌝ }
 {
     if fits(stream.len(), answer.len()) {
-        let sealed = head_seal::seal_response(method, key, salt, request_salt, clock, payload, out);
-        return tell_sealed(sealed, stream, answer);
+        let sealed = stream_seal_heads::seal_response(
+            method,
+            key,
+            salt,
+            request_salt,
+            clock,
+            payload,
+            out,
+        );
+        return write_sealed(sealed, stream, answer);
     }
     SETTINGS
 }
@@ -126,8 +134,8 @@ pub extern "C" fn relay_stream_seal_chunk(
 {
     if fits(stream.len(), answer.len()) {
         if stream[0] == SEALING {
-            let sealed = stream::seal_chunk(sender_in(stream), payload, out);
-            return tell_sealed(sealed, stream, answer);
+            let sealed = stream_seal::seal_chunk(sender_in(stream), payload, out);
+            return write_sealed(sealed, stream, answer);
         }
         let refusal = not_sealing(stream[0], stream[1]);
         return refusal.number();
@@ -160,8 +168,8 @@ pub extern "C" fn relay_stream_open_request(
         (now (stream .entry)) (now (answer .entry)) ⌝ }
 {
     if fits(stream.len(), answer.len()) {
-        let opened = request_open::open_request(method, key, clock, bytes, pool, out);
-        return tell_request(opened, stream, answer);
+        let opened = stream_open_request::open_request(method, key, clock, bytes, pool, out);
+        return write_request(opened, stream, answer);
     }
     SETTINGS
 }
@@ -182,8 +190,8 @@ pub extern "C" fn relay_stream_open_response(
         (now (stream .entry)) (now (answer .entry)) ⌝ }
 {
     if fits(stream.len(), answer.len()) {
-        let opened = response_open::open_response(method, key, clock, request_salt, bytes);
-        return tell_response(opened, stream, answer);
+        let opened = stream_open_response::open_response(method, key, clock, request_salt, bytes);
+        return write_response(opened, stream, answer);
     }
     SETTINGS
 }
@@ -206,7 +214,7 @@ pub extern "C" fn relay_stream_open_chunk(
     }
     if is_receiver(stream) {
         let step = stream_open::open_chunk(receiver_in(stream), bytes, out);
-        return tell_step(step, stream, answer);
+        return write_step(step, stream, answer);
     }
     SETTINGS
 }

@@ -6,7 +6,7 @@ use mathlib.Core.Path.{_≡_, refl, sym, ap, _∙_}
 use lib.Dec.{ltb}
 use borrow.Author.Tests.{lt-ltb, le-ltb, ltb-true}
 use Rattle.session_record.specs.declared.Peer.{Peer}
-use Rattle.window.specs.Window.{window, bit}
+use Rattle.session_window.specs.Window.{window, bit}
 use Rattle.session_record.specs.Record.{Record, freshIn, markedWith, acceptIn}
 
 both : (a b : Bool) → (a && not b) ≡ true → (a ≡ true) × (b ≡ false)

@@ -3,7 +3,7 @@ use Prim.Native.Nat.{ℕ, _+_, _-_, _*_, _%_, _^_, max}
 use mathlib.Core.Bool.{Bool, cond, not, _&&_, _||_}
 use lib.Dec.{ltb}
 use lib.ListN.{getD}
-use Rattle.window.specs.Window.{window, bit, join4}
+use Rattle.session_window.specs.Window.{window, bit, join4}
 use Rattle.session_record.specs.declared.Peer.{Peer}
 use Rattle.session_record.specs.declared.Session.{Session}
 

@@ -1,8 +1,8 @@
 // One session by value: what is fresh in it, and what it is after it accepted a packet ID.
-use window::WINDOW;
-use window::is_marked;
-use window::moved;
-use window::with_mark;
+use session_window::WINDOW;
+use session_window::is_marked;
+use session_window::shifted;
+use session_window::with_mark;
 ghost use mathlib.Core.Path.{_≡_};
 ghost use mathlib.Core.Bool.{true};
 ghost use Prim.Native.Nat.{max};
@@ -55,7 +55,7 @@ pub fn accept(s: Session, p: u64, clock: u64, peer: Peer) -> Session
     let m = s.marks;
     let last = larger(s.last, clock);
     if h < p {
-        let up = moved(m, p - h);
+        let up = shifted(m, p - h);
         return Session {
             used: s.used,
             id: s.id,

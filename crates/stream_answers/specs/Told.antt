@@ -6,12 +6,12 @@ use lib.Dec.{eqb}
 use lib.ListN.{set}
 use lib.Seq.{sets}
 use Rattle.protocol.specs.Refusal.{refusalNumber}
-use Rattle.stream.specs.declared.Sealed.{Sealed}
-use Rattle.stream.specs.declared.Sealed.the-variants.{Bytes, Refused}
-use Rattle.request_open.specs.declared.RequestOpened.{RequestOpened}
-use Rattle.request_open.specs.declared.RequestOpened.the-variants.{Accepted as RequestAccepted, Refused as RequestRefused}
-use Rattle.response_open.specs.declared.ResponseOpened.{ResponseOpened}
-use Rattle.response_open.specs.declared.ResponseOpened.the-variants.{Accepted as ResponseAccepted, Refused as ResponseRefused}
+use Rattle.stream_seal.specs.declared.Sealed.{Sealed}
+use Rattle.stream_seal.specs.declared.Sealed.the-variants.{Bytes, Refused}
+use Rattle.stream_open_request.specs.declared.RequestOpened.{RequestOpened}
+use Rattle.stream_open_request.specs.declared.RequestOpened.the-variants.{Accepted as RequestAccepted, Refused as RequestRefused}
+use Rattle.stream_open_response.specs.declared.ResponseOpened.{ResponseOpened}
+use Rattle.stream_open_response.specs.declared.ResponseOpened.the-variants.{Accepted as ResponseAccepted, Refused as ResponseRefused}
 use Rattle.stream_open.specs.declared.Receiver.{Receiver}
 use Rattle.stream_open.specs.declared.Stepped.{Stepped}
 use Rattle.stream_open.specs.declared.Stepped.the-variants.{Opened, Refused as StepRefused}

@@ -1,11 +1,11 @@
 // What a call about a stream answers, told in words that a host lends: the stream as it is then, and an answer. Each function gives
 // 0 or the number of a refusal.
-use request_open::RequestOpened;
-use response_open::ResponseOpened;
-use stream::Sealed;
 use stream_open::Chunk;
 use stream_open::Step;
 use stream_open::Stepped;
+use stream_open_request::RequestOpened;
+use stream_open_response::ResponseOpened;
+use stream_seal::Sealed;
 use words::ENDED;
 use words::chunk_words;
 use words::receiver_words;
@@ -19,7 +19,7 @@ ghost use Rattle.words.specs.States.{streamSize};
 ghost use Rattle.stream_answers.specs.Told as told;
 
 // Gives the stream and the number of bytes sealed to the caller.
-pub fn tell_sealed(sealed: Sealed, stream: &mut [u64], answer: &mut [u64]) -> u64
+pub fn write_sealed(sealed: Sealed, stream: &mut [u64], answer: &mut [u64]) -> u64
     requires { ⌜ length (now stream) ≡ streamSize ⌝ }
     requires { ⌜ length (now answer) ≡ answerWords ⌝ }
     ensures { λ r. ⌜ r ≡ told.sealedNumber sealed ⌝ }
@@ -38,7 +38,7 @@ pub fn tell_sealed(sealed: Sealed, stream: &mut [u64], answer: &mut [u64]) -> u6
 }
 
 // Gives the header and the stream to the caller.
-pub fn tell_request(opened: RequestOpened, stream: &mut [u64], answer: &mut [u64]) -> u64
+pub fn write_request(opened: RequestOpened, stream: &mut [u64], answer: &mut [u64]) -> u64
     requires { ⌜ length (now stream) ≡ streamSize ⌝ }
     requires { ⌜ length (now answer) ≡ answerWords ⌝ }
     ensures { λ r. ⌜ r ≡ told.requestNumber opened ⌝ }
@@ -58,7 +58,7 @@ pub fn tell_request(opened: RequestOpened, stream: &mut [u64], answer: &mut [u64
 }
 
 // Gives the counts and the stream to the caller.
-pub fn tell_response(opened: ResponseOpened, stream: &mut [u64], answer: &mut [u64]) -> u64
+pub fn write_response(opened: ResponseOpened, stream: &mut [u64], answer: &mut [u64]) -> u64
     requires { ⌜ length (now stream) ≡ streamSize ⌝ }
     requires { ⌜ length (now answer) ≡ answerWords ⌝ }
     ensures { λ r. ⌜ r ≡ told.responseNumber opened ⌝ }
@@ -81,7 +81,7 @@ pub fn tell_response(opened: ResponseOpened, stream: &mut [u64], answer: &mut [u
 }
 
 // Gives the counts and the stream to the caller. A refusal writes no word of the stream, but 4 ends it.
-pub fn tell_step(step: Step, stream: &mut [u64], answer: &mut [u64]) -> u64
+pub fn write_step(step: Step, stream: &mut [u64], answer: &mut [u64]) -> u64
     requires { ⌜ length (now stream) ≡ streamSize ⌝ }
     requires { ⌜ length (now answer) ≡ answerWords ⌝ }
     ensures { λ r. ⌜ r ≡ told.steppedNumber (step .answer) ⌝ }

@@ -16,9 +16,8 @@ use Rattle.protocol.specs.declared.Refusal.{Refusal}
 use Rattle.protocol.specs.declared.Refusal.the-variants.{Settings, Room, NotAuthentic, More, Counter}
 use Rattle.protocol.specs.Method.{keyLength}
 use Rattle.protocol.specs.Refusal.{refusalNumber}
-use Rattle.stream.specs.Pieces.{authenticAt, openAt, keyOf}
-use Rattle.stream.specs.Sealing.{lastCounter}
-use Rattle.stream.proofs.LengthLaws.{length-openAt}
+use Rattle.stream_pieces.specs.Pieces.{authenticAt, openAt, keyOf, lastCounter}
+use Rattle.stream_pieces.proofs.LengthLaws.{length-openAt}
 use Rattle.stream_open.specs.declared.Turn.{Turn}
 use Rattle.stream_open.specs.declared.Turn.the-variants.{Length, Payload, Ended}
 use Rattle.stream_open.specs.declared.Receiver.{Receiver}

@@ -10,18 +10,21 @@ use Rattle.protocol.specs.declared.Refusal.{Refusal}
 use Rattle.protocol.specs.declared.Refusal.the-variants.{Settings, Room, NotAuthentic, More, Counter}
 use Rattle.protocol.specs.Method.{keyLength}
 use Rattle.protocol.specs.Refusal.{refusalNumber}
-use Rattle.stream.specs.Pieces.{tagLength, lengthPiece, authenticAt, openAt, keyOf}
-use Rattle.stream.specs.Sealing.{lastCounter}
+use Rattle.stream_pieces.specs.declared.Subkey.{Subkey}
+use Rattle.stream_pieces.specs.Pieces.{tagLength, lengthPiece, authenticAt, openAt, keyOf, lastCounter}
 use Rattle.stream_open.specs.declared.Turn.{Turn}
 use Rattle.stream_open.specs.declared.Turn.the-variants.{Length, Payload, Ended}
 use Rattle.stream_open.specs.declared.Receiver.{Receiver}
-use Rattle.stream_open.specs.declared.Chunk.{Chunk}
 use Rattle.stream_open.specs.declared.Stepped.{Stepped}
 use Rattle.stream_open.specs.declared.Stepped.the-variants.{Opened, Refused}
 
 -- the key of a stream, by its method
 abbrev pub streamKey : Receiver → List ℕ
 streamKey st = keyOf (st .subkey) (keyLength (st .method))
+
+-- the state of a stream that was begun by a head
+abbrev pub receiver : ℕ → Turn → ℕ → Subkey → Receiver
+receiver method turn counter w = record { method = method; turn = turn; counter = counter; subkey = w }
 
 -- ---- one piece of n bytes of plaintext: 11, 10, 3, 4; a length asks for no room
 

@@ -1,17 +1,17 @@
 // Opening a stream of SIP022, section 3.1, behind its head: its state, and one piece a step, a length and its payload by turns.
 use protocol::Refusal;
-use stream::LAST_COUNTER;
-use stream::LENGTH_PIECE;
-use stream::Subkey;
-use stream::TAG;
-use stream::open_piece;
+use stream_pieces::LAST_COUNTER;
+use stream_pieces::LENGTH_PIECE;
+use stream_pieces::Subkey;
+use stream_pieces::TAG;
+use stream_pieces::open_piece;
 ghost use mathlib.Core.Path.{_≡_};
 ghost use Prim.Native.Nat.{_+_, _<_};
 ghost use lib.ListN.{length, take};
 ghost use Rattle.aes.specs.Keyed.{nkOf};
 ghost use Rattle.protocol.specs.Method.{keyLength};
-ghost use Rattle.stream.specs.Pieces.{tagLength, openAt};
-ghost use Rattle.stream.specs.Sealing.{lastCounter};
+ghost use Rattle.stream_pieces.specs.Pieces.{tagLength, openAt};
+ghost use Rattle.stream_pieces.specs.Pieces.{lastCounter};
 ghost use Rattle.stream_open.specs.declared.Turn.the-variants.{Length, Payload};
 ghost use Rattle.stream_open.specs.Chunks.{streamKey, turnAnswer, writtenBy, stepAnswer, stepOut, turnAfter, advances, refusedNext, stepNext};
 

@@ -9,12 +9,12 @@ use crate::case::number;
 use crate::case::size;
 use crate::memory::put;
 use crate::memory::set;
-use datagram::Begun;
-use datagram::Sealed;
-use datagram::Sealing;
-use datagram::Sender;
 use datagram_open::Opened;
-use session::Peer;
+use datagram_seal::Begun;
+use datagram_seal::Sealed;
+use datagram_seal::Sealing;
+use datagram_seal::Sender;
+use session_table::Peer;
 
 // The kinds of calls.
 const SEAL: u64 = 16;
@@ -56,7 +56,7 @@ fn sender(c: &[u8]) -> Sender {
 }
 
 fn seal(c: &[u8], out: &mut [u8]) -> Sealing {
-    datagram::seal(
+    datagram_seal::seal(
         number(c, METHOD),
         field(c, KEY),
         sender(c),
@@ -69,7 +69,7 @@ fn seal(c: &[u8], out: &mut [u8]) -> Sealing {
 }
 
 // The datagram's length, and the sending session.
-fn tell_sealing(done: Sealing, answer: &mut [u64]) -> u64 {
+fn write_sealing(done: Sealing, answer: &mut [u64]) -> u64 {
     let next = done.sender;
     let sealed = done.answer;
     put(answer, 1, &words::session_words(next));
@@ -101,7 +101,7 @@ fn begin(c: &[u8], answer: &mut [u64]) -> u64 {
 }
 
 fn make(c: &[u8], table: &mut [u64]) -> u64 {
-    if session::make(number(c, RETENTION), table) {
+    if session_table::make(number(c, RETENTION), table) {
         return 0;
     }
     1
@@ -141,7 +141,7 @@ fn open_client(c: &[u8], table: &mut [u64], out: &mut [u8]) -> Opened {
 }
 
 // The header.
-fn tell(opened: Opened, answer: &mut [u64]) -> u64 {
+fn write_opened(opened: Opened, answer: &mut [u64]) -> u64 {
     match opened {
         Opened::Datagram(h) => {
             put(answer, 0, &words::header_words(h));
@@ -159,7 +159,7 @@ pub(crate) fn call(
     answer: &mut [u64],
 ) -> u64 {
     if kind == SEAL {
-        return tell_sealing(seal(c, out), answer);
+        return write_sealing(seal(c, out), answer);
     }
     if kind == BEGIN {
         return begin(c, answer);
@@ -168,7 +168,7 @@ pub(crate) fn call(
         return make(c, table);
     }
     if kind == OPEN_SERVER {
-        return tell(open_server(c, table, out), answer);
+        return write_opened(open_server(c, table, out), answer);
     }
-    tell(open_client(c, table, out), answer)
+    write_opened(open_client(c, table, out), answer)
 }

@@ -10,13 +10,13 @@ use crate::case::field;
 use crate::case::number;
 use crate::case::size;
 use crate::memory::set;
-use request_open::RequestOpened;
-use response_open::ResponseOpened;
-use stream::Sealed;
-use stream_answers::tell_request;
-use stream_answers::tell_response;
-use stream_answers::tell_sealed;
-use stream_answers::tell_step;
+use stream_answers::write_request;
+use stream_answers::write_response;
+use stream_answers::write_sealed;
+use stream_answers::write_step;
+use stream_open_request::RequestOpened;
+use stream_open_response::ResponseOpened;
+use stream_seal::Sealed;
 ghost use mathlib.Core.Path.{_≡_};
 ghost use lib.ListN.{length};
 
@@ -40,7 +40,7 @@ const PADDING: usize = 80;
 const TIME: usize = 8;
 
 fn seal_request(c: &[u8], out: &mut [u8]) -> Sealed {
-    head_seal::seal_request(
+    stream_seal_heads::seal_request(
         number(c, METHOD),
         field(c, KEY),
         field(c, SALT),
@@ -53,7 +53,7 @@ fn seal_request(c: &[u8], out: &mut [u8]) -> Sealed {
 }
 
 fn seal_response(c: &[u8], out: &mut [u8]) -> Sealed {
-    head_seal::seal_response(
+    stream_seal_heads::seal_response(
         number(c, METHOD),
         field(c, KEY),
         field(c, SALT),
@@ -73,11 +73,11 @@ fn seal(c: &[u8], kind: u64, stream: &[u64], out: &mut [u8]) -> Sealed
     if kind == SEAL_RESPONSE {
         return seal_response(c, out);
     }
-    stream::seal_chunk(words::sender_in(stream), field(c, DATA), out)
+    stream_seal::seal_chunk(words::sender_in(stream), field(c, DATA), out)
 }
 
 fn open_request(c: &[u8], pool: &mut [u64], out: &mut [u8]) -> RequestOpened {
-    request_open::open_request(
+    stream_open_request::open_request(
         number(c, METHOD),
         field(c, KEY),
         number(c, CLOCK),
@@ -94,12 +94,12 @@ fn request_time(opened: RequestOpened) -> u64 {
     }
 }
 
-fn tell_opened(opened: RequestOpened, stream: &mut [u64], answer: &mut [u64]) -> u64
+fn write_opened(opened: RequestOpened, stream: &mut [u64], answer: &mut [u64]) -> u64
     requires { ⌜ length (now stream) ≡ 8 ⌝ }
     requires { ⌜ length (now answer) ≡ 9 ⌝ }
 {
     set(answer, TIME, request_time(opened));
-    tell_request(opened, stream, answer)
+    write_request(opened, stream, answer)
 }
 
 fn response_time(opened: ResponseOpened) -> u64 {
@@ -113,7 +113,7 @@ fn open_response(c: &[u8], stream: &mut [u64], answer: &mut [u64]) -> u64
     requires { ⌜ length (now stream) ≡ 8 ⌝ }
     requires { ⌜ length (now answer) ≡ 9 ⌝ }
 {
-    let opened = response_open::open_response(
+    let opened = stream_open_response::open_response(
         number(c, METHOD),
         field(c, KEY),
         number(c, CLOCK),
@@ -121,7 +121,7 @@ fn open_response(c: &[u8], stream: &mut [u64], answer: &mut [u64]) -> u64
         field(c, DATA),
     );
     set(answer, TIME, response_time(opened));
-    tell_response(opened, stream, answer)
+    write_response(opened, stream, answer)
 }
 
 fn open_chunk(c: &[u8], out: &mut [u8], stream: &mut [u64], answer: &mut [u64]) -> u64
@@ -129,11 +129,11 @@ fn open_chunk(c: &[u8], out: &mut [u8], stream: &mut [u64], answer: &mut [u64]) 
     requires { ⌜ length (now answer) ≡ 9 ⌝ }
 {
     let step = stream_open::open_chunk(words::receiver_in(stream), field(c, DATA), out);
-    tell_step(step, stream, answer)
+    write_step(step, stream, answer)
 }
 
 fn make(c: &[u8], pool: &mut [u64]) -> u64 {
-    if pool::make(number(c, METHOD), pool) {
+    if salt_pool::make(number(c, METHOD), pool) {
         return 0;
     }
     1
@@ -151,10 +151,10 @@ pub(crate) fn call(
     requires { ⌜ length (now answer) ≡ 9 ⌝ }
 {
     if kind <= SEAL_CHUNK {
-        return tell_sealed(seal(c, kind, stream, out), stream, answer);
+        return write_sealed(seal(c, kind, stream, out), stream, answer);
     }
     if kind == OPEN_REQUEST {
-        return tell_opened(open_request(c, pool, out), stream, answer);
+        return write_opened(open_request(c, pool, out), stream, answer);
     }
     if kind == OPEN_RESPONSE {
         return open_response(c, stream, answer);

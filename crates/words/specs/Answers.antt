@@ -9,7 +9,7 @@ use Rattle.protocol.specs.Refusal.{refusalNumber, wantedBytes}
 use Rattle.socks5.specs.declared.Target.{Target}
 use Rattle.socks5.specs.declared.Target.the-variants.{V4, V6, Name}
 use Rattle.datagram_read.specs.declared.Header.{Header}
-use Rattle.request_open.specs.declared.Request.{Request}
+use Rattle.stream_open_request.specs.declared.Request.{Request}
 use Rattle.stream_open.specs.declared.Chunk.{Chunk}
 
 -- a lent answer has so many words

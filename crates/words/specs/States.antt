@@ -6,10 +6,10 @@ use lib.Dec.{eqb, leb}
 use lib.ListN.{length, getD}
 use Rattle.datagram_parts.specs.declared.Side.{Side}
 use Rattle.datagram_parts.specs.declared.Side.the-variants.{Client, Server}
-use Rattle.datagram.specs.declared.Sender.{Sender as Session}
-use Rattle.stream.specs.Sealing.{maxChunk}
-use Rattle.stream.specs.declared.Subkey.{Subkey}
-use Rattle.stream.specs.declared.Sender.{Sender}
+use Rattle.datagram_seal.specs.declared.Sender.{Sender as Session}
+use Rattle.stream_pieces.specs.Pieces.{maxChunk}
+use Rattle.stream_pieces.specs.declared.Subkey.{Subkey}
+use Rattle.stream_seal.specs.declared.Sender.{Sender}
 use Rattle.stream_open.specs.declared.Turn.{Turn}
 use Rattle.stream_open.specs.declared.Turn.the-variants.{Length, Payload, Ended}
 use Rattle.stream_open.specs.declared.Receiver.{Receiver}

@@ -1,9 +1,9 @@
 // What is written into a lent answer.
 use datagram_read::Header;
 use protocol::Refusal;
-use request_open::Request;
 use socks5::Target;
 use stream_open::Chunk;
+use stream_open_request::Request;
 ghost use mathlib.Core.Path.{_≡_};
 ghost use lib.ListN.{length};
 ghost use Rattle.words.specs.Answers.{answerWords, kindOf, firstOf, secondOf, headerWords, requestWords, chunkWords, refusedAnswer};

@@ -7,9 +7,9 @@ use super::SEALING;
 use super::SESSION;
 use super::STREAM;
 use datagram_parts::Side;
-use stream::Subkey;
 use stream_open::Receiver;
 use stream_open::Turn;
+use stream_pieces::Subkey;
 ghost use mathlib.Core.Path.{_≡_};
 ghost use lib.ListN.{length};
 ghost use Rattle.words.specs.States.{sessionSize, streamSize, sessionLawful, sideIn, sessionIn, sessionWords, receiverLawful, turnIn, receiverIn, receiverWords, subkeyIn, senderIn, senderWords, turnNumber, turnLength};
@@ -42,18 +42,18 @@ fn side_of(side: u64, client: u64) -> Side
     Side::Server(client)
 }
 
-pub fn session_in(words: &[u64]) -> datagram::Sender
+pub fn session_in(words: &[u64]) -> datagram_seal::Sender
     requires { ⌜ length (now words) ≡ sessionSize ⌝ }
     ensures { λ r. ⌜ r ≡ sessionIn (now (words .entry)) ⌝ }
 {
-    datagram::Sender {
+    datagram_seal::Sender {
         side: side_of(words[0], words[2]),
         id: words[1],
         packet: words[3],
     }
 }
 
-pub fn session_words(s: datagram::Sender) -> [u64; 4]
+pub fn session_words(s: datagram_seal::Sender) -> [u64; 4]
     ensures { λ r. ⌜ r ≡ sessionWords s ⌝ }
 {
     let side = s.side;
@@ -78,18 +78,18 @@ fn subkey_in(words: &[u64]) -> Subkey
 }
 
 // A stream that seals.
-pub fn sender_in(words: &[u64]) -> stream::Sender
+pub fn sender_in(words: &[u64]) -> stream_seal::Sender
     requires { ⌜ length (now words) ≡ streamSize ⌝ }
     ensures { λ r. ⌜ r ≡ senderIn (now (words .entry)) ⌝ }
 {
-    stream::Sender {
+    stream_seal::Sender {
         method: words[1],
         counter: words[2],
         subkey: subkey_in(words),
     }
 }
 
-pub fn sender_words(s: stream::Sender) -> [u64; 8]
+pub fn sender_words(s: stream_seal::Sender) -> [u64; 8]
     ensures { λ r. ⌜ r ≡ senderWords s ⌝ }
 {
     let w = s.subkey;

@@ -1,8 +1,7 @@
-use mathlib.Core.List.{List}
 use mathlib.Core.Path.{sym, ap, _∙_}
 use borrow.Author.Needs.{needs}
-use Rattle.stream.specs.declared.Sealed.{Sealed}
-use Rattle.stream.specs.Sealing.{chunk, senderKey, sealOut}
+use Rattle.stream_seal.specs.declared.Sealed.{Sealed}
+use Rattle.stream_seal.specs.Sealing.{chunk, senderKey, sealOut}
 use Rattle.bench.specs.Answer.{subkeyIn, firstSender, chunkNumber}
 use Rattle.bench.proofs.bench_chunk_seal.Statement.{statement}
 use Rattle.bench.proofs.bench_chunk_seal.Tie as tie

@@ -1,8 +1,8 @@
 use mathlib.Core.Path.{_≡_, sym, ap, _∙_}
 use borrow.Author.Needs.{needs}
 use lib.ListN.{length}
-use Rattle.datagram.specs.declared.Sender.{Sender}
-use Rattle.datagram.specs.Sealing.{clientSender, sealAnswer, datagram, sealOut}
+use Rattle.datagram_seal.specs.declared.Sender.{Sender}
+use Rattle.datagram_seal.specs.Sealing.{clientSender, sealAnswer, datagram, sealOut}
 use Rattle.bench.specs.Answer.{sealedNumber}
 use Rattle.bench.proofs.bench_datagram_seal.Statement.{statement}
 use Rattle.bench.proofs.bench_datagram_seal.Tie as tie

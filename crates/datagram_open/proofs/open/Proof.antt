@@ -2,7 +2,7 @@ use mathlib.Core.Path.{_≡_, sym, ap, _∙_}
 use mathlib.Core.Bool.{true}
 use native.Mathlib.Omega.{arith}
 use borrow.Author.Needs.{needs}
-use Rattle.session.specs.Table.{lawful}
+use Rattle.session_table.specs.Table.{lawful}
 use Rattle.datagram_open.specs.Deciding.{answerOf}
 use Rattle.datagram_read.proofs.ReadLaws.{Opens, answer-tells, opens-long, opens-room}
 use Rattle.datagram_open.proofs.CallLaws.{table-length, unlawful-call, refused-call, entered-call}
@@ -19,11 +19,11 @@ opens : (c : tie.After-read) → let a = c .before .before .before .before .befo
 opens c =
     answer-tells _ _ _ _ _ _ _ (sym (c .before .before .before .before .read-datagram .ensures .0) ∙ c .read .given .1)
 
-sub-enter : tie.Need-sub-enter
-sub-enter c = opens-long _ _ _ _ _ _ _ (opens (c .before))
+sub-take-to-session : tie.Need-sub-take-to-session
+sub-take-to-session c = opens-long _ _ _ _ _ _ _ (opens (c .before))
 
-enter-requires : tie.Need-enter-requires
-enter-requires c κs =
+take-to-session-requires : tie.Need-take-to-session-requires
+take-to-session-requires c κs =
     let g = c .before .before .before in
     let r = g .before .before .before .before in
     let a = r .before .before .before .before .before .before .before .before .before .args in
@@ -41,7 +41,7 @@ returns-2 c =
     let g = e .before .before .before .before in
     let r = g .before .before .before .before in
     let a = r .before .before .before .before .before .before .before .before .before .args in
-    let q = e .enter .ensures in
+    let q = e .take-to-session .ensures in
     let m =
     entered-call (a .method) (a .key .now) (a .side) (a .clock) (a .peer) (a .s .now) (a .table .now) (a .out .now) (is-lawful (r .before .before)) _
     (r .read-datagram .ensures .1) (g .read .given .0 .0) (sym (r .read-datagram .ensures .0) ∙ g .read .given .1) _ _ (q .1 .1) (q .1 .0) in
@@ -61,8 +61,8 @@ open-spec =
     (λ c κs. search needs)
     (λ c. search needs)
     (λ c. search needs)
-    sub-enter
-    enter-requires
+    sub-take-to-session
+    take-to-session-requires
     (λ c. search needs)
     (λ c. search needs)
     returns

@@ -23,7 +23,7 @@ returns c =
     let o = t .before .before .before in
     let q = o .before .before .before .before .before .before .pre in
     read-opened _ _ _ _ _ _ _ _ _ (o .open-body .ensures .0) (o .open-body .ensures .1) (q .1 .1 .1 .0) (t .if1 .taken) _ _ _ _ (i .read-u64-be .ensures)
-    (p .read-u64-be2 .ensures) (m .read-main .ensures) (s .settle .ensures)
+    (p .read-u64-be2 .ensures) (m .read-main .ensures) (s .clear-refused .ensures)
 
 returns-2 : tie.Need-returns-2
 returns-2 c =

@@ -2,7 +2,7 @@
 use native.Mathlib.Nat.{max-eq-left, max-eq-right, le-of-lt}
 use mathlib.Core.Path.{sym, _∙_}
 use Rattle.session_record.specs.Record.{recordOf}
-use Rattle.window.specs.Window.{number}
+use Rattle.session_window.specs.Window.{number}
 use Rattle.session_record.proofs.WindowLaws.{fresh-below, marked-above, marked-below, accepts}
 use borrow.Author.Needs.{needs}
 use Rattle.session_record.proofs.accept.Statement.{statement}
@@ -16,7 +16,7 @@ returns c =
     let r = recordOf (a .s) in
     accepts r (a .clock) (a .p) (a .peer) _ _ _
     (sym (max-eq-right (le-of-lt (c .before .if1 .taken)))) (b .larger .ensures)
-    (c .moved .ensures ∙ sym (marked-above (r .marks) (r .h) (a .p) (c .before .if1 .taken)))
+    (c .shifted .ensures ∙ sym (marked-above (r .marks) (r .h) (a .p) (c .before .if1 .taken)))
 
 with-mark-requires : tie.Need-with-mark-requires
 unfolding number

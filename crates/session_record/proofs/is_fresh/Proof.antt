@@ -3,7 +3,7 @@ use native.Mathlib.Omega.{arith}
 use mathlib.Core.Bool.{not}
 use mathlib.Core.Path.{sym, ap, _∙_}
 use Rattle.session_record.specs.Record.{recordOf}
-use Rattle.window.specs.Window.{number}
+use Rattle.session_window.specs.Window.{number}
 use Rattle.session_record.proofs.WindowLaws.{fresh-above, fresh-within, fresh-behind}
 use borrow.Author.Needs.{needs}
 use Rattle.session_record.proofs.is_fresh.Statement.{statement}

@@ -2,7 +2,7 @@ use mathlib.Core.Path.{sym, _∙_, subst}
 use Prim.Native.Nat.{ℕ, _<_}
 use borrow.Author.Needs.{needs}
 use Rattle.aes.specs.Keyed.{nkOf}
-use Rattle.stream.proofs.KeyLaws.{key-of-length}
+use Rattle.stream_pieces.proofs.KeyLaws.{key-of-length}
 use Rattle.stream_open.proofs.ChunkLaws.{step-settings, step-length, step-payload, step-ended}
 use Rattle.stream_open.proofs.open_turn.Statement.{statement}
 use Rattle.stream_open.proofs.open_turn.Tie as tie

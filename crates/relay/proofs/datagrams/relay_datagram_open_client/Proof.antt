@@ -20,7 +20,7 @@ returns-2 c =
     let a = e .before .before .before .before .before .before .args in
     told (a .method) (a .key .now) (some (a .client)) (a .clock) (callerOf (a .first) (a .second) (a .port)) (a .datagram .now) (a .table .now) (a .out .now)
     (a .answer .now) (o .open-client .result) _ _ _ _ (e .if1 .left) (o .open-client .ensures .0) (o .open-client .ensures .1 .0) (o .open-client .ensures .1 .1)
-    (t .tell .ensures .0) (t .tell .ensures .1)
+    (t .write-opened .ensures .0) (t .write-opened .ensures .1)
 
 pub relay-datagram-open-client-spec : {M : Type 1} → statement M
 relay-datagram-open-client-spec = tie.close (tie.spec returns (λ c κs. search needs) (λ c κs. search needs) (λ c. search needs) (λ c. search needs) (λ c. search needs) returns-2)

@@ -4,8 +4,8 @@ use mathlib.Core.Path.{_≡_, sym, ap, _∙_}
 use Prim.Native.Nat.{_+_}
 use lib.Dec.{leb}
 use lib.ListN.{length, getD}
-use Rattle.datagram.specs.declared.Sender.{Sender}
-use Rattle.datagram.specs.Sealing.{datagram, sealAnswer, sealOut, packetsOf}
+use Rattle.datagram_seal.specs.declared.Sender.{Sender}
+use Rattle.datagram_seal.specs.Sealing.{datagram, sealAnswer, sealOut, packetsOf}
 use Rattle.words.specs.States.{sessionSize, sessionIn}
 use Rattle.words.proofs.LentLaws.{its-size}
 use Rattle.relay.proofs.DatagramLaws.{no-answer, no-session, a-datagram, a-refusal}

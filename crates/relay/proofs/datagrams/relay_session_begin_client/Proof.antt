@@ -1,6 +1,6 @@
 use mathlib.Core.Path.{ap, _∙_}
-use Rattle.datagram.specs.declared.Sender.{Sender}
-use Rattle.datagram.specs.declared.Begun.the-variants.{Ready}
+use Rattle.datagram_seal.specs.declared.Sender.{Sender}
+use Rattle.datagram_seal.specs.declared.Begun.the-variants.{Ready}
 use Rattle.relay.specs.Datagrams.{begins}
 use borrow.Author.Needs.{needs}
 use Rattle.relay.proofs.datagrams.relay_session_begin_client.Statement.{statement}

@@ -1,5 +1,5 @@
 use mathlib.Core.Path.{ap, _∙_}
-use Rattle.datagram.specs.declared.Begun.{Begun}
+use Rattle.datagram_seal.specs.declared.Begun.{Begun}
 use Rattle.relay.specs.Datagrams.{begins}
 use borrow.Author.Needs.{needs}
 use Rattle.relay.proofs.datagrams.relay_session_begin_server.Statement.{statement}

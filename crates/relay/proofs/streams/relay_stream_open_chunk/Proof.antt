@@ -22,8 +22,8 @@ stream-size c =
 receiver-in-requires : tie.Need-receiver-in-requires
 receiver-in-requires c κs = stream-size (c .before)
 
-tell-step-requires : tie.Need-tell-step-requires
-tell-step-requires c κs =
+write-step-requires : tie.Need-write-step-requires
+write-step-requires c κs =
     let t = c .before .before .before .before .before .before .before .before in
     (stream-size t, t .before .before .before .if1 .left)
 
@@ -38,7 +38,7 @@ returns-2 c =
     let a = e .before .before .before .before .before .args in
     step-told (a .stream .now) (a .bytes .now) (a .out .now) (a .answer .now) (e .if1 .left) _ (i .is-receiver .ensures) (t .if2 .taken) _
     (r .receiver-in .ensures) _ _ _ _ _ _ (s .open-chunk .ensures .0) (s .open-chunk .ensures .1 .0) (s .open-chunk .ensures .1 .1)
-    (d .tell-step .ensures .0) (d .tell-step .ensures .1 .0) (d .tell-step .ensures .1 .1)
+    (d .write-step .ensures .0) (d .write-step .ensures .1 .0) (d .write-step .ensures .1 .1)
 
 returns-3 : tie.Need-returns-3
 returns-3 c =
@@ -48,4 +48,4 @@ returns-3 c =
     step-unlawful (a .stream .now) (a .bytes .now) (a .out .now) (a .answer .now) (e .if1 .left) _ (i .is-receiver .ensures) (c .if2 .left)
 
 pub relay-stream-open-chunk-spec : {M : Type 1} → statement M
-relay-stream-open-chunk-spec = tie.close (tie.spec returns (λ c κs. search needs) receiver-in-requires (λ c κs. search needs) tell-step-requires (λ c. search needs) (λ c. search needs) (λ c. search needs) returns-2 (λ c. search needs) returns-3)
+relay-stream-open-chunk-spec = tie.close (tie.spec returns (λ c κs. search needs) receiver-in-requires (λ c κs. search needs) write-step-requires (λ c. search needs) (λ c. search needs) (λ c. search needs) returns-2 (λ c. search needs) returns-3)

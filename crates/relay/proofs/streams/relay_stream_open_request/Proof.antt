@@ -4,8 +4,8 @@ use borrow.Author.Needs.{needs}
 use Rattle.relay.proofs.streams.relay_stream_open_request.Statement.{statement}
 use Rattle.relay.proofs.streams.relay_stream_open_request.Tie as tie
 
-tell-request-requires : tie.Need-tell-request-requires
-tell-request-requires c κs =
+write-request-requires : tie.Need-write-request-requires
+write-request-requires c κs =
     let t = c .before .before .before .before .before .before .before .before .before in
     let f = t .before in
     fitting _ _ (sym (f .fits2 .ensures) ∙ t .if1 .taken)
@@ -19,7 +19,7 @@ returns c =
     let a = f .before .before .before .before .before .before .before .args in
     request-fit (a .method) (a .key .now) (a .clock) (a .bytes .now) (a .pool .now) (a .out .now) (a .stream .now) (a .answer .now) _ (f .fits2 .ensures)
     (t .if1 .taken) _ _ _ _ _ _ (s .open-request .ensures .0) (s .open-request .ensures .1 .0) (s .open-request .ensures .1 .1)
-    (d .tell-request .ensures .0) (d .tell-request .ensures .1 .0) (d .tell-request .ensures .1 .1)
+    (d .write-request .ensures .0) (d .write-request .ensures .1 .0) (d .write-request .ensures .1 .1)
 
 returns-2 : tie.Need-returns-2
 returns-2 c =
@@ -29,4 +29,4 @@ returns-2 c =
     (f .fits2 .ensures) (c .if1 .left)
 
 pub relay-stream-open-request-spec : {M : Type 1} → statement M
-relay-stream-open-request-spec = tie.close (tie.spec (λ c κs. search needs) (λ c κs. search needs) tell-request-requires (λ c. search needs) (λ c. search needs) (λ c. search needs) (λ c. search needs) returns returns-2)
+relay-stream-open-request-spec = tie.close (tie.spec (λ c κs. search needs) (λ c κs. search needs) write-request-requires (λ c. search needs) (λ c. search needs) (λ c. search needs) (λ c. search needs) returns returns-2)

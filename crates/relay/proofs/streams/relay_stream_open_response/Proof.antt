@@ -4,8 +4,8 @@ use borrow.Author.Needs.{needs}
 use Rattle.relay.proofs.streams.relay_stream_open_response.Statement.{statement}
 use Rattle.relay.proofs.streams.relay_stream_open_response.Tie as tie
 
-tell-response-requires : tie.Need-tell-response-requires
-tell-response-requires c κs =
+write-response-requires : tie.Need-write-response-requires
+write-response-requires c κs =
     let t = c .before .before .before in
     let f = t .before in
     fitting _ _ (sym (f .fits2 .ensures) ∙ t .if1 .taken)
@@ -18,8 +18,8 @@ returns c =
     let f = t .before in
     let a = f .before .before .before .before .before .before .args in
     response-fit (a .method) (a .key .now) (a .clock) (a .request-salt .now) (a .bytes .now) (a .stream .now) (a .answer .now) _
-    (f .fits2 .ensures) (t .if1 .taken) _ _ _ _ (s .open-response .ensures) (d .tell-response .ensures .0) (d .tell-response .ensures .1 .0)
-    (d .tell-response .ensures .1 .1)
+    (f .fits2 .ensures) (t .if1 .taken) _ _ _ _ (s .open-response .ensures) (d .write-response .ensures .0) (d .write-response .ensures .1 .0)
+    (d .write-response .ensures .1 .1)
 
 returns-2 : tie.Need-returns-2
 returns-2 c =
@@ -29,4 +29,4 @@ returns-2 c =
     (f .fits2 .ensures) (c .if1 .left)
 
 pub relay-stream-open-response-spec : {M : Type 1} → statement M
-relay-stream-open-response-spec = tie.close (tie.spec (λ c κs. search needs) (λ c κs. search needs) tell-response-requires (λ c. search needs) (λ c. search needs) returns returns-2)
+relay-stream-open-response-spec = tie.close (tie.spec (λ c κs. search needs) (λ c κs. search needs) write-response-requires (λ c. search needs) (λ c. search needs) returns returns-2)

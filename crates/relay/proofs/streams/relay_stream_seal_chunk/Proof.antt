@@ -2,12 +2,11 @@
 use native.Mathlib.Omega.{arith}
 use mathlib.Core.Path.{_≡_, sym, ap, _∙_}
 use lib.ListN.{length}
-use Rattle.stream.specs.declared.Sender.{Sender}
-use Rattle.stream.specs.declared.Sealed.{Sealed}
-use Rattle.stream.specs.declared.Sealed.the-variants.{Refused}
-use Rattle.stream.specs.Sealing.{chunkAnswer, chunk, senderKey, sealOut}
+use Rattle.stream_seal.specs.declared.Sender.{Sender}
+use Rattle.stream_seal.specs.declared.Sealed.the-variants.{Refused}
+use Rattle.stream_seal.specs.Sealing.{chunkAnswer, chunk, senderKey, sealOut}
 use Rattle.words.specs.Answers.{answerWords}
-use Rattle.words.specs.States.{streamSize, senderIn}
+use Rattle.words.specs.States.{streamSize}
 use Rattle.relay.specs.Streams.{sealsChunk}
 use Rattle.relay.proofs.StreamLaws.{fitting, unfit, sealed-fit, unsealed-fit, at-sealing, not-at-sealing}
 use borrow.Author.Needs.{needs}
@@ -24,8 +23,8 @@ slice-read-if2 c = omega (arith, sizes (c .before) .0)
 sender-in-requires : tie.Need-sender-in-requires
 sender-in-requires c κs = sizes (c .before .before .before) .0
 
-tell-sealed-requires : tie.Need-tell-sealed-requires
-tell-sealed-requires c κs = sizes (c .before .before .before .before .before .before .before .before .before .before)
+write-sealed-requires : tie.Need-write-sealed-requires
+write-sealed-requires c κs = sizes (c .before .before .before .before .before .before .before .before .before .before)
 
 slice-read-not-sealing : tie.Need-slice-read-not-sealing
 slice-read-not-sealing c = omega (arith, sizes (c .before .before .before) .0)
@@ -49,7 +48,7 @@ returns c =
     ∙ at-sealing (a .stream .now) (length (a .payload .now)) (length (a .out .now)) (t .if2 .taken))
     (s .seal-chunk .ensures .1
     ∙ ap (λ (x : Sender). sealOut (s .seal-chunk .result) (chunk (senderKey x) (x .counter) (a .payload .now)) (a .out .now)) (i .sender-in .ensures))
-    (d .tell-sealed .ensures .0) (d .tell-sealed .ensures .1 .0) (d .tell-sealed .ensures .1 .1)
+    (d .write-sealed .ensures .0) (d .write-sealed .ensures .1 .0) (d .write-sealed .ensures .1 .1)
 
 returns-2 : tie.Need-returns-2
 unfolding sealsChunk
@@ -73,4 +72,4 @@ returns-3 c =
     (f .fits2 .ensures) (c .if1 .left)
 
 pub relay-stream-seal-chunk-spec : {M : Type 1} → statement M
-relay-stream-seal-chunk-spec = tie.close (tie.spec (λ c κs. search needs) slice-read-if2 sender-in-requires (λ c κs. search needs) tell-sealed-requires (λ c. search needs) (λ c. search needs) (λ c. search needs) returns slice-read-not-sealing slice-read-not-sealing-2 (λ c κs. search needs) (λ c κs. search needs) returns-2 returns-3)
+relay-stream-seal-chunk-spec = tie.close (tie.spec (λ c κs. search needs) slice-read-if2 sender-in-requires (λ c κs. search needs) write-sealed-requires (λ c. search needs) (λ c. search needs) (λ c. search needs) returns slice-read-not-sealing slice-read-not-sealing-2 (λ c κs. search needs) (λ c κs. search needs) returns-2 returns-3)

@@ -1,2 +1,0 @@
--- Laws of the definitions of opening the fixed header and a response's head.
-pub mod HeadLaws

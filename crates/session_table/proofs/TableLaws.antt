@@ -1,0 +1,80 @@
+-- A lawful table, a made one, and what a packet ID meets, case by case.
+-- Assumes nothing.
+use Prim.Native.Nat.{ℕ, suc, _*_, _<_, _≤_}
+use mathlib.Core.Bool.{Bool, true, false, _&&_, cond}
+use mathlib.Core.List.{List, _∷_}
+use mathlib.Core.Option.{Option, none, some}
+use mathlib.Core.Path.{_≡_, sym, ap, _∙_}
+use lib.Dec.{leb, eqb}
+use lib.ListN.{length, set, replicate, length-replicate}
+use borrow.Author.Tests.{eq-eqb, ne-eqb, le-leb, lt-leb}
+use Rattle.session_record.specs.declared.Peer.{Peer}
+use Rattle.session_table.specs.Sizes.{capacity, leastRetention, greatestRetention, defaultRetention}
+use Rattle.session_record.specs.Record.{freshIn, acceptIn, newRecord}
+use Rattle.session_table.specs.Table.{tableWords, recordWords, inRange, newTable, madeRetention, makeLawful, made, recordAt, sessionPlace, freePlace, stores, replay, full, meetBy, meet}
+
+-- ---- a length n and an R
+
+module _ (n R : ℕ) where
+  pub wrong-length : (n ≡ tableWords → ⊥) → (eqb n tableWords && inRange R) ≡ false
+  wrong-length e = ap (λ (b : Bool). b && inRange R) (ne-eqb n tableWords e)
+
+  module _ (e : n ≡ tableWords) where
+    right : (eqb n tableWords && inRange R) ≡ inRange R
+    right = ap (λ (b : Bool). b && inRange R) (eq-eqb n tableWords e)
+
+    pub too-short : R < leastRetention → (eqb n tableWords && inRange R) ≡ false
+    too-short l = right ∙ ap (λ (b : Bool). b && leb R greatestRetention) (lt-leb leastRetention R l)
+
+    pub long-enough : leastRetention ≤ R → (eqb n tableWords && inRange R) ≡ leb R greatestRetention
+    long-enough l = right ∙ ap (λ (b : Bool). b && leb R greatestRetention) (le-leb leastRetention R l)
+
+-- ---- making
+
+pub zero-is-default : (R : ℕ) → R ≡ 0 → defaultRetention ≡ madeRetention R
+zero-is-default R e = sym (ap (λ (b : Bool). cond b defaultRetention R) (eq-eqb R 0 e))
+
+pub else-itself : (R : ℕ) → (R ≡ 0 → ⊥) → R ≡ madeRetention R
+else-itself R n = sym (ap (λ (b : Bool). cond b defaultRetention R) (ne-eqb R 0 n))
+
+pub not-made : (R : ℕ) (t : List ℕ) → makeLawful R t ≡ false → (false ≡ makeLawful R t) × (t ≡ made R t)
+not-made R t e = (sym e, sym (ap (λ (b : Bool). cond b (newTable (madeRetention R)) t) e))
+
+pub new-length : (R : ℕ) → length (newTable R) ≡ tableWords
+new-length R = ap suc (length-replicate {A = ℕ} (capacity * recordWords) 0)
+
+first : (n k : ℕ) (t : List ℕ) → length t ≡ suc n → set (replicate (length t) 0) 0 k ≡ k ∷ replicate n 0
+first n k t e = ap (λ (m : ℕ). set (replicate m 0) 0 k) e
+
+pub is-made : (R k : ℕ) (t c : List ℕ) → makeLawful R t ≡ true → k ≡ madeRetention R → length t ≡ tableWords → c ≡ replicate (length t) 0
+    → (true ≡ makeLawful R t) × (set c 0 k ≡ made R t)
+is-made R k t c e ek el ec = (
+  sym e,
+  (λ i. set (ec i) 0 (ek i)) ∙ first (capacity * recordWords) (madeRetention R) t el
+      ∙ sym (ap (λ (b : Bool). cond b (newTable (madeRetention R)) t) e),
+)
+
+-- ---- what a packet ID meets
+
+module _ (t : List ℕ) (clock : ℕ) (a : Peer) (p : ℕ) where
+  module _ (i : ℕ) where
+    pub is-fresh : freshIn (recordAt t i) p ≡ true → meetBy (some i) none t clock a 0 p ≡ stores i (acceptIn clock a p (recordAt t i))
+    is-fresh e = ap (λ (b : Bool). cond b (stores i (acceptIn clock a p (recordAt t i))) replay) e
+
+    pub is-replay : freshIn (recordAt t i) p ≡ false → meetBy (some i) none t clock a 0 p ≡ replay
+    is-replay e = ap (λ (b : Bool). cond b (stores i (acceptIn clock a p (recordAt t i))) replay) e
+
+  module _ (id : ℕ) where
+    pub is-new : (i : ℕ) → freePlace t clock ≡ some i → meetBy none (freePlace t clock) t clock a id p ≡ stores i (newRecord clock a id p)
+    is-new i e = ap (λ (o : Option ℕ). meetBy none o t clock a id p) e
+
+    pub is-full : freePlace t clock ≡ none → meetBy none (freePlace t clock) t clock a id p ≡ full
+    is-full e = ap (λ (o : Option ℕ). meetBy none o t clock a id p) e
+
+    pub met-known : (i : ℕ) → sessionPlace t clock id ≡ some i → meetBy (some i) none t clock a 0 p ≡ meet t clock a id p
+    unfolding meet
+    met-known i e = sym (ap (λ (o : Option ℕ). meetBy o (freePlace t clock) t clock a id p) e)
+
+    pub met-new : sessionPlace t clock id ≡ none → meetBy none (freePlace t clock) t clock a id p ≡ meet t clock a id p
+    unfolding meet
+    met-new e = sym (ap (λ (o : Option ℕ). meetBy o (freePlace t clock) t clock a id p) e)

@@ -1,0 +1,4 @@
+-- Laws of pieces.
+pub mod LengthLaws
+pub mod KeyLaws
+pub mod PieceLaws

@@ -1,0 +1,4 @@
+-- Laws of sealing chunks.
+pub mod LengthLaws
+pub mod SealAnswerLaws
+pub mod SealWriteLaws

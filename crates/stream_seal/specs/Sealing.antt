@@ -1,0 +1,45 @@
+-- Sealing chunks (SIP022, section 3.1): what is answered and what is written. What is said of sizes serves the heads too.
+use mathlib.Core.Bool.{cond}
+use mathlib.Core.List.{List, _++_}
+use Prim.Native.Nat.{ℕ, _+_, _-_}
+use lib.Dec.{eqb, leb, ltb}
+use lib.ListN.{length}
+use Rattle.octets.specs.Buffers.{put}
+use Rattle.octets.specs.Numbers.{toBe}
+use Rattle.protocol.specs.declared.Refusal.the-variants.{Settings, Length, Room, Counter}
+use Rattle.protocol.specs.Method.{keyLength}
+use Rattle.stream_seal.specs.declared.Sender.{Sender}
+use Rattle.stream_seal.specs.declared.Sealed.{Sealed}
+use Rattle.stream_seal.specs.declared.Sealed.the-variants.{Bytes, Refused}
+use Rattle.stream_pieces.specs.Pieces.{tagLength, lengthPiece, sealAt, keyOf, maxChunk, lastCounter}
+
+-- ---- what is written
+
+-- a length with its payload
+unfoldable pub chunk : List ℕ → ℕ → List ℕ → List ℕ
+chunk key counter payload = sealAt key counter (toBe 2 (length payload)) ++ sealAt key (counter + 1) payload
+
+-- ---- what is answered
+
+-- the stream behind a chunk, which uses two counters
+abbrev pub moved : Sender → Sender
+moved s = record { method = s .method; counter = s .counter + 2; subkey = s .subkey }
+
+abbrev pub senderKey : Sender → List ℕ
+senderKey s = keyOf (s .subkey) (keyLength (s .method))
+
+-- refusals 2 and 3, of a piece of n bytes behind `before` bytes
+unfoldable pub sizeAnswer : (n before room : ℕ) → Sender → Sealed
+sizeAnswer n before room s =
+    cond (leb n maxChunk) (cond (leb (before + n + tagLength) room) (Bytes (before + n + tagLength) s) (Refused Room)) (Refused Length)
+
+-- 1, 11, 2, 3
+unfoldable pub chunkAnswer : Sender → ℕ → ℕ → Sealed
+chunkAnswer s payload room =
+    cond (eqb (keyLength (s .method)) 0) (Refused Settings)
+    (cond (ltb (s .counter) (lastCounter - 1)) (sizeAnswer payload lengthPiece room (moved s)) (Refused Counter))
+
+-- what is written goes to the front of the buffer; a refusal writes nothing
+abbrev pub sealOut : Sealed → List ℕ → List ℕ → List ℕ
+sealOut (Bytes n s) text out = put out 0 text
+sealOut (Refused r) text out = out

@@ -1,0 +1,223 @@
+-- What sealing a head answers: one law for each way out, and what an answered length tells.
+-- Assumes nothing.
+use mathlib.Core.Path.{_≡_, refl, sym, ap, ap₂, _∙_, subst}
+use mathlib.Core.Bool.{Bool, true, false, cond, _&&_, and-eq-true-iff}
+use mathlib.Core.List.{List}
+use mathlib.Core.Logic.{_⊎_}
+use Prim.Native.Nat.{ℕ, _+_, _≤_, _<_, min}
+use native.Mathlib.Decide.{decLe}
+use native.Mathlib.Omega.{arith}
+use lib.Dec.{eqb, leb, ltb}
+use lib.ListN.{length}
+use borrow.Author.Tests.{ne-eqb, eq-eqb, le-leb, lt-leb, lt-ltb, eqb-true}
+use Rattle.aes.specs.Keyed.{nkOf}
+use Rattle.aes.proofs.KeyedLaws.{key-most}
+use Rattle.protocol.specs.declared.Refusal.the-variants.{Settings, Argument}
+use Rattle.protocol.specs.Method.{keyFits, saltLength}
+use Rattle.protocol.specs.Subkey.{subkey}
+use Rattle.protocol.proofs.MethodLaws.{fits-sizes}
+use Rattle.socks5.specs.Address.{isAddress}
+use Rattle.stream_pieces.specs.declared.Subkey.{Subkey}
+use Rattle.stream_seal.specs.declared.Sender.{Sender}
+use Rattle.stream_seal.specs.declared.Sealed.{Sealed}
+use Rattle.stream_seal.specs.declared.Sealed.the-variants.{Bytes, Refused}
+use Rattle.stream_pieces.specs.Pieces.{subkeyWords, keyOf, maxChunk}
+use Rattle.stream_seal.specs.Sealing.{sizeAnswer}
+use Rattle.stream_pieces.proofs.KeyLaws.{key-of-method, length-subkey, octets-subkey, subkey-back}
+use Rattle.stream_seal.proofs.SealAnswerLaws.{too-long, passed, sized}
+use Rattle.stream_heads.specs.Heads.{maxPadding}
+use Rattle.stream_seal_heads.specs.HeadSealing.{variableLength, begun, sizesFit, paddingLawful, requestAnswer, responseAnswer}
+
+-- ---- the lengths of key and salt
+
+-- what it says that they fit the method
+pub record Suited (method key salt : ℕ) : Type 0 where
+  pub fits : keyFits method key ≡ true
+  pub same : salt ≡ key
+  pub either : (key ≡ 16) ⊎ (key ≡ 32)
+  pub key-within : key ≤ 32
+  pub salt-within : salt ≤ 32
+
+module _ (method key salt : ℕ) where
+  pub key-unfit : keyFits method key ≡ false → false ≡ sizesFit method key salt
+  unfolding sizesFit
+  key-unfit e = sym (ap (λ (b : Bool). b && eqb salt (saltLength method)) e)
+
+  pub salt-decides : keyFits method key ≡ true → (n : ℕ) → n ≡ saltLength method → eqb salt n ≡ sizesFit method key salt
+  unfolding sizesFit
+  salt-decides e n en = ap (eqb salt) en ∙ sym (ap (λ (b : Bool). b && eqb salt (saltLength method)) e)
+
+  pub suited : sizesFit method key salt ≡ true → Suited method key salt
+  unfolding sizesFit
+  suited e =
+      let p = and-eq-true-iff (keyFits method key) (eqb salt (saltLength method)) .0 e in
+      let s = fits-sizes method key (p .0) in
+      let is : salt ≡ key = eqb-true salt (saltLength method) (p .1) ∙ s .salt-is in
+      let most : key ≤ 32 = key-most key (key-of-method method key (p .0)) in
+      record { fits = p .0; same = is; either = s .either; key-within = most; salt-within = omega (arith, is, most) }
+
+-- ---- padding
+
+module _ (padding payload : ℕ) where
+  padding-decided : (a b : Bool) → leb padding maxPadding ≡ a → ltb 0 (padding + payload) ≡ b → (a && b) ≡ paddingLawful padding payload
+  unfolding paddingLawful
+  padding-decided a b ea eb = sym (ap₂ _&&_ ea eb)
+
+  pub padding-over : maxPadding < padding → false ≡ paddingLawful padding payload
+  padding-over h = padding-decided false (ltb 0 (padding + payload)) (lt-leb padding maxPadding h) refl
+
+  pub padding-none : padding ≤ maxPadding → padding ≡ 0 → ltb 0 payload ≡ paddingLawful padding payload
+  padding-none h z =
+      let e : padding + payload ≡ payload = omega (arith, z) in
+      padding-decided true (ltb 0 payload) (le-leb padding maxPadding h) (ap (ltb 0) e)
+
+  pub padding-some : padding ≤ maxPadding → (padding ≡ 0 → ⊥) → true ≡ paddingLawful padding payload
+  padding-some h f =
+      let l : 0 < padding + payload = omega arith in
+      padding-decided true true (le-leb padding maxPadding h) (lt-ltb 0 (padding + payload) l)
+
+-- ---- the variable header's length
+
+module _ (address padding payload : ℕ) where
+  -- a part or the sum is too long
+  pub length-over : (x : ℕ) → maxChunk < x → x ≤ address + 2 + padding + payload
+      → maxChunk + 1 ≡ min (variableLength address padding payload) (maxChunk + 1)
+  unfolding variableLength
+  length-over x h l = omega arith
+
+  pub length-within : address + 2 + padding + payload ≤ maxChunk
+      → address + 2 + padding + payload ≡ min (variableLength address padding payload) (maxChunk + 1)
+  unfolding variableLength
+  length-within h = omega arith
+
+-- one byte over the longest stands for every longer length
+capped-same : (n before room : ℕ) (s : Sender) → sizeAnswer (min n (maxChunk + 1)) before room s ≡ sizeAnswer n before room s
+capped-same n before room s = go (decLe n maxChunk)
+  where
+    go : Dec (n ≤ maxChunk) → sizeAnswer (min n (maxChunk + 1)) before room s ≡ sizeAnswer n before room s
+    go (yes h) = let e : min n (maxChunk + 1) ≡ n = omega arith in ap (λ (k : ℕ). sizeAnswer k before room s) e
+    go (no f) =
+        let h : maxChunk < n = omega arith in
+        let k : maxChunk < min n (maxChunk + 1) = omega arith in
+        sym (too-long (min n (maxChunk + 1)) before room s k) ∙ too-long n before room s h
+
+-- ---- the answer to a request
+
+module _ (method : ℕ) (key salt address : List ℕ) (padding payload room : ℕ) where
+  abbrev requestSizes : Sealed
+  requestSizes = sizeAnswer (variableLength (length address) padding payload) (length salt + 27) room (begun method key salt)
+
+  request-decided : (a b : Bool) → sizesFit method (length key) (length salt) ≡ a → (isAddress address && paddingLawful padding payload) ≡ b
+      → cond a (cond b requestSizes (Refused Argument)) (Refused Settings) ≡ requestAnswer method key salt address padding payload room
+  unfolding requestAnswer
+  request-decided a b ea eb = λ i. cond (sym ea i) (cond (sym eb i) requestSizes (Refused Argument)) (Refused Settings)
+
+  pub request-unfit : sizesFit method (length key) (length salt) ≡ false
+      → Refused Settings ≡ requestAnswer method key salt address padding payload room
+  request-unfit e = request-decided false (isAddress address && paddingLawful padding payload) e refl
+
+  pub request-no-address : sizesFit method (length key) (length salt) ≡ true → isAddress address ≡ false
+      → Refused Argument ≡ requestAnswer method key salt address padding payload room
+  request-no-address e f = request-decided true false e (ap (λ (b : Bool). b && paddingLawful padding payload) f)
+
+  pub request-unlawful : sizesFit method (length key) (length salt) ≡ true → isAddress address ≡ true → paddingLawful padding payload ≡ false
+      → Refused Argument ≡ requestAnswer method key salt address padding payload room
+  request-unlawful e f g = request-decided true false e (ap₂ _&&_ f g)
+
+  pub request-sized : sizesFit method (length key) (length salt) ≡ true → isAddress address ≡ true → paddingLawful padding payload ≡ true
+      → (n : ℕ) → n ≡ min (variableLength (length address) padding payload) (maxChunk + 1) → (s : Sender) → s ≡ begun method key salt
+      → (r : Sealed) → r ≡ sizeAnswer n (length salt + 27) room s → r ≡ requestAnswer method key salt address padding payload room
+  request-sized e f g n en s es r er =
+      er ∙ (λ i. sizeAnswer (en i) (length salt + 27) room (es i))
+      ∙ capped-same (variableLength (length address) padding payload) (length salt + 27) room (begun method key salt)
+      ∙ request-decided true true e (ap₂ _&&_ f g)
+
+-- ---- the answer to a response
+
+module _ (method : ℕ) (key salt binding : List ℕ) (payload room : ℕ) where
+  abbrev responseSizes : Sealed
+  responseSizes = sizeAnswer payload (length salt + 27 + length binding) room (begun method key salt)
+
+  response-decided : (a b : Bool) → sizesFit method (length key) (length salt) ≡ a → eqb (length binding) (length salt) ≡ b
+      → cond (a && b) responseSizes (Refused Settings) ≡ responseAnswer method key salt binding payload room
+  unfolding responseAnswer
+  response-decided a b ea eb = λ i. cond (sym ea i && sym eb i) responseSizes (Refused Settings)
+
+  pub response-unfit : sizesFit method (length key) (length salt) ≡ false → Refused Settings ≡ responseAnswer method key salt binding payload room
+  response-unfit e = response-decided false (eqb (length binding) (length salt)) e refl
+
+  pub response-unbound : sizesFit method (length key) (length salt) ≡ true → (length binding ≡ length salt → ⊥)
+      → Refused Settings ≡ responseAnswer method key salt binding payload room
+  response-unbound e f = response-decided true false e (ne-eqb (length binding) (length salt) f)
+
+  pub response-sized : sizesFit method (length key) (length salt) ≡ true → length binding ≡ length salt → (s : Sender) → s ≡ begun method key salt
+      → (r : Sealed) → r ≡ sizeAnswer payload (length salt + 27 + length binding) room s
+      → r ≡ responseAnswer method key salt binding payload room
+  response-sized e f s es r er =
+      er ∙ ap (sizeAnswer payload (length salt + 27 + length binding) room) es
+      ∙ response-decided true true e (eq-eqb (length binding) (length salt) f)
+
+-- ---- what a length that was answered tells
+
+-- the key that the words of a new stream hold
+key-back : (key salt : List ℕ) (w : Subkey) → length salt ≡ length key → (length key ≡ 16) ⊎ (length key ≡ 32) → length key ≤ 32
+    → w ≡ subkeyWords (subkey key salt) → keyOf w (length salt) ≡ subkey key salt
+key-back key salt w same either within ew =
+    let l : length (subkey key salt) ≡ length key = length-subkey key salt within in
+    (λ i. keyOf (ew i) ((same ∙ sym l) i))
+    ∙ subkey-back (subkey key salt) (octets-subkey key salt) (subst (λ (n : ℕ). (n ≡ 16) ⊎ (n ≡ 32)) (sym l) either)
+
+module _ (method : ℕ) (key salt : List ℕ) (fit : Suited method (length key) (length salt)) where
+  key-good : 0 < nkOf (length salt)
+  key-good = subst (λ (n : ℕ). 0 < nkOf n) (sym (fit .same)) (key-of-method method (length key) (fit .fits))
+
+  key-held : (w : Subkey) → w ≡ subkeyWords (subkey key salt) → keyOf w (length salt) ≡ subkey key salt
+  key-held w = key-back key salt w (fit .same) (fit .either) (fit .key-within)
+
+pub record SealableRequest (key salt address : List ℕ) (padding payload room n : ℕ) (s : Sender) : Type 0 where
+  pub good : 0 < nkOf (length salt)
+  pub most : variableLength (length address) padding payload ≤ maxChunk
+  pub size : n ≡ length salt + 27 + variableLength (length address) padding payload + 16
+  pub space : n ≤ room
+  pub held : keyOf (s .subkey) (length salt) ≡ subkey key salt
+
+pub request-sealable : (method : ℕ) (key salt address : List ℕ) (padding payload room n : ℕ) (s : Sender)
+    → requestAnswer method key salt address padding payload room ≡ Bytes n s → SealableRequest key salt address padding payload room n s
+unfolding requestAnswer
+request-sealable method key salt address padding payload room n s e =
+    let e₁ = passed (sizesFit method (length key) (length salt)) _ _ n s e in
+    let e₂ = passed (isAddress address && paddingLawful padding payload) _ _ n s (e₁ .1) in
+    let fit = suited method (length key) (length salt) (e₁ .0) in
+    let z = sized (variableLength (length address) padding payload) (length salt + 27) room (begun method key salt) n s (e₂ .1) in
+    record {
+      good = key-good method key salt fit;
+      most = z .most;
+      size = z .size;
+      space = z .space;
+      held = key-held method key salt fit (s .subkey) (z .words);
+    }
+
+pub record SealableResponse (key salt binding : List ℕ) (payload room n : ℕ) (s : Sender) : Type 0 where
+  pub good : 0 < nkOf (length salt)
+  pub bound : length binding ≡ length salt
+  pub most : payload ≤ maxChunk
+  pub size : n ≡ length salt + 27 + length binding + payload + 16
+  pub space : n ≤ room
+  pub held : keyOf (s .subkey) (length salt) ≡ subkey key salt
+
+pub response-sealable : (method : ℕ) (key salt binding : List ℕ) (payload room n : ℕ) (s : Sender)
+    → responseAnswer method key salt binding payload room ≡ Bytes n s → SealableResponse key salt binding payload room n s
+unfolding responseAnswer
+response-sealable method key salt binding payload room n s e =
+    let e₁ = passed (sizesFit method (length key) (length salt) && eqb (length binding) (length salt)) _ _ n s e in
+    let p = and-eq-true-iff (sizesFit method (length key) (length salt)) (eqb (length binding) (length salt)) .0 (e₁ .0) in
+    let fit = suited method (length key) (length salt) (p .0) in
+    let z = sized payload (length salt + 27 + length binding) room (begun method key salt) n s (e₁ .1) in
+    record {
+      good = key-good method key salt fit;
+      bound = eqb-true (length binding) (length salt) (p .1);
+      most = z .most;
+      size = z .size;
+      space = z .space;
+      held = key-held method key salt fit (s .subkey) (z .words);
+    }
