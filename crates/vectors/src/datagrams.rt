@@ -140,11 +140,21 @@ fn open_client(c: &[u8], table: &mut [u64], out: &mut [u8]) -> Opened {
     )
 }
 
-// The header.
-fn write_opened(opened: Opened, answer: &mut [u64]) -> u64 {
+// Where the payload begins that is shown of a plaintext.
+fn payload_place(plain: &[u8], place: usize) -> usize {
+    let shown = datagram_open::payload(plain, place);
+    if plain.len() < shown.len() {
+        return 0;
+    }
+    plain.len() - shown.len()
+}
+
+// The header, with the place of the payload as it is shown.
+fn write_opened(opened: Opened, plain: &[u8], answer: &mut [u64]) -> u64 {
     match opened {
         Opened::Datagram(h) => {
             put(answer, 0, &words::header_words(h));
+            set(answer, 8, payload_place(plain, h.payload) as u64);
             0
         }
         Opened::Refused(r) => r.number(),
@@ -168,7 +178,9 @@ pub(crate) fn call(
         return make(c, table);
     }
     if kind == OPEN_SERVER {
-        return write_opened(open_server(c, table, out), answer);
+        let opened = open_server(c, table, out);
+        return write_opened(opened, out, answer);
     }
-    write_opened(open_client(c, table, out), answer)
+    let opened = open_client(c, table, out);
+    write_opened(opened, out, answer)
 }
