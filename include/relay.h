@@ -206,7 +206,7 @@ static inline const char *relay_refusal_name(uint64_t number)
  * Makes a session table: one for each key and method, for a server's incoming
  * datagrams or for a client's.
  *
- * retention  seconds that a silent session is remembered: 60 to 3,600; 0 is 60
+ * retention  seconds that a silent session is remembered: 60 to 3,600; 0 is 300
  * table      RELAY_TABLE_WORDS words, all of them written
  *
  * Refusals: 1 (retention or length), and nothing is written.

@@ -363,9 +363,11 @@ NAME = datagram.NAME
 
 
 def datagram_examples():
-    _, wrote = table_new(0, (9,) * TABLE_WORDS)
+    _, wrote = table_new(60, (9,) * TABLE_WORDS)
     table = wrote["table"]
     yield "table", table == (60,) + (0,) * 704
+    _, wrote = table_new(0, (9,) * TABLE_WORDS)
+    yield "table of 0", wrote["table"] == (300,) + (0,) * 704
     session = session_begin_client(7, (9,) * 4).wrote["session"]
     yield "session", session == (0, 7, 0, 0)
     yield "equal IDs", session_begin_server(7, 7, (9,) * 4) == refused(12)

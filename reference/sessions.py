@@ -27,7 +27,7 @@ RECORD_WORDS = 11
 TABLE_WORDS = 1 + SESSIONS * RECORD_WORDS
 WINDOW = 256
 RETENTIONS = range(60, 3_601)
-DEFAULT_RETENTION = 60
+DEFAULT_RETENTION = 300
 TIME_LIMIT = 30
 MIN_LENGTH = SEPARATE_LENGTH + gcm.TAG_LENGTH
 
@@ -465,6 +465,9 @@ def marked_edges():
     table = table_with(60, begun(ID, 300, 1_000, PEER))
     yield "P4", all(list(alive_records(table, clock)) == [0] for clock in (1_060, 990))
     yield "P5", not list(alive_records(table, 1_061))
+    table = table_with(0, begun(ID, 300, 1_000, PEER))
+    yield "P4, made with 0", list(alive_records(table, 1_300)) == [0]
+    yield "P5, made with 0", not list(alive_records(table, 1_301))
     yield "P6", marked_300(45)[0] == 0
     yield "P7", marked_300(44)[0] == REPLAY and marked_300(300)[0] == REPLAY
     number, table = marked_300(555)
@@ -523,7 +526,7 @@ def order_examples():
 
 
 def table_examples():
-    yield "making, 0", make(0, (9,) * TABLE_WORDS) == (0, (60,) + (0,) * (TABLE_WORDS - 1))
+    yield "making, 0", make(0, (9,) * TABLE_WORDS) == (0, (300,) + (0,) * (TABLE_WORDS - 1))
     for retention in (1, 59, 3_601, 2**64 - 1):
         table = (9,) * TABLE_WORDS
         yield f"making, {retention}", make(retention, table) == (SETTINGS, table)
@@ -552,8 +555,8 @@ def table_examples():
 
 def lists():
     """Retention and calls."""
-    yield 0, []
-    yield 0, Host("empty").calls(1)
+    yield 60, []
+    yield 60, Host("empty").calls(1)
     for number in range(6):
         yield 60, Host(f"few {number}", 1 + number % 2, 3, quiet=85).calls(90)
     yield 60, Host("many", 1, 200, quiet=99).calls(220)

@@ -90,7 +90,7 @@ class Datagrams(Scenario):
 
     def __init__(self, run: Run, dice: random.Random) -> None:
         super().__init__(run, dice)
-        self.retention = dice.choice((60, 60, 61, 3_600))
+        self.retention = dice.choice((60, 60, 61, 300, 3_600))
         self.clients = [self.begun(client=None) for _ in range(3)]
         ids = [session[1] for session in self.clients]
         self.servers = [self.begun(client=dice.choice(ids)) for _ in range(3)]
@@ -111,7 +111,7 @@ class Datagrams(Scenario):
     def table(self, senders: list[relay.Words]) -> relay.Words:
         lent = tuple(self.dice.getrandbits(64) for _ in range(TABLE_WORDS))
         if self.often(50):
-            retention = 0 if self.often(30) and self.retention == 60 else self.retention
+            retention = 0 if self.often(50) and self.retention == 300 else self.retention
             self.call("table_new", retention=retention, table=lent)
             return sessions.table_with(self.retention)
         if self.often(50):

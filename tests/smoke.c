@@ -137,7 +137,7 @@ static void client_to_server(void)
 
     check_number(relay_session_begin_client(CLIENT_ID, session, RELAY_SESSION_WORDS), RELAY_OK,
                  "beginning a client's session");
-    check_number(relay_table_new(0, table, RELAY_TABLE_WORDS), RELAY_OK, "making a table");
+    check_number(relay_table_new(60, table, RELAY_TABLE_WORDS), RELAY_OK, "making a table");
     size_t len = seal(session, "ping", datagram, sizeof datagram);
     refused_datagrams(datagram, len, table);
 

@@ -165,7 +165,7 @@ def worked_groups():
 def opened_groups():
     lengths = itertools.cycle((0, 1, 5, 16, 47))
     for name, each in PAIRS.items():
-        calls = Calls(0)
+        calls = Calls(60)
         for packet, (address, count) in enumerate(itertools.product(ADDRESSES, (0, 1, 17))):
             said = {"address": address, "padding": PADDING[:count]}
             calls.open(packet=packet, payload=pattern(next(lengths)), **said, **each)
@@ -509,6 +509,14 @@ def kept_groups():
             calls.open(0, packet=302, clock=clock, time=clock)
     yield "last times in the future", calls
 
+    calls = Calls()
+    for retention, clock in ((0, 1_300), (60, 1_060)):
+        calls.make(retention)
+        calls.open(0, clock=1_000, time=1_000)
+        calls.open(REPLAY, clock=clock, time=clock)
+        calls.open(0, clock=clock + 1, time=clock + 1)
+    yield "made with 0 and with 60", calls
+
     calls = Calls(60)
     calls.open(0, time=1_030)
     calls.open(REPLAY, time=1_030, clock=1_059)
@@ -658,7 +666,7 @@ def list_groups():
         ("few sessions, 128", 60, Host("list 0", 1, 3, quiet=85), 90),
         ("few sessions, 256", 61, Host("list 1", 2, 4, quiet=90), 90),
         ("one session", 3_600, Host("list 2", 1, 1, quiet=95), 90),
-        ("many sessions", 0, Host("list 6", 2, 400, quiet=99), 150),
+        ("many sessions", 60, Host("list 6", 2, 400, quiet=99), 150),
         ("late clocks", 60, Host("list 4", 1, 5, LAST - 900, 95), 60),
         ("equal clocks", 60, Host("list 5", 2, 6, quiet=100), 90),
     )

@@ -107,7 +107,7 @@ static void check_made(const struct call *call, const struct left *left, enum bu
         return;
     }
     if (b == TABLE)
-        first = call->retention == 0 ? 60 : call->retention;
+        first = call->retention == 0 ? 300 : call->retention;
     promise(memcmp(made->ours, &first, sizeof first) == 0, "table or pool has another first word");
     promise(zero(made->ours + sizeof first, made->len - sizeof first), "not all is zero behind it");
     lend_written(made, made->len);

@@ -55,7 +55,7 @@ def step(code: str, fault=0, who=0, how=0, length=0, place=0, value=0) -> bytes:
 def begun() -> list[bytes]:
     return [
         step("TABLE_NEW", value=60),
-        step("TABLE_NEW", who=1),
+        step("TABLE_NEW", who=1, value=60),
         step("BEGIN_CLIENT", value=0x0102030405060708),
         step("BEGIN_SERVER", who=1, value=77),
         step("BEGIN_CLIENT", who=2, value=5),
@@ -77,7 +77,7 @@ def faulty(code: str, *buffers: str, **fields) -> list[bytes]:
 def settings():
     yield [
         *faulty("TABLE_NEW", "TABLE", value=60),
-        *(step("TABLE_NEW", value=each) for each in (1, 59, 61, 3_600, 3_601, FROM_END)),
+        *(step("TABLE_NEW", value=each) for each in (0, 1, 59, 61, 3_600, 3_601, FROM_END)),
         *faulty("POOL_NEW", "POOL"),
         *faulty("BEGIN_CLIENT", "SESSION"),
         *faulty("BEGIN_SERVER", "SESSION", value=9),

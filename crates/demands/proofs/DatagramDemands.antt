@@ -1,7 +1,7 @@
 -- Demands 1 and 2 for opened datagrams.
 -- Assumes nothing.
 use mathlib.Core.Path.{_≡_, refl, sym, ap, ap₂, _∙_, subst}
-use mathlib.Core.Bool.{Bool, true, false, _&&_, and-false, true≢false}
+use mathlib.Core.Bool.{Bool, true, false, cond, _&&_, and-false, true≢false}
 use mathlib.Core.List.{List}
 use mathlib.Core.Option.{Option, none, some}
 use Prim.Native.Nat.{ℕ, _+_, _-_, _≤_}
@@ -14,8 +14,10 @@ use Rattle.octets.specs.Buffers.{put}
 use Rattle.octets.specs.Numbers.{be}
 use Rattle.octets.proofs.BufferLaws.{length-put, drop-put}
 use Rattle.session_record.specs.declared.Peer.{Peer}
-use Rattle.session_table.specs.Table.{lawful}
-use Rattle.session_book.specs.Call.{Answer, refused, opened}
+use Rattle.session_table.specs.Table.{retention, lawful, Entry, stores, replay, full, meet, keep}
+use Rattle.session_book.specs.Call.{Answer, Decision, early as decided, reaches, refused, opened}
+use Rattle.session_book.specs.Runs.{tableNextBy}
+use Rattle.session_book.proofs.Words.{retention-store}
 use Rattle.protocol.specs.Method.{keyFits}
 use Rattle.protocol.specs.declared.Refusal.the-variants.{Settings, Malformed}
 use Rattle.protocol.specs.Refusal.{refusalNumber}
@@ -30,7 +32,7 @@ use Rattle.datagram_seal.specs.Sealing.{sealAnswer, datagram}
 use Rattle.datagram_read.specs.declared.Header.{Header}
 use Rattle.datagram_read.specs.declared.Opened.the-variants.{Datagram, Refused}
 use Rattle.datagram_read.specs.Opening.{sessionOf, packetOf, timeOf, paddingOf, meant, headerWith, readAddress, lengthLawful, readAnswer, readOut}
-use Rattle.datagram_open.specs.Deciding.{expected, openerOf, plainOf, openAnswer, openOut, openTable}
+use Rattle.datagram_open.specs.Deciding.{expected, openerOf, plainOf, decide, callOf, openAnswer, openOut, openTable}
 use Rattle.demands.specs.Datagrams.{Answered, accepts, refuses, tagGood, Lawful, BeforeTag, unlawful-table, other-key, too-short, too-long, no-room, forged, Stage, before, after, Keeps, OpenersKeep, ValidHeader, Enters, ForUs, Acceptable, AcceptedExactlyWhen, SealedAccepted, Demand2}
 use Rattle.demands.proofs.DatagramReadBack.{payload-back}
 use Rattle.demands.proofs.DatagramSealing.{one-target, sealed-opens}
@@ -153,6 +155,20 @@ module _ (method : ℕ) (key : List ℕ) (client : Option ℕ) (clock : ℕ) (pe
       go (late l h d x r o ea eb et) = et
       go (taken l h d x ea eb) = absurd (not-both n h answer e ea)
 
+  retention-kept : retention table ≡ retention t
+  unfolding openTable
+  retention-kept = go (lawful t) (decide method key (callOf clock peer s out client))
+    where
+      kept-by : (e : Entry) → retention (keep e t) ≡ retention t
+      kept-by (stores i r) = retention-store t i r
+      kept-by replay = refl
+      kept-by full = refl
+
+      go : (b : Bool) (d : Decision Header) → retention (cond b (tableNextBy d t (callOf clock peer s out client)) t) ≡ retention t
+      go false d = refl
+      go true (decided n o) = refl
+      go true (reaches id p h plain) = kept-by (meet t clock peer id p)
+
   untouched-before-tag : BeforeTag method key s t out → buffer ≡ out
   untouched-before-tag b = go way
     where
@@ -227,6 +243,7 @@ module _ (method : ℕ) (key : List ℕ) (client : Option ℕ) (clock : ℕ) (pe
         answered = answered;
         stage = stage method key s t out;
         refused-keeps-table = refused-keeps-table;
+        retention-kept = retention-kept;
         untouched-before-tag = untouched-before-tag;
         refused-before-tag = refused-before-tag;
         cleared-after-tag = cleared-after-tag;

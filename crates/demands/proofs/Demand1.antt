@@ -3,7 +3,7 @@
 use mathlib.Core.Path.{_≡_, refl, sym, ap, _∙_}
 use mathlib.Core.Bool.{Bool, true, false, cond, and-eq-true-iff}
 use mathlib.Core.List.{List}
-use Prim.Native.Nat.{ℕ, _*_, _≤_}
+use Prim.Native.Nat.{ℕ, _*_, _≤_, _<_}
 use native.Mathlib.Nat.{add-zero}
 use native.Mathlib.Omega.{arith}
 use lib.Dec.{eqb}
@@ -13,8 +13,8 @@ use Rattle.octets.proofs.BufferLaws.{length-put}
 use Rattle.protocol.specs.declared.Refusal.{Refusal}
 use Rattle.protocol.specs.declared.Refusal.the-variants.{Argument}
 use Rattle.protocol.specs.Refusal.{refusalNumber, wantedBytes}
-use Rattle.session_table.specs.Table.{recordWords, tableWords, newTable, makeLawful, madeRetention}
-use Rattle.session_table.proofs.TableLaws.{new-length}
+use Rattle.session_table.specs.Table.{recordWords, tableWords, newTable, makeLawful, made, madeRetention}
+use Rattle.session_table.proofs.TableLaws.{wrong-length, else-itself, new-length, made-in-range, below-range, above-range}
 use Rattle.session_table.specs.Sizes.{capacity}
 use Rattle.salt_pool.specs.Pool as pool
 use Rattle.datagram_parts.specs.declared.Side.the-variants.{Server}
@@ -98,9 +98,29 @@ made-length : (b : Bool) (new t : List ℕ) → (b ≡ true → length new ≡ l
 made-length true new t e = e refl
 made-length false new t e = refl
 
+-- 0 is made 300, and a number above it itself
+table-0 : (t : List ℕ) → length t ≡ tableWords → (makeLawful 0 t ≡ true) × (made 0 t ≡ newTable 300)
+table-0 t e = made-in-range 0 t e (omega arith) (omega arith)
+
+itself : (R : ℕ) → 0 < R → R ≡ madeRetention R
+itself R l = else-itself R (λ e. omega (arith, l, e))
+
+table-R : (R : ℕ) (t : List ℕ) → length t ≡ tableWords → 60 ≤ R → R ≤ 3600 → (makeLawful R t ≡ true) × (made R t ≡ newTable R)
+table-R R t e l u =
+    let k = itself R (omega (arith, l)) in
+    let m = made-in-range R t e (omega (arith, k, l)) (omega (arith, k, u)) in
+    (m .0, m .1 ∙ ap newTable (sym k))
+
 tables-made : Made
 tables-made =
     record {
+      table-of-0 = λ t e. table-0 t e .1;
+      table-of-R = λ R t e l u. table-R R t e l u .1;
+      table-made-0 = λ t e. table-0 t e .0;
+      table-made-R = λ R t e l u. table-R R t e l u .0;
+      too-few-seconds = λ R t l u. let k = itself R l in below-range R t (omega (arith, k, u));
+      too-many-seconds = λ R t l. let k = itself R (omega (arith, l)) in above-range R t (omega (arith, k, l));
+      other-length = λ R t n. wrong-length (length t) (madeRetention R) n;
       table-refused = λ R t e. ap (λ (b : Bool). cond b (newTable (madeRetention R)) t) e;
       table-length = λ R t. made-length (makeLawful R t) (newTable (madeRetention R)) t
           (λ e. new-length (madeRetention R) ∙ sym (eqb-true (length t) tableWords (and-eq-true-iff (eqb (length t) tableWords) _ .0 e .0)));

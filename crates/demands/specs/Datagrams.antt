@@ -10,7 +10,7 @@ use lib.ListN.{length, getD, drop, replicate}
 use Rattle.octets.specs.Buffers.{Octets, put}
 use Rattle.octets.specs.Numbers.{be}
 use Rattle.session_record.specs.declared.Peer.{Peer}
-use Rattle.session_table.specs.Table.{recordAt, lawful, freshIn, sessionPlace, freePlace}
+use Rattle.session_table.specs.Table.{retention, recordAt, lawful, freshIn, sessionPlace, freePlace}
 use Rattle.session_book.specs.Call.{Answer, refused, opened}
 use Rattle.protocol.specs.Method.{keyFits}
 use Rattle.protocol.specs.declared.Refusal.{Refusal}
@@ -89,6 +89,8 @@ pub record Keeps (method : ℕ) (key : List ℕ) (client : Option ℕ) (clock : 
   pub stage : Stage method key s t out
   -- no refusal changes the table
   pub refused-keeps-table : (n : ℕ) → openAnswer method key client clock peer s t out ≡ refused n → openTable method key client clock peer s t out ≡ t
+  -- nor does any call change how long the table remembers
+  pub retention-kept : retention (openTable method key client clock peer s t out) ≡ retention t
   -- one given before the tag is good leaves the buffer
   pub untouched-before-tag : BeforeTag method key s t out → openOut method key client clock peer s t out ≡ out
   pub refused-before-tag : BeforeTag method key s t out → (h : Header) → openAnswer method key client clock peer s t out ≡ opened h → ⊥

@@ -4,12 +4,12 @@
 use mathlib.Core.Path.{_≡_}
 use mathlib.Core.Bool.{true, false}
 use mathlib.Core.List.{List, [], _∷_}
-use Prim.Native.Nat.{ℕ, _+_, _≤_}
+use Prim.Native.Nat.{ℕ, _+_, _≤_, _<_}
 use lib.ListN.{length, drop}
 use Rattle.protocol.specs.declared.Refusal.{Refusal}
 use Rattle.protocol.specs.declared.Refusal.the-variants.{Argument}
 use Rattle.protocol.specs.Refusal.{refusalNumber}
-use Rattle.session_table.specs.Table.{makeLawful, made}
+use Rattle.session_table.specs.Table.{tableWords, newTable, makeLawful, made}
 use Rattle.salt_pool.specs.Pool.{makeLawful as makeLawfulPool, made as madePool}
 use Rattle.datagram_parts.specs.declared.Side.the-variants.{Client, Server}
 use Rattle.datagram_seal.specs.declared.Sender.{Sender}
@@ -55,9 +55,17 @@ pub record SessionsBegun : Type 0 where
   pub clients : (id : ℕ) → clientSender id ≡ record { side = Client; id = id; packet = 0 }
   pub servers : (id client : ℕ) → BeginAnswered id client (begun id client)
 
--- ---- making a table or a pool: refused making keeps every word, and none is added or lost
+-- ---- making a table or a pool: 0 gives a table of 300 seconds, 60 to 3,600 one of so many, and nothing else gives one; refused
+-- making keeps every word, and none is added or lost
 
 pub record Made : Type 0 where
+  pub table-of-0 : (t : List ℕ) → length t ≡ tableWords → made 0 t ≡ newTable 300
+  pub table-of-R : (R : ℕ) (t : List ℕ) → length t ≡ tableWords → 60 ≤ R → R ≤ 3600 → made R t ≡ newTable R
+  pub table-made-0 : (t : List ℕ) → length t ≡ tableWords → makeLawful 0 t ≡ true
+  pub table-made-R : (R : ℕ) (t : List ℕ) → length t ≡ tableWords → 60 ≤ R → R ≤ 3600 → makeLawful R t ≡ true
+  pub too-few-seconds : (R : ℕ) (t : List ℕ) → 0 < R → R < 60 → makeLawful R t ≡ false
+  pub too-many-seconds : (R : ℕ) (t : List ℕ) → 3600 < R → makeLawful R t ≡ false
+  pub other-length : (R : ℕ) (t : List ℕ) → (length t ≡ tableWords → ⊥) → makeLawful R t ≡ false
   pub table-refused : (R : ℕ) (t : List ℕ) → makeLawful R t ≡ false → made R t ≡ t
   pub table-length : (R : ℕ) (t : List ℕ) → length (made R t) ≡ length t
   pub pool-refused : (method : ℕ) (t : List ℕ) → makeLawfulPool method t ≡ false → madePool method t ≡ t

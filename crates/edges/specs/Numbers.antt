@@ -137,14 +137,19 @@ tableFacts =
     ∷ fact (bits (lawful (lent 705 0) ∷ lawful (lent 705 59) ∷ lawful (lent 705 60) ∷ lawful (lent 705 3600) ∷ lawful (lent 705 3601) ∷ []))
     (0 ∷ 0 ∷ 1 ∷ 1 ∷ 0 ∷ [])
     ∷ fact (bits (lawful (lent 704 60) ∷ lawful (lent 706 60) ∷ [])) (0 ∷ 0 ∷ [])
-    -- making: 0 stands for 60
+    -- making: 0 stands for 300
     ∷ fact
     (bits (makeLawful 0 (lent 705 7) ∷ makeLawful 1 (lent 705 7) ∷ makeLawful 59 (lent 705 7) ∷ makeLawful 60 (lent 705 7)
     ∷ makeLawful 3600 (lent 705 7) ∷ makeLawful 3601 (lent 705 7) ∷ makeLawful 60 (lent 704 7) ∷ []))
     (1 ∷ 0 ∷ 0 ∷ 1 ∷ 1 ∷ 0 ∷ 0 ∷ [])
     ∷ fact
     (retention (made 0 (lent 705 7)) ∷ retention (made 60 (lent 705 7)) ∷ retention (made 3600 (lent 705 7)) ∷ retention (made 59 (lent 705 7)) ∷ [])
-    (60 ∷ 60 ∷ 3600 ∷ 7 ∷ [])
+    (300 ∷ 60 ∷ 3600 ∷ 7 ∷ [])
+    -- last time 1,000: a table made with 0 has it alive at 1,300 and not at 1,301, one made with 60 at 1,060 and not at 1,061
+    ∷ fact
+    (bits (live (retention (made 0 (lent 705 7))) 1300 record300 ∷ live (retention (made 0 (lent 705 7))) 1301 record300
+    ∷ live (retention (made 60 (lent 705 7))) 1060 record300 ∷ live (retention (made 60 (lent 705 7))) 1061 record300 ∷ []))
+    (1 ∷ 0 ∷ 1 ∷ 0 ∷ [])
     -- the words of a record, written and read, and where the second record stands
     ∷ fact (wordsOf onesRecord) ones
     ∷ fact (take 13 (drop 11 (store (newTable 60) 1 onesRecord))) (0 ∷ ones ++ (0 ∷ []))

@@ -1,7 +1,7 @@
 -- A lawful table, a made one, and what a packet ID meets, case by case.
 -- Assumes nothing.
 use Prim.Native.Nat.{ℕ, suc, _*_, _<_, _≤_}
-use mathlib.Core.Bool.{Bool, true, false, _&&_, cond}
+use mathlib.Core.Bool.{Bool, true, false, _&&_, cond, and-false}
 use mathlib.Core.List.{List, _∷_}
 use mathlib.Core.Option.{Option, none, some}
 use mathlib.Core.Path.{_≡_, sym, ap, _∙_}
@@ -53,6 +53,28 @@ is-made R k t c e ek el ec = (
   (λ i. set (ec i) 0 (ek i)) ∙ first (capacity * recordWords) (madeRetention R) t el
       ∙ sym (ap (λ (b : Bool). cond b (newTable (madeRetention R)) t) e),
 )
+
+-- the retention that is made is in range, or below or above it
+
+module _ (R : ℕ) (t : List ℕ) where
+  pub made-in-range : length t ≡ tableWords → leastRetention ≤ madeRetention R → madeRetention R ≤ greatestRetention
+      → (makeLawful R t ≡ true) × (made R t ≡ newTable (madeRetention R))
+  made-in-range e l u = (lawful-R, ap (λ (b : Bool). cond b (newTable (madeRetention R)) t) lawful-R)
+    where
+      lawful-R : makeLawful R t ≡ true
+      lawful-R = long-enough (length t) (madeRetention R) e l ∙ le-leb (madeRetention R) greatestRetention u
+
+  outside : inRange (madeRetention R) ≡ false → makeLawful R t ≡ false
+  outside e = ap (_&&_ (eqb (length t) tableWords)) e ∙ and-false (eqb (length t) tableWords)
+
+  pub below-range : madeRetention R < leastRetention → makeLawful R t ≡ false
+  below-range l = outside (ap (λ (b : Bool). b && leb (madeRetention R) greatestRetention) (lt-leb leastRetention (madeRetention R) l))
+
+  pub above-range : greatestRetention < madeRetention R → makeLawful R t ≡ false
+  above-range l =
+      outside
+      (ap (_&&_ (leb leastRetention (madeRetention R))) (lt-leb (madeRetention R) greatestRetention l)
+      ∙ and-false (leb leastRetention (madeRetention R)))
 
 -- ---- what a packet ID meets
 

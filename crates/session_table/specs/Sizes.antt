@@ -13,4 +13,4 @@ abbrev pub greatestRetention : ℕ
 greatestRetention = 3600
 
 abbrev pub defaultRetention : ℕ
-defaultRetention = 60
+defaultRetention = 300

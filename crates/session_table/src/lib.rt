@@ -24,7 +24,7 @@ const LEAST_RETENTION: u64 = 60;
 
 const GREATEST_RETENTION: u64 = 3600;
 
-const DEFAULT_RETENTION: u64 = 60;
+const DEFAULT_RETENTION: u64 = 300;
 
 // The words of a record behind the first, which tells whether it is in use.
 const ID: usize = 1;
@@ -157,11 +157,11 @@ pub fn is_lawful(table: &[u64]) -> bool
     if table.len() != TABLE {
         return false;
     }
-    let keep = table[0];
-    if keep < LEAST_RETENTION {
+    let retention = table[0];
+    if retention < LEAST_RETENTION {
         return false;
     }
-    keep <= GREATEST_RETENTION
+    retention <= GREATEST_RETENTION
 }
 
 // ---- one packet

@@ -67,7 +67,7 @@ impl fmt::Display for Invalid {
             Self::Retention { seconds } => {
                 write!(
                     f,
-                    "a retention is 60 to 3,600 seconds, or 0 for 60, not {seconds}"
+                    "a retention is 60 to 3,600 seconds, or 0 for 300, not {seconds}"
                 )
             }
             Self::SessionId { id } => {
@@ -124,7 +124,7 @@ mod tests {
             (key, "a key of 2022-blake3-aes-256-gcm has 32 bytes, not 33"),
             (
                 retention,
-                "a retention is 60 to 3,600 seconds, or 0 for 60, not 59",
+                "a retention is 60 to 3,600 seconds, or 0 for 300, not 59",
             ),
         ] {
             assert_eq!((text.as_str(), refusal), (expected, Refusal::Settings));

@@ -49,7 +49,7 @@ impl Table {
     pub const WORDS: usize = 1 + SESSIONS * RECORD_WORDS;
 
     /// Makes a table without sessions that remembers a silent session for
-    /// `retention` seconds: 60 to 3,600, or 0 for the library's own choice, 60.
+    /// `retention` seconds: 60 to 3,600, or 0 for the library's own choice, 300.
     ///
     /// # Errors
     ///

@@ -37,10 +37,19 @@ fn time_does_not_wrap() {
 
 #[test]
 fn a_session_is_remembered_for_60_seconds() {
-    let mut table = new_table();
+    remembered(new_table(), [(990, 1), (1_060, 1), (1_061, 0)]);
+}
+
+#[test]
+fn a_session_is_remembered_for_300_seconds_by_a_table_made_with_0() {
+    remembered(Table::new(0).unwrap(), [(990, 1), (1_300, 1), (1_301, 0)]);
+}
+
+/// How many sessions are alive at these clocks, one packet being accepted at 1,000.
+fn remembered(mut table: Table, clocks: [(u64, usize); 3]) {
     let datagram = sealed(METHOD, CLIENT_ID, 7, 1_000);
     open(&mut table, METHOD, 1_000, &datagram).unwrap();
-    for (clock, alive) in [(990, 1), (1_060, 1), (1_061, 0)] {
+    for (clock, alive) in clocks {
         assert_eq!(table.sessions(clock).count(), alive, "{clock}");
         let mut copy = Table::from_words(table.words());
         let same_packet = sealed(METHOD, CLIENT_ID, 7, clock);

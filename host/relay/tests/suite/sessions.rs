@@ -26,7 +26,7 @@ fn only_session(table: &Table, clock: u64) -> Session {
 
 #[test]
 fn a_new_table_has_no_sessions() {
-    for (asked, kept) in [(0, 60), (60, 60), (61, 61), (3_600, 3_600)] {
+    for (asked, kept) in [(0, 300), (60, 60), (61, 61), (3_600, 3_600)] {
         let table = Table::new(asked).unwrap();
         assert_eq!(table.retention(), kept);
         assert_eq!(table.sessions(0).count(), 0);
