@@ -27,7 +27,8 @@
  *   pool, session, stream or answer of another length than its own; a table
  *   whose retention is not 60 to 3,600; a pool of another method; a session
  *   whose side is neither 0 nor 1; a stream at another turn than the call's,
- *   or with a length above 65,535 at a payload. Nothing is written then.
+ *   or with a length of 0 or above 65,535 at a payload. Nothing is written
+ *   then.
  *
  * WHAT A REFUSAL WRITES
  *   No refusal changes a table, a pool or a sending session. A refusal before
@@ -98,6 +99,8 @@ extern "C" {
 #define RELAY_REFUSED_COUNTER 11      /* packet IDs or a stream's counter used up */
 #define RELAY_REFUSED_ARGUMENT 12     /* sealing: address, padding or session IDs unlawful */
 #define RELAY_REFUSED_BINDING 13      /* meant for another client, or answers another request */
+#define RELAY_REFUSED_EMPTY 14        /* a stream's payload of no bytes */
+#define RELAY_EMPTY RELAY_REFUSED_EMPTY
 
 /* The name of what a function returned, for a log. */
 static inline const char *relay_refusal_name(uint64_t number)
@@ -131,6 +134,8 @@ static inline const char *relay_refusal_name(uint64_t number)
         return "argument";
     case RELAY_REFUSED_BINDING:
         return "binding";
+    case RELAY_REFUSED_EMPTY:
+        return "empty";
     default:
         return "unknown";
     }
@@ -188,13 +193,13 @@ static inline const char *relay_refusal_name(uint64_t number)
 /* ---- words of a stream; the last four are secret */
 
 #define RELAY_STREAM_TURN 0    /* what the stream does next: */
-#define RELAY_TURN_ENDED 0     /*   nothing: a tag was wrong */
+#define RELAY_TURN_ENDED 0     /*   nothing: a tag was wrong, or a length was 0 */
 #define RELAY_TURN_LENGTH 1    /*   opens a length */
 #define RELAY_TURN_PAYLOAD 2   /*   opens a payload */
 #define RELAY_TURN_SEALING 3   /*   seals */
 #define RELAY_STREAM_METHOD 1
 #define RELAY_STREAM_COUNTER 2 /* of the next piece */
-#define RELAY_STREAM_LENGTH 3  /* of the payload that is next; else 0 */
+#define RELAY_STREAM_LENGTH 3  /* of the payload that is next, 1 to 65,535; else 0 */
 #define RELAY_STREAM_SUBKEY 4  /* 4 words, bytes big-endian; method 1 has zeros in the last two */
 
 /* ---- words of a salt pool: the method, then 256 records of 6 words, which are in use (not 0), time,
@@ -370,11 +375,12 @@ uint64_t relay_stream_open_request(uint64_t method, const uint8_t *key, size_t k
  *
  * salt          random, new for each stream
  * request_salt  the first bytes of the request
+ * payload       1 to 65,535 bytes
  * out           both salts, 43 bytes, and the payload with 16 bytes more
  * stream        RELAY_STREAM_WORDS words, all of them written: a stream that seals
  * answer        RELAY_AT_SEALED_LENGTH
  *
- * Refusals, in this order: 1, 2, 3. A refusal writes nothing.
+ * Refusals, in this order: 1, 14 (no payload), 2, 3. A refusal writes nothing.
  */
 uint64_t relay_stream_seal_response(uint64_t method, const uint8_t *key, size_t key_len,
                                     const uint8_t *salt, size_t salt_len,
@@ -394,7 +400,8 @@ uint64_t relay_stream_seal_response(uint64_t method, const uint8_t *key, size_t 
  * answer        RELAY_AT_USED, RELAY_AT_CHUNK_LENGTH (of the first payload);
  *               with RELAY_REFUSED_MORE, RELAY_AT_WANTED
  *
- * Refusals, in this order: 1, 10, 4, 6, 7, 13.
+ * Refusals, in this order: 1, 10, 4, 6, 7, 13, 14 (no first payload). A refused
+ * head gives no stream.
  */
 uint64_t relay_stream_open_response(uint64_t method, const uint8_t *key, size_t key_len,
                                     uint64_t clock, const uint8_t *request_salt,
@@ -408,12 +415,12 @@ uint64_t relay_stream_open_response(uint64_t method, const uint8_t *key, size_t 
  * Seals a length with its payload.
  *
  * stream   one that seals; two counters further behind the call
- * payload  0 to 65,535 bytes
+ * payload  1 to 65,535 bytes
  * out      the payload with 34 bytes more
  * answer   RELAY_AT_SEALED_LENGTH
  *
- * Refusals, in this order: 1 (lengths, method, a stream at another turn), 4 (a
- * stream that has ended), 11, 2, 3. A refusal writes nothing.
+ * Refusals, in this order: 1 (lengths, method, a stream at another turn), 14 (no
+ * payload), 4 (a stream that has ended), 11, 2, 3. A refusal writes nothing.
  */
 uint64_t relay_stream_seal_chunk(uint64_t *stream, size_t stream_len, const uint8_t *payload,
                                  size_t payload_len, uint8_t *out, size_t out_len,
@@ -429,9 +436,10 @@ uint64_t relay_stream_seal_chunk(uint64_t *stream, size_t stream_len, const uint
  *         the payload); with RELAY_REFUSED_MORE, RELAY_AT_WANTED
  *
  * Refusals, in this order: 1 (lengths, method, a stream at another turn), 4 (a
- * stream that has ended), 11, 10, 3, 4. They write nothing to `out`. 4 ends
- * the stream: it writes RELAY_TURN_ENDED. The others leave the stream as it was,
- * so the same call can be made again with more bytes or more room.
+ * stream that has ended), 11, 10, 3, 4, 14 (a length of 0). They write nothing to
+ * `out`. 4 and 14 end the stream: they write RELAY_TURN_ENDED, and from then on it
+ * is 4. The others leave the stream as it was, so the same call can be made again
+ * with more bytes or more room.
  */
 uint64_t relay_stream_open_chunk(uint64_t *stream, size_t stream_len, const uint8_t *bytes,
                                  size_t bytes_len, uint8_t *out, size_t out_len, uint64_t *answer,

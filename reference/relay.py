@@ -26,7 +26,7 @@ import sessions  # noqa: E402
 import streams  # noqa: E402
 from datagram import KEY_LENGTHS, SETTINGS  # noqa: E402
 from sessions import NOT_AUTHENTIC, Peer  # noqa: E402
-from streams import ENDED, LENGTH_NEXT, MAX_CHUNK, MORE, PAYLOAD_NEXT  # noqa: E402
+from streams import EMPTY, ENDED, LENGTH_NEXT, MAX_CHUNK, MORE, PAYLOAD_NEXT  # noqa: E402
 
 TABLE_WORDS = sessions.TABLE_WORDS
 POOL_WORDS = streams.POOL_WORDS
@@ -286,7 +286,7 @@ def stream_seal_chunk(stream: Words, payload: bytes, out: bytes, answer: Words) 
         return refused(SETTINGS)
     turn, method, counter, _, *subkey = stream
     if turn == ENDED and method in KEY_LENGTHS:
-        return refused(NOT_AUTHENTIC)
+        return refused(NOT_AUTHENTIC if payload else EMPTY)
     if turn != SEALING:
         return refused(SETTINGS)
     sender = streams.Sender(method, counter, tuple(subkey))
@@ -307,8 +307,8 @@ def stream_open_chunk(stream: Words, bytes: bytes, out: bytes, answer: Words) ->
     given = streams.step(receiver, bytes, out)
     if given.number == MORE:
         return asks_more(answer, given.count)
-    if given.number == NOT_AUTHENTIC:
-        return Left(NOT_AUTHENTIC, {"stream": (ENDED, *stream[1:])})
+    if given.number in (NOT_AUTHENTIC, EMPTY):
+        return Left(given.number, {"stream": (ENDED, *stream[1:])})
     if given.number:
         return refused(given.number)
     return accepted(
@@ -330,10 +330,10 @@ NUMBERS = {
     datagram_open_client: {*range(10), 13},
     stream_seal_request: {0, 1, 2, 3, 12},
     stream_open_request: {0, 1, *range(3, 11)},
-    stream_seal_response: {0, 1, 2, 3},
-    stream_open_response: {0, 1, 4, 6, 7, 10, 13},
-    stream_seal_chunk: {0, 1, 2, 3, 4, 11},
-    stream_open_chunk: {0, 1, 3, 4, 10, 11},
+    stream_seal_response: {0, 1, 2, 3, 14},
+    stream_open_response: {0, 1, 4, 6, 7, 10, 13, 14},
+    stream_seal_chunk: {0, 1, 2, 3, 4, 11, 14},
+    stream_open_chunk: {0, 1, 3, 4, 10, 11, 14},
 }
 
 FUNCTIONS = {f"relay_{function.__name__}": function for function in NUMBERS}
@@ -411,8 +411,15 @@ def stream_examples():
     yield "turns", stream_seal_chunk(receiver, b"", FILLED, ANSWER) == refused(1)
     yield "too long", stream_open_chunk((2, 1, 3, 65_536, *sender[4:]), b"", b"", ANSWER)[0] == 1
     for stream in ((0, 1, *sender[2:]), (0, 3, *sender[2:])):
-        number = stream_seal_chunk(stream, b"", FILLED, ANSWER).number
-        yield "sealing, ended", number == (4 if stream[1] == 1 else 1)
+        for payload, refusal in ((b"a", 4), (b"", 14)):
+            number = stream_seal_chunk(stream, payload, FILLED, ANSWER).number
+            yield "sealing, ended", number == (refusal if stream[1] == 1 else 1)
+    none = stream_open_chunk((2, 1, 3, 0, *sender[4:]), bytes(16), b"", ANSWER)
+    yield "a payload of 0", none == refused(1)
+    empty = streams.sealed_piece(streams.subkey(KEY, SALT), 4, b"\0\0")
+    stream = (1, 1, 4, 0, *sender[4:])
+    given = stream_open_chunk(stream, empty, FILLED, ANSWER)
+    yield "a length of 0", given == Left(14, {"stream": (0, *stream[1:])})
 
 
 def response_examples():

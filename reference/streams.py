@@ -26,6 +26,7 @@ from sessions import BINDING, FULL, MALFORMED, NOT_AUTHENTIC, REPLAY, TIME, TYPE
 from sessions import target_of, time_valid  # noqa: E402
 
 MORE = 10  # the refusal that gives the number of bytes wanted
+EMPTY = 14  # a payload of no bytes
 
 SALT_LENGTHS = {1: 16, 2: 32}  # by method
 REQUEST, RESPONSE = 0, 1  # types
@@ -242,6 +243,7 @@ def seal_request(method, key, salt, clock, address, padding, payload, output):
 def seal_response(method, key, salt, request_salt, clock, payload, output):
     try:
         require_settings(method, key, salt, request_salt)
+        require(payload, EMPTY)
         before = len(salt) + fixed_length(method, RESPONSE) + TAG_LENGTH
         require_size(len(payload), before, output)
     except Refused as refusal:
@@ -259,6 +261,7 @@ def head(key, salt, *texts):
 def seal_chunk(stream, payload, output):
     try:
         require(stream.method in KEY_LENGTHS, SETTINGS)
+        require(payload, EMPTY)
         require(stream.counter + 2 <= LAST_COUNTER, COUNTER)
         require_size(len(payload), LENGTH_CHUNK, output)
     except Refused as refusal:
@@ -316,6 +319,7 @@ def open_response(method, key, clock, request_salt, data, output=b""):
         text = opened_piece(secret, 0, data[fixed:end])
         time, bound, length = read_fixed(RESPONSE, clock, text)
         require(bound == request_salt, BINDING)
+        require(length, EMPTY)
     except Refused as refusal:
         return refusal.answer(None, output)
     stream = Receiver(method, PAYLOAD_NEXT, length, 1, words_from(secret))
@@ -323,17 +327,18 @@ def open_response(method, key, clock, request_salt, data, output=b""):
 
 
 def step(stream, data, output):
-    """Opens the next chunk. Refusal 4 ends the stream."""
+    """Opens the next chunk. Refusals 4 and 14 end the stream."""
     try:
         return accept_chunk(stream, data, output)
     except Refused as refusal:
-        if refusal.number == NOT_AUTHENTIC:
+        if refusal.number in (NOT_AUTHENTIC, EMPTY):
             stream = stream._replace(turn=ENDED)
         return refusal.answer(stream, output)
 
 
 def accept_chunk(stream, data, output):
     require(stream.method in KEY_LENGTHS, SETTINGS)
+    require(stream.turn != PAYLOAD_NEXT or stream.length, SETTINGS)
     require(stream.turn != ENDED, NOT_AUTHENTIC)
     require(stream.counter < LAST_COUNTER, COUNTER)
     text_length = stream.length if stream.turn == PAYLOAD_NEXT else 2
@@ -347,6 +352,7 @@ def accept_chunk(stream, data, output):
         later = later._replace(turn=LENGTH_NEXT, length=0)
         return Answer(0, end, Chunk(text_length), later, text + output[text_length:])
     length = int.from_bytes(text, "big")
+    require(length, EMPTY)
     later = later._replace(turn=PAYLOAD_NEXT, length=length)
     return Answer(0, end, Chunk(length), later, output)
 
@@ -409,7 +415,7 @@ def steps(stream, data):
         stream, data = answer.stream, data[answer.count :]
 
 
-PAYLOADS = (b"first", b"", b"\0", bytes(99), b"last")
+PAYLOADS = (b"first", b"\0", bytes(99), b"last")
 
 
 def chunks(stream, payloads):
@@ -496,6 +502,32 @@ def order_examples():
     bad = response_of(1, b"", bound=salt)
     answer = open_response(1, KEYS[1], CLOCK, REQUEST_SALTS[1], bad)
     yield "a response's 13", answer.number == BINDING
+    answer = open_response(1, KEYS[1], CLOCK, REQUEST_SALTS[1], response_of(1, b""))
+    yield "a response's 14", answer == Answer(EMPTY, 0, None, None, b"")
+
+
+def empty_chunks():
+    for method, key in KEYS.items():
+        words = words_from(subkey(key, SALTS_OF[method]))
+        for counter in (2, LAST_COUNTER - 1, LAST_COUNTER):
+            sender = Sender(method, counter, words)
+            answer = seal_chunk(sender, b"", b"")
+            yield f"sealed by {method} at {counter}", answer == (EMPTY, 0, None, sender, b"")
+        bad = seal_response(method, key, SALTS_OF[method], REQUEST_SALTS[method], CLOCK, b"", b"")
+        yield f"a response of {method}", bad == (EMPTY, 0, None, None, b"")
+        stream = Receiver(method, LENGTH_NEXT, 0, 2, words)
+        data = sealed_piece(secret_of(stream), 2, b"\0\0")
+        answer = step(stream, data + b"behind", FILLED)
+        ended = stream._replace(turn=ENDED)
+        yield f"a length of {method}", answer == (EMPTY, 0, None, ended, FILLED)
+        yield f"then {method}", step(ended, data, FILLED).number == NOT_AUTHENTIC
+        bad = step(stream, datagram.flipped(data, 17), FILLED)
+        yield f"its tag first {method}", bad.number == NOT_AUTHENTIC
+        lent = stream._replace(turn=PAYLOAD_NEXT)
+        answer = step(lent, sealed_piece(secret_of(stream), 2, b""), FILLED)
+        yield f"a payload turn of {method}", answer == (SETTINGS, 0, None, lent, FILLED)
+        one = sealed_piece(secret_of(stream), 2, b"\0\1")
+        yield f"a length of 1 of {method}", step(stream, one, FILLED).number == 0
 
 
 def pool_examples():
@@ -537,7 +569,7 @@ def counter_examples():
 def selftest():
     """The names of the examples that this code fails."""
     checks = (whole_streams(), wanted_numbers(), malformed_requests(), order_examples())
-    checks += (pool_examples(), counter_examples())
+    checks += (pool_examples(), counter_examples(), empty_chunks())
     return [name for name, holds in itertools.chain(*checks) if not holds]
 
 

@@ -322,11 +322,12 @@ static void names(void)
     check(strcmp(version, RELAY_VERSION) == 0, "the version's numbers");
     check(strcmp(relay_refusal_name(RELAY_OK), "ok") == 0, "what is no refusal");
     check(strcmp(relay_refusal_name(RELAY_REFUSED_REPLAY), "replay") == 0, "a refusal's name");
-    check(strcmp(relay_refusal_name(14), "unknown") == 0, "no refusal's number");
-    for (uint64_t a = 0; a < 14; a++)
-        for (uint64_t b = a + 1; b <= 14; b++)
+    check(strcmp(relay_refusal_name(RELAY_EMPTY), "empty") == 0, "the newest refusal's name");
+    check(strcmp(relay_refusal_name(15), "unknown") == 0, "no refusal's number");
+    for (uint64_t a = 0; a < 15; a++)
+        for (uint64_t b = a + 1; b <= 15; b++)
             check(strcmp(relay_refusal_name(a), relay_refusal_name(b)) != 0, "names that differ");
-    printf("version %s: 13 refusals, each with its name\n", RELAY_VERSION);
+    printf("version %s: 14 refusals, each with its name\n", RELAY_VERSION);
 }
 
 /* ---- wrong lengths */

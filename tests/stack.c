@@ -206,13 +206,16 @@ static void open_chunk(uint64_t expected)
     used += (size_t)answer[RELAY_AT_USED];
 }
 
-static void try_all(void)
+static void try_datagrams(void)
 {
     measure(session_begin_client, RELAY_OK);
     open_datagram(datagram_open_server);
     measure(session_begin_server, RELAY_OK);
     open_datagram(datagram_open_client);
+}
 
+static void try_streams(void)
+{
     measure(pool_new, RELAY_OK);
     seal(stream_seal_request);
     measure(stream_open_request, RELAY_OK);
@@ -251,7 +254,9 @@ int main(void)
         key_len = method == RELAY_AES_128_GCM ? 16 : 32;
         for (size_t i = 0; i < sizeof lengths / sizeof lengths[0]; i++) {
             payload_len = lengths[i];
-            try_all();
+            try_datagrams();
+            if (payload_len > 0)
+                try_streams();
         }
     }
     report();

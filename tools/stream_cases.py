@@ -14,7 +14,7 @@ from stream_calls import SEAL_CHUNK, SEAL_REQUEST, SEAL_RESPONSE, SEALING, WORD_
 from stream_calls import Calls, flipped, front_of, full_pool, pattern, piece  # noqa: E402
 from stream_calls import receiver, request, response, salt_of, sender, subkey_of  # noqa: E402
 from stream_calls import text_of  # noqa: E402
-from streams import ENDED, KEYS, MAX_CHUNK, MORE, POOL_WORDS, SALT_LENGTHS  # noqa: E402
+from streams import EMPTY, ENDED, KEYS, MAX_CHUNK, MORE, POOL_WORDS, SALT_LENGTHS  # noqa: E402
 from streams import SALTS, new_pool  # noqa: E402
 from vectors import BUFFER_LIMIT, STREAMS  # noqa: E402
 
@@ -47,13 +47,16 @@ def exchange(calls, number, address, padding, lengths):
     data = send(calls, 0, head, lengths[1:])
     given = calls.run(OPEN_REQUEST, slot=1, data=data, clock=1_009)
     receive(calls, 1, data[given.count :])
+    if lengths[0] == 0:  # a request may begin with padding alone, a response may not
+        calls.run(SEAL_RESPONSE, EMPTY, slot=2, salt=theirs, other=ours, **first)
+        first["data"] = pattern(1)
     head = calls.sealed(SEAL_RESPONSE, slot=2, salt=theirs, other=ours, **first)
     data = send(calls, 2, head, lengths[1:])
     given = calls.run(OPEN_RESPONSE, slot=3, salt=ours, data=data)
     receive(calls, 3, data[given.count :])
 
 
-LENGTHS = ((0, 1, 16), (5, 0, 17), (1, 40, 0), (33, 15, 1), (16, 2, 31), (0, 0, 0), (64, 3, 255))
+LENGTHS = ((0, 1, 16), (5, 1, 17), (1, 40, 2), (33, 15, 1), (16, 2, 31), (0, 1, 1), (64, 3, 255))
 
 
 def whole_groups():
@@ -66,14 +69,14 @@ def whole_groups():
         yield f"{bits}, whole streams", calls
 
     calls = Calls(2)
-    exchange(calls, 0, LONG, 900, (1_000, 1_500, 0, 1, 1_400))
+    exchange(calls, 0, LONG, 900, (1_000, 1_500, 2, 1, 1_400))
     yield "longer chunks", calls
 
     calls = Calls()
     for length in range(36):
         method = 1 + length % 2
         calls.begin(s0=sender(method), s1=receiver(method))
-        data = calls.sealed(SEAL_CHUNK, data=pattern(length))
+        data = calls.sealed(SEAL_CHUNK, answer=0 if length else EMPTY, data=pattern(length))
         receive(calls, 1, data)
     yield "payload lengths", calls
 
@@ -94,7 +97,7 @@ def head_groups():
             bound = salt_of(method, "of the request")
             calls.run(OPEN_RESPONSE, data=data, clock=clock, salt=bound)
         same = salt_of(method)  # a response may have its request's salt
-        data = calls.sealed(SEAL_RESPONSE, salt=same, other=same, data=b"")
+        data = calls.sealed(SEAL_RESPONSE, salt=same, other=same)
         calls.run(OPEN_RESPONSE, data=data, salt=same)
         yield f"{bits}, heads", calls
 
@@ -142,10 +145,14 @@ def cut_response_groups():
             calls.run(OPEN_RESPONSE, MORE, data=data, cut=cut, count=front)
         calls.run(OPEN_RESPONSE, 0, data=data, cut=front, count=front)
         cut_steps(calls, data[front:], 21)
-        texts = (b"\0\3", b"xyz", b"\0\0", b"")
+        texts = (b"\0\3", b"xyz", b"\0\1", b"w", b"\0\0")
         pieces = [piece(method, text, at, "of a response") for at, text in enumerate(texts, 2)]
-        for number, sealed in enumerate(pieces):
+        for number, sealed in enumerate(pieces[:-1]):
             cut_steps(calls, b"".join(pieces[number:]), len(sealed))
+        for cut in range(18):
+            calls.run(OPEN_CHUNK, MORE, data=pieces[-1], cut=cut, count=18)
+        calls.run(OPEN_CHUNK, EMPTY, data=pieces[-1])
+        calls.run(OPEN_CHUNK, NOT_AUTHENTIC, data=pieces[-1])
         yield f"{bits}, responses and steps cut short", calls
 
 
@@ -162,7 +169,8 @@ def wanted_group():
                 calls.run(OPEN_REQUEST, MORE, count=wanted, **call)
             for cut in (0, 15, length + 15):
                 call = {"slot": 1, "data": b"", "cut": cut, "room": 0}
-                calls.run(OPEN_CHUNK, MORE, count=length + 16, **call)
+                call |= {"count": length + 16} if length else {}
+                calls.run(OPEN_CHUNK, MORE if length else SETTINGS, **call)
     return "numbers wanted", calls
 
 
@@ -455,7 +463,7 @@ def size_group():
 def room_groups():
     calls = Calls()
     for method in METHODS.values():
-        for number, kind in itertools.product((0, 1, 40), SEALING):
+        for number, kind in itertools.product((1, 2, 40), SEALING):
             calls.begin(s0=sender(method))
             call = {"method": method, "data": pattern(number), "padding": 1 + number}
             due = len(calls.sealed(kind, **call))
@@ -474,7 +482,7 @@ def room_groups():
         calls.run(OPEN_REQUEST, 0, method=method, data=data, room=due)
         empty = request(method, salt_of(method, 1), text=b"")
         calls.run(OPEN_REQUEST, MALFORMED, method=method, data=empty, room=0)
-        pieces = {None: piece(method, b"\0\5"), 0: piece(method, b""), 5: piece(method, b"abcde")}
+        pieces = {None: piece(method, b"\0\5"), 1: piece(method, b"a"), 5: piece(method, b"abcde")}
         for length, sealed in pieces.items():
             calls.begin(new_pool(method), s0=receiver(method, length))
             for room in range(length or 0):
@@ -501,7 +509,7 @@ REQUEST_FAULTS = {
 }
 ANSWERS = {"cut": MORE, "forged": NOT_AUTHENTIC}
 REQUEST_SAID = ("kind", "time", "salt", "text")
-SAID = ("kind", "time", "bound")
+SAID = ("kind", "time", "bound", "payload")
 
 
 def faulty_request(calls, faults):
@@ -526,6 +534,7 @@ RESPONSE_FAULTS = {
     TYPE: {"kind": 0},
     TIME: {"time": 1_031},
     BINDING: {"bound": string(16)},
+    EMPTY: {"payload": b""},
 }
 
 
@@ -559,28 +568,46 @@ STEP_FAULTS = {
     NOT_AUTHENTIC: {"flip": (1, 1)},
 }
 STATE = ("method", "turn", "counter")
+LENGTH_FAULTS = STEP_FAULTS | {MORE: {"cut": 17}, EMPTY: {}}
+del LENGTH_FAULTS[ROOM]  # a length asks for none
 
 
-def step_order_group():
+def step_order_group(name, possible, good, text_with):
+    """Each choice of the possible faults, in a stream that is else the good one."""
     calls = Calls(pool=False)
-    for count in range(len(STEP_FAULTS) + 1):
-        for faults in itertools.combinations(STEP_FAULTS, count):
+    for count in range(len(possible) + 1):
+        for faults in itertools.combinations(possible, count):
             changes = {}
             for fault in faults:
-                changes |= STEP_FAULTS[fault]
+                changes |= possible[fault]
             odd = {name: changes.pop(name) for name in STATE if name in changes}
-            state = receiver(1, 3)._replace(**odd)
+            state = good._replace(**odd)
             words = (state.turn, state.method, state.counter, state.length, *state.subkey)
             calls.begin([0] * STREAMS + list(words))
             answer = (NOT_AUTHENTIC if faults[0] == "ended" else faults[0]) if faults else 0
-            calls.run(OPEN_CHUNK, answer, data=piece(1, b"abc"), **changes)
-    return "several faults of a step", calls
+            calls.run(OPEN_CHUNK, answer, data=piece(1, text_with(faults)), **changes)
+            if answer in (NOT_AUTHENTIC, EMPTY):
+                calls.run(OPEN_CHUNK, NOT_AUTHENTIC, data=piece(1, text_with(())))
+    return name, calls
+
+
+def step_order_groups():
+    yield step_order_group(
+        "several faults of a step", STEP_FAULTS, receiver(1, 3), lambda faults: b"abc"
+    )
+    yield step_order_group(
+        "several faults of a length",
+        LENGTH_FAULTS,
+        receiver(1),
+        lambda faults: b"\0\0" if EMPTY in faults else b"\0\1",
+    )
 
 
 # By kind of call, in the order of sealing. A head has no counter to run out.
 SEALING_FAULTS = {
     SETTINGS: ({"salt": string(15)}, {"other": string(17)}, {"method": 3}),
     ARGUMENT: ({"other": NAME[:-1], "padding": 901}, None, None),
+    EMPTY: (None, {"data": b""}, {"data": b""}),
     COUNTER: (None, None, {"counter": LAST - 1}),
     LENGTH: ({"data": pattern(65_536)}, {"data": pattern(65_536)}, {"data": pattern(65_536)}),
     ROOM: ({"room": 20}, {"room": 20}, {"room": 20}),
@@ -593,6 +620,8 @@ def sealing_order_group():
         order = [number for number in SEALING_FAULTS if SEALING_FAULTS[number][kind]]
         for count in range(len(order) + 1):
             for faults in itertools.combinations(order, count):
+                if {EMPTY, LENGTH} <= {*faults}:
+                    continue  # no payload is both
                 changes = {}
                 for fault in faults:
                     changes |= SEALING_FAULTS[fault][kind]
@@ -918,7 +947,7 @@ def make_groups():
         size_group(),
         *room_groups(),
         *order_groups(),
-        step_order_group(),
+        *step_order_groups(),
         sealing_order_group(),
         *kept_groups(),
         refused_group(),

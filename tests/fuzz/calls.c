@@ -31,14 +31,14 @@ static const struct {
     [SEAL_RESPONSE] = {"relay_stream_seal_response",
                        B(KEY) | B(SALT) | B(REQUEST_SALT) | B(PAYLOAD) | B(OUT) | B(STREAM) |
                            B(ANSWER),
-                       SETTINGS_ONLY | N(2) | N(3)},
+                       SETTINGS_ONLY | N(2) | N(3) | N(14)},
     [OPEN_RESPONSE] = {"relay_stream_open_response",
                        B(KEY) | B(REQUEST_SALT) | B(INPUT) | B(STREAM) | B(ANSWER),
-                       SETTINGS_ONLY | N(4) | N(6) | N(7) | N(10) | N(13)},
+                       SETTINGS_ONLY | N(4) | N(6) | N(7) | N(10) | N(13) | N(14)},
     [SEAL_CHUNK] = {"relay_stream_seal_chunk", B(STREAM) | B(PAYLOAD) | B(OUT) | B(ANSWER),
-                    SETTINGS_ONLY | N(2) | N(3) | N(4) | N(11)},
+                    SETTINGS_ONLY | N(2) | N(3) | N(4) | N(11) | N(14)},
     [OPEN_CHUNK] = {"relay_stream_open_chunk", B(STREAM) | B(INPUT) | B(OUT) | B(ANSWER),
-                    SETTINGS_ONLY | N(3) | N(4) | N(10) | N(11)},
+                    SETTINGS_ONLY | N(3) | N(4) | N(10) | N(11) | N(14)},
 };
 
 const char *name_of(enum function function)

@@ -44,7 +44,7 @@ enum buffer {
     BUFFERS
 };
 
-enum { NUMBERS = 14 }; /* 0 and the refusals */
+enum { NUMBERS = 15 }; /* 0 and the refusals */
 
 struct lending {
     const void *data;

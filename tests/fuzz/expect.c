@@ -92,7 +92,8 @@ static int lawful_turn(const struct call *c)
         return 0;
     if (c->function == SEAL_CHUNK)
         return w[0] == RELAY_TURN_SEALING || w[0] == RELAY_TURN_ENDED;
-    return w[0] <= RELAY_TURN_LENGTH || (w[0] == RELAY_TURN_PAYLOAD && w[3] <= RELAY_MAX_CHUNK);
+    return w[0] <= RELAY_TURN_LENGTH ||
+           (w[0] == RELAY_TURN_PAYLOAD && w[3] > 0 && w[3] <= RELAY_MAX_CHUNK);
 }
 
 static int lawful(const struct call *c)
@@ -255,6 +256,8 @@ static uint64_t expect_sealed_request(const struct call *c, struct expectation *
 static uint64_t expect_sealed_response(const struct call *c, struct expectation *e)
 {
     size_t len = len_of(c, PAYLOAD), around = 2 * key_length(c->method) + 11 + 2 * TAG_LEN;
+    if (len == 0)
+        return RELAY_REFUSED_EMPTY;
     uint64_t number = expect_size(c, e, len, RELAY_MAX_CHUNK, around);
     if (number != RELAY_OK)
         return number;
@@ -275,6 +278,8 @@ static void stream_subkey(const uint64_t *words, uint8_t *subkey)
 static uint64_t expect_sealed_chunk(const struct call *c, struct expectation *e)
 {
     const uint64_t *w = words_of(c, STREAM);
+    if (len_of(c, PAYLOAD) == 0)
+        return RELAY_REFUSED_EMPTY;
     if (w[0] == RELAY_TURN_ENDED)
         return RELAY_REFUSED_NOT_AUTHENTIC;
     if (w[2] >= UINT64_MAX - 1)
@@ -516,6 +521,8 @@ static uint64_t expect_response(const struct call *c, struct expectation *e)
     if (memcmp(opened + 9, bytes_of(c, REQUEST_SALT), salt) != 0)
         return RELAY_REFUSED_BINDING;
     uint64_t length = get_number(opened + fixed - 2, 2);
+    if (length == 0)
+        return RELAY_REFUSED_EMPTY;
     subkey_words(c, bytes_of(c, INPUT), words);
     set_state(e, RELAY_TURN_PAYLOAD, c->method, 1, length, words);
     e->words[RELAY_AT_USED] = salt + fixed + TAG_LEN;
@@ -542,6 +549,8 @@ static uint64_t expect_opened_chunk(const struct call *c, struct expectation *e)
     if (!piece_opens(subkey, key_length(w[1]), w[2], bytes_of(c, INPUT), len + TAG_LEN))
         return RELAY_REFUSED_NOT_AUTHENTIC;
     uint64_t length = payload ? len : get_number(opened, 2);
+    if (length == 0)
+        return RELAY_REFUSED_EMPTY;
     uint64_t turn = payload ? RELAY_TURN_LENGTH : RELAY_TURN_PAYLOAD;
     set_state(e, turn, w[1], w[2] + 1, payload ? 0 : length, w + 4);
     e->words[RELAY_AT_USED] = len + TAG_LEN;

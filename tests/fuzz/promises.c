@@ -70,8 +70,9 @@ static void check_state(const struct call *call, const struct left *left, enum b
 {
     const struct lent *state = &left->lent[b];
     size_t written = e->state_len * sizeof(uint64_t);
-    if (call->function == OPEN_CHUNK && e->number == RELAY_REFUSED_NOT_AUTHENTIC) {
-        promise(zero(state->ours, sizeof(uint64_t)), "a wrong tag did not end the stream");
+    int ends = e->number == RELAY_REFUSED_NOT_AUTHENTIC || e->number == RELAY_REFUSED_EMPTY;
+    if (call->function == OPEN_CHUNK && ends) {
+        promise(zero(state->ours, sizeof(uint64_t)), "refusal 4 or 14 did not end the stream");
         written = sizeof(uint64_t);
     } else if (e->number != RELAY_OK) {
         written = 0;

@@ -268,6 +268,13 @@ def responses():
         step("SEAL_RESPONSE", how=ONE_SHORT),
         *(step("SEAL_RESPONSE", length=0xFFFF - less) for less in (64, 65)),
     ]
+    for length_at in (25, 41):  # by method: a first payload of 0 bytes
+        yield [
+            step("PATCH", who=2, place=0x8000 | length_at),
+            step("CRAFT_HEAD", how=1),
+            step("OPEN_RESPONSE"),
+            step("SEAL_RESPONSE", length=0),
+        ]
 
 
 def chunks():
@@ -297,7 +304,11 @@ def chunks():
         step("OPEN_CHUNK"),
         step("CRAFT_CHUNK", how=1, length=8, place=9),
         *[step("OPEN_CHUNK")] * 3,
+        step("CRAFT_CHUNK", how=1, length=8, place=0),
+        *[step("OPEN_CHUNK")] * 2,
         step("SET_WORD", who=12, place=0, value=2),
+        step("SET_WORD", who=12, place=3, value=0),
+        step("OPEN_CHUNK"),
         step("SET_WORD", who=12, place=3, value=65_536),
         step("OPEN_CHUNK"),
         step("SET_WORD", who=12, place=3, value=9),

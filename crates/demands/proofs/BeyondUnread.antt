@@ -2,7 +2,7 @@
 -- Assumes nothing.
 use mathlib.Core.Path.{_≡_, refl, sym, ap, _∙_, subst}
 use mathlib.Core.List.{List, [], _∷_}
-use Prim.Native.Nat.{ℕ, zero, suc, _+_, _≤_, min}
+use Prim.Native.Nat.{ℕ, zero, suc, _+_, _≤_, min, _<_}
 use native.Mathlib.Omega.{arith}
 use lib.ListN.{length, take, drop, length-take}
 use lib.Seq.{take-take, length-take-le}
@@ -125,6 +125,7 @@ module _ (method : ℕ) (key : List ℕ) (clock : ℕ) (s t : List ℕ) where
           time = d .time;
           size = d .size;
           fixed-opens = fixed-kept 1 (saltLength method) (d .time) (d .size) response-salt response-front (d .fixed-opens);
+          not-empty = d .not-empty;
           for-us = (λ i. bindingOf (saltLength method) (openAt (subkey key (response-salt i)) 0 (response-front i))) ∙ d .for-us;
           says = d .says;
           stream =
@@ -141,12 +142,18 @@ module _ (key : List ℕ) (counter m : ℕ) (s t : List ℕ) (e : Begins (m + 16
 turn-kept : (key : List ℕ) (counter : ℕ) (turn : Turn) (s t out : List ℕ) (c : Chunk) → TurnOpens key counter turn s (length out) c → Begins (c .used) s t
     → TurnOpens key counter turn t (length out) c × (turnText key counter turn t out ≡ turnText key counter turn s out)
 turn-kept key counter Length s t out c d e =
-    let u : Begins 18 s t = subst (λ (n : ℕ). Begins n s t) (ap (λ (x : Chunk). x .used) (d .1)) e in (
-      (piece-kept key counter 2 s t u 0 (length out) (d .0), d .1 ∙ ap (λ (x : List ℕ). record { used = 18; length = be 2 (openAt key counter x) }) (sym u)),
+    let u : Begins 18 s t = subst (λ (n : ℕ). Begins n s t) (ap (λ (x : Chunk). x .used) (d .1 .1)) e in (
+      (
+        piece-kept key counter 2 s t u 0 (length out) (d .0),
+        (
+          subst (λ (x : List ℕ). 0 < be 2 (openAt key counter x)) (sym u) (d .1 .0),
+          d .1 .1 ∙ ap (λ (x : List ℕ). record { used = 18; length = be 2 (openAt key counter x) }) (sym u),
+        ),
+      ),
       refl,
     )
 turn-kept key counter (Payload n) s t out c d e =
-    let u : Begins (n + 16) s t = subst (λ (k : ℕ). Begins k s t) (ap (λ (x : Chunk). x .used) (d .1)) e in
+    let u : Begins (n + 16) s t = subst (λ (k : ℕ). Begins k s t) (ap (λ (x : Chunk). x .used) (d .1 .1)) e in
     ((piece-kept key counter n s t u n (length out) (d .0), d .1), ap (λ (x : List ℕ). put out 0 (openAt key counter x)) u)
 turn-kept key counter Ended s t out c d e = absurd d
 

@@ -1,19 +1,19 @@
 -- When exactly a head is accepted, and what each way out of its call leaves.
 -- Assumes nothing.
 use mathlib.Core.Path.{_≡_, refl, sym, ap, _∙_, subst}
-use mathlib.Core.Bool.{Bool, true, false, cond, not, _&&_, and-eq-true-iff}
-use mathlib.Core.List.{List}
+use mathlib.Core.Bool.{Bool, true, false, cond, not, _&&_, and-eq-true-iff, false≢true}
+use mathlib.Core.List.{List, [], _∷_}
 use Prim.Native.Nat.{ℕ, _+_, _≤_}
 use native.Mathlib.Omega.{arith}
 use lib.Dec.{eqb, leb, ltb}
 use lib.ListN.{length, getD, take, drop, replicate, length-drop, length-replicate}
 use lib.Seq.{length-take-le}
-use borrow.Author.Tests.{eq-eqb, le-leb, lt-ltb, leb-true, ltb-true, eqb-true}
+use borrow.Author.Tests.{eq-eqb, ne-eqb, le-leb, lt-ltb, leb-true, ltb-true, eqb-true, eqb-false}
 use Rattle.octets.specs.Buffers.{put, same}
 use Rattle.octets.specs.Numbers.{be}
 use Rattle.octets.proofs.BufferLaws.{put-again, same-refl, same-eq}
 use Rattle.protocol.specs.declared.Refusal.{Refusal}
-use Rattle.protocol.specs.declared.Refusal.the-variants.{Settings, Room, NotAuthentic, Malformed, WrongType, WrongTime, Replay, Full, More}
+use Rattle.protocol.specs.declared.Refusal.the-variants.{Settings, Room, NotAuthentic, Malformed, WrongType, WrongTime, Replay, Full, More, Binding, Empty}
 use Rattle.protocol.specs.Refusal.{refusalNumber}
 use Rattle.protocol.specs.Method.{keyFits, saltLength}
 use Rattle.protocol.specs.Subkey.{subkey}
@@ -26,9 +26,9 @@ use Rattle.salt_pool.specs.declared.Met.{Met}
 use Rattle.salt_pool.specs.declared.Met.the-variants.{Room as Free, Replay as Known, Full as NoRoom}
 use Rattle.salt_pool.specs.Pool.{meet, store}
 use Rattle.stream_pieces.specs.declared.Subkey.{Subkey}
-use Rattle.stream_pieces.specs.Pieces.{authenticAt, openAt, subkeyWords}
+use Rattle.stream_pieces.specs.Pieces.{isEmpty, authenticAt, openAt, subkeyWords}
 use Rattle.stream_heads.specs.Heads.{maxPadding, frontLength, fixedOf, fieldsOf, readFixed, openFixed}
-use Rattle.stream_open.specs.declared.Turn.the-variants.{Length}
+use Rattle.stream_open.specs.declared.Turn.the-variants.{Length, Payload}
 use Rattle.stream_open.specs.declared.Receiver.{Receiver}
 use Rattle.stream_heads.specs.declared.Fixed.{Fixed}
 use Rattle.stream_heads.specs.declared.FixedRead.{FixedRead}
@@ -44,8 +44,8 @@ use Rattle.stream_open_response.specs.declared.ResponseOpened.the-variants.{Acc
 use Rattle.stream_open.specs.Chunks.{receiver}
 use Rattle.stream_open_response.specs.Responses.{bindingOf, boundAs, boundOf, responseAt, openedResponse}
 use Rattle.stream_open_request.specs.Requests.{paddingAt, paddingFits, headerWith, readVariable, headLength, variableOf, openVariable, settled, variableOut, openedAs, fixedAs, readHead, fixedOut, headOut, storedIn, headPool, settings, openedRequest, requestOut, requestPool}
-use Rattle.demands.specs.StreamsKeep.{saltOf, ofRequest, ofFront, ofResponse, dueOf, ResponseAnswered, accepted-response, refused-response}
-use Rattle.demands.specs.StreamsOpen.{FixedOpens, ValidVariable, variableAt, HeadOpens, RequestOpens, RequestExactlyWhen, ResponseOpens, ResponseExactlyWhen}
+use Rattle.demands.specs.StreamsKeep.{among, saltOf, ofRequest, ofFront, ofResponse, dueOf, ResponseAnswered, accepted-response, refused-response}
+use Rattle.demands.specs.StreamsOpen.{FixedOpens, ValidVariable, variableAt, HeadOpens, RequestOpens, RequestExactlyWhen, ResponseOpens, ResponseExactlyWhen, ResponseEmpty, ResponseEmptyExactlyWhen}
 use Rattle.stream_pieces.proofs.LengthLaws.{length-openAt}
 
 -- ---- the fixed header
@@ -500,6 +500,15 @@ response-passed : (b : Bool) (x : ResponseOpened) (r : Refusal) (h : Response) (
 response-passed true x r h st e = record { test = refl; then = e }
 response-passed false x r h st e = absurd (not-answered r h st e)
 
+record ResponseDenied (b : Bool) (x : ResponseOpened) (h : Response) (st : Receiver) : Type 0 where
+  test : b ≡ false
+  then : x ≡ Answered h st
+
+response-denied : (b : Bool) (x : ResponseOpened) (r : Refusal) (h : Response) (st : Receiver) → cond b (Unanswered r) x ≡ Answered h st
+    → ResponseDenied b x h st
+response-denied true x r h st e = absurd (not-answered r h st e)
+response-denied false x r h st e = record { test = refl; then = e }
+
 abbrev amongResponses : ResponseOpened → Bool
 amongResponses (Answered h st) = true
 amongResponses (Unanswered r) = ofResponse r
@@ -526,14 +535,16 @@ module _ (method : ℕ) (key : List ℕ) (clock : ℕ) (requestSalt s : List ℕ
       → boundAs method (subkeyWords response-key) (frontLength salts salts) ours x ≡ Answered h st → ResponseOpens method key clock requestSalt s h st
   bound-tells h st (Read f) ef whole e =
       let e₁ = response-passed ours _ _ h st e in
+      let e₂ = response-denied (isEmpty (f .length)) _ _ h st (e₁ .then) in
       record {
         front-whole = whole;
         time = f .time;
         size = f .length;
         fixed-opens = fixed-tells response-key 1 clock (fixedOf salts salts s) f ef;
         for-us = same-eq _ requestSalt (e₁ .test);
-        says = sym (ap (λ (x : ResponseOpened). responseIn x h) (e₁ .then));
-        stream = sym (ap (λ (x : ResponseOpened). responseStream x st) (e₁ .then));
+        not-empty = let n = eqb-false (f .length) 0 (e₂ .test) in omega arith;
+        says = sym (ap (λ (x : ResponseOpened). responseIn x h) (e₂ .then));
+        stream = sym (ap (λ (x : ResponseOpened). responseStream x st) (e₂ .then));
       }
   bound-tells h st (Unread r) ef whole e = absurd (not-answered r h st e)
 
@@ -553,14 +564,19 @@ module _ (method : ℕ) (key : List ℕ) (clock : ℕ) (requestSalt s : List ℕ
       let ew = le-leb (frontLength salts salts) (length s) (d .front-whole) in
       let ef = fixed-given response-key 1 clock (fixedOf salts salts s) (d .time) (d .size) (d .fixed-opens) in
       let eo = ap (λ (x : List ℕ). same x requestSalt) (d .for-us) ∙ same-refl requestSalt in
+      let en = ne-eqb (d .size) 0 (λ z. omega (arith, z, d .not-empty)) in
       (λ i. cond (fits i && es i)
       (cond (ew i) (boundAs method (subkeyWords response-key) (frontLength salts salts) (eo i) (ef i))
       (Unanswered (More (frontLength salts salts)))) (Unanswered Settings))
-      ∙ (λ i. Answered (sym (d .says) i) (sym (d .stream) i))
+      ∙ (λ i. cond (en i) (Unanswered Empty) (Answered (sym (d .says) i) (sym (d .stream) i)))
 
   bound-among : (b : Bool) (x : FixedRead) → ofFixed x ≡ true
       → amongResponses (boundAs method (subkeyWords response-key) (frontLength salts salts) b x) ≡ true
-  bound-among true (Read f) o = refl
+  bound-among true (Read f) o = go (isEmpty (f .length))
+    where
+      go : (b : Bool) → amongResponses (cond b (Unanswered Empty) (Answered (record { time = f .time; length = f .length; used = frontLength salts salts }) (receiver method (Payload (f .length)) 1 (subkeyWords response-key)))) ≡ true
+      go true = refl
+      go false = refl
   bound-among false (Read f) o = refl
   bound-among b (Unread r) o = and-eq-true-iff (ofResponse r) _ .0 (and-eq-true-iff (ofRequest r) _ .0 (and-eq-true-iff (ofFront r) _ .0 o .1) .1) .0
 
@@ -584,3 +600,83 @@ response-exactly-when method key clock requestSalt s fits long h st =
       only-when = response-tells method key clock requestSalt s h st;
       always-when = response-given method key clock requestSalt s fits long h st;
     }
+
+-- ---- a response's 14
+
+abbrev isEmptied : ResponseOpened → ℕ
+isEmptied (Answered h st) = 0
+isEmptied (Unanswered r) = cond (eqb (refusalNumber r) 14) 1 0
+
+not-emptied : {x : ResponseOpened} → isEmptied x ≡ 0 → x ≡ Unanswered Empty → ⊥
+not-emptied o e = let z : _≡_ {A = ℕ} 0 1 = sym o ∙ ap isEmptied e in omega arith
+
+-- it stands behind a test whose refusal is another
+record Behind (b : Bool) (x : ResponseOpened) : Type 0 where
+  test : b ≡ true
+  then : x ≡ Unanswered Empty
+
+behind : (b : Bool) (x : ResponseOpened) (r : Refusal) → isEmptied (Unanswered r) ≡ 0 → cond b x (Unanswered r) ≡ Unanswered Empty → Behind b x
+behind true x r o e = record { test = refl; then = e }
+behind false x r o e = absurd (not-emptied o e)
+
+-- no refusal of a fixed header is 14
+fixed-not-empty : (r : Refusal) → ofFront r ≡ true → isEmptied (Unanswered r) ≡ 0
+fixed-not-empty r o = go (eqb (refusalNumber r) 14) refl
+  where
+    go : (b : Bool) → eqb (refusalNumber r) 14 ≡ b → _≡_ {A = ℕ} (cond b 1 0) 0
+    go false e = refl
+    go true e = absurd (false≢true (ap (λ (n : ℕ). among (4 ∷ 6 ∷ 7 ∷ []) n) (sym (eqb-true (refusalNumber r) 14 e)) ∙ o))
+
+is-0 : (good : ResponseOpened) (n : ℕ) (b : Bool) → isEmptied good ≡ 0 → isEmpty n ≡ b → cond b (Unanswered Empty) good ≡ Unanswered Empty → n ≡ 0
+is-0 good n true o h e = eqb-true n 0 h
+is-0 good n false o h e = absurd (not-emptied o e)
+
+module _ (method : ℕ) (key : List ℕ) (clock : ℕ) (requestSalt s : List ℕ) where
+  abbrev emptied-key : List ℕ
+  emptied-key = subkey key (saltOf method s)
+
+  abbrev piece : List ℕ
+  piece = fixedOf (saltLength method) (saltLength method) s
+
+  abbrev bound : Bool
+  bound = same (bindingOf (saltLength method) (openAt emptied-key 0 piece)) requestSalt
+
+  bound-emptied : (x : FixedRead) → openFixed emptied-key 1 clock piece ≡ x → ofFixed x ≡ true
+      → frontLength (saltLength method) (saltLength method) ≤ length s
+      → boundAs method (subkeyWords emptied-key) (frontLength (saltLength method) (saltLength method)) bound x ≡ Unanswered Empty
+      → ResponseEmpty method key clock requestSalt s
+  bound-emptied (Read f) ef o whole e =
+      let e₁ = behind bound _ Binding refl e in
+      let size = is-0 _ (f .length) (isEmpty (f .length)) refl refl (e₁ .then) in
+      record {
+        front-whole = whole;
+        time = f .time;
+        fixed-opens = subst (λ (n : ℕ). FixedOpens emptied-key 1 clock piece (f .time) n) size (fixed-tells emptied-key 1 clock piece f ef);
+        for-us = same-eq _ requestSalt (e₁ .test);
+      }
+  bound-emptied (Unread r) ef o whole e = absurd (not-emptied (fixed-not-empty r (and-eq-true-iff (ofFront r) _ .0 o .0)) e)
+
+  response-emptied : openedResponse method key clock requestSalt s ≡ Unanswered Empty → ResponseEmpty method key clock requestSalt s
+  unfolding openedResponse responseAt boundOf
+  response-emptied e =
+      let n = saltLength method in
+      let e₁ = behind (keyFits method (length key) && eqb (length requestSalt) n) _ Settings refl e in
+      let e₂ = behind (leb (frontLength n n) (length s)) _ (More (frontLength n n)) refl (e₁ .then) in
+      bound-emptied (openFixed emptied-key 1 clock piece) refl (fixed-refusals emptied-key 1 clock piece)
+      (leb-true (frontLength n n) (length s) (e₂ .test)) (e₂ .then)
+
+  emptied-given : keyFits method (length key) ≡ true → length requestSalt ≡ saltLength method → ResponseEmpty method key clock requestSalt s
+      → openedResponse method key clock requestSalt s ≡ Unanswered Empty
+  unfolding openedResponse responseAt boundOf
+  emptied-given fits long d =
+      let n = saltLength method in
+      let es = eq-eqb (length requestSalt) n long in
+      let ew = le-leb (frontLength n n) (length s) (d .front-whole) in
+      let ef = fixed-given emptied-key 1 clock piece (d .time) 0 (d .fixed-opens) in
+      let eo = ap (λ (x : List ℕ). same x requestSalt) (d .for-us) ∙ same-refl requestSalt in
+      λ i. cond (fits i && es i)
+      (cond (ew i) (boundAs method (subkeyWords emptied-key) (frontLength n n) (eo i) (ef i)) (Unanswered (More (frontLength n n)))) (Unanswered Settings)
+
+pub response-empty-exactly-when : ResponseEmptyExactlyWhen
+response-empty-exactly-when method key clock requestSalt s fits long =
+    (response-emptied method key clock requestSalt s, emptied-given method key clock requestSalt s fits long)

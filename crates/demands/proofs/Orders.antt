@@ -46,8 +46,8 @@ use Rattle.stream_open.specs.declared.Turn.{Turn}
 use Rattle.stream_open.specs.declared.Turn.the-variants.{Length, Payload, Ended}
 use Rattle.stream_open.specs.declared.Receiver.{Receiver}
 use Rattle.stream_open.specs.declared.Chunk.{Chunk}
-use Rattle.stream_open.specs.declared.Stepped.the-variants.{Opened as OpenedChunk}
-use Rattle.stream_open.specs.Chunks.{streamKey, pieceAnswer, lengthRead, turnAnswer, stepAnswer}
+use Rattle.stream_open.specs.declared.Stepped.{Stepped}
+use Rattle.stream_open.specs.Chunks.{streamKey, pieceAnswer, lengthRead, lengthAnswer as lengthRuled, turnAnswer, stepAnswer}
 use Rattle.stream_heads.specs.declared.Fixed.{Fixed}
 use Rattle.stream_heads.specs.declared.FixedRead.{FixedRead}
 use Rattle.stream_heads.specs.declared.FixedRead.the-variants.{Read as Fields, Refused as Unread}
@@ -59,7 +59,7 @@ use Rattle.stream_open_request.specs.declared.RequestRead.{RequestRead}
 use Rattle.stream_open_request.specs.Requests.{paddingAt, paddingFits, headerWith as requestHeaderWith, readVariable, openVariable, openedAs, metAs, fixedAs, readHead, settings, openedRequest}
 use Rattle.stream_pieces.proofs.LengthLaws.{length-openAt}
 use Rattle.demands.specs.Datagrams.{tagGood}
-use Rattle.demands.specs.Orders.{Rule, rule, more, Said, first, refusesWith, otherKey, addressIn, noAddress, othersDatagram, notFresh, noRoom, saidOpened, openOrder, openedHeader, isReplay, isFull, badVariable, saidRequest, requestOrder, requestOpened, saidResponse, responseOrder, responseOpened, isEnded, textBytes, dueBytes, lengthTold, saidStep, stepOrder, chunkOpened, ownHeader, saidSealed, datagramBytes, sealOrder, saidPiece, sealRequestOrder, requestSealed, sealResponseOrder, responseSealed, sealChunkOrder, chunkSealed, saidBegun, beginOrder, sessionBegun, Orders}
+use Rattle.demands.specs.Orders.{Rule, rule, more, Said, first, refusesWith, otherMethod, otherKey, addressIn, noAddress, othersDatagram, notFresh, noRoom, saidOpened, openOrder, openedHeader, isReplay, isFull, badVariable, saidRequest, requestOrder, requestOpened, saidResponse, responseOrder, responseOpened, isEnded, atNothing, emptyLength, textBytes, dueBytes, lengthTold, saidStep, stepOrder, chunkOpened, ownHeader, saidSealed, datagramBytes, sealOrder, saidPiece, sealRequestOrder, requestSealed, sealResponseOrder, responseSealed, sealChunkOrder, chunkSealed, saidBegun, beginOrder, sessionBegun, Orders}
 use Rattle.demands.proofs.OrderLaws.{next, unless, done, stops, passes, split, not-and, under, under-or-over, other-key, other-method, unsuited, unsuited-both, bad-padding, same-ids, bad-behind}
 
 -- ---- opening a datagram
@@ -173,36 +173,42 @@ open-order method key (some client) clock peer s t out =
 -- ---- a step
 
 module _ (st : Receiver) (s : List ℕ) (room : ℕ) where
-  -- 11, 10, 3, 4 of a piece of n bytes of plaintext
-  piece-order : (n asked : ℕ) (c : Chunk)
-      → saidStep (pieceAnswer st n s asked room (OpenedChunk c))
+  -- 11, 10, 3, 4 of a piece of n bytes of plaintext, and what is said of it then
+  piece-order : (n asked : ℕ) (good : Stepped) (rs : List Rule) (c : Chunk) → saidStep good ≡ first rs c
+      → saidStep (pieceAnswer st n s asked room good)
       ≡ first
       (rule 11 (eqb (st .counter) (2 ^ 64 - 1)) ∷ more (n + 16) (ltb (length s) (n + 16)) ∷ rule 3 (ltb room asked)
-      ∷ rule 4 (not (authenticAt (streamKey st) (st .counter) (take (n + 16) s))) ∷ [])
+      ∷ rule 4 (not (authenticAt (streamKey st) (st .counter) (take (n + 16) s))) ∷ rs)
       c
   unfolding pieceAnswer
-  piece-order n asked c =
+  piece-order n asked good rs c said =
       unless saidStep (eqb (st .counter) (2 ^ 64 - 1)) _ _ c refl refl λ _.
       next saidStep (leb (n + 16) (length s)) _ _ c (under (length s) (n + 16)) refl λ _.
       next saidStep (leb asked room) _ _ c (under room asked) refl λ _.
-      next saidStep (authenticAt (streamKey st) (st .counter) (take (n + 16) s)) _ [] c refl refl λ _. done c
+      next saidStep (authenticAt (streamKey st) (st .counter) (take (n + 16) s)) _ rs c refl refl λ _. said
 
   step-order : saidStep (stepAnswer st s room) ≡ first (stepOrder st s room) (chunkOpened st s room)
   unfolding stepAnswer lengthRead
   step-order =
-      unless saidStep (eqb (keyLength (st .method)) 0) _ _ (chunkOpened st s room) (other-method (st .method)) refl λ _. at (st .turn)
+      (unless saidStep (eqb (keyLength (st .method)) 0) (rule 1 (otherMethod (st .method))) _ (chunkOpened st s room) (other-method (st .method)) refl λ _.
+      at (st .turn))
+      ∙ split 1 (otherMethod (st .method)) (atNothing (st .turn)) _ _
     where
       at : (u : Turn) → saidStep (turnAnswer u st s room)
           ≡ first
-          (rule 4 (isEnded u) ∷ rule 11 (eqb (st .counter) (2 ^ 64 - 1)) ∷ more (textBytes u + 16) (ltb (length s) (textBytes u + 16))
-          ∷ rule 3 (ltb room (dueBytes u)) ∷ rule 4 (not (authenticAt (streamKey st) (st .counter) (take (textBytes u + 16) s))) ∷ [])
+          (rule 1 (atNothing u) ∷ rule 4 (isEnded u) ∷ rule 11 (eqb (st .counter) (2 ^ 64 - 1)) ∷ more (textBytes u + 16) (ltb (length s) (textBytes u + 16))
+          ∷ rule 3 (ltb room (dueBytes u)) ∷ rule 4 (not (authenticAt (streamKey st) (st .counter) (take (textBytes u + 16) s)))
+          ∷ rule 14 (emptyLength u (be 2 (openAt (streamKey st) (st .counter) (take (textBytes u + 16) s)))) ∷ [])
           (record {
             used = textBytes u + 16;
             length = lengthTold u (be 2 (openAt (streamKey st) (st .counter) (take (textBytes u + 16) s)));
           })
-      at Length = piece-order 2 0 _ ∙ passes 4 _ _
-      at (Payload m) = piece-order m m _ ∙ passes 4 _ _
-      at Ended = stops 4 _ _
+      at Length =
+          piece-order 2 0 (lengthRuled (lengthRead st s)) _ _ (unless saidStep (eqb (lengthRead st s) 0) _ [] _ refl refl λ _. done _)
+          ∙ passes 4 _ _ ∙ passes 1 _ _
+      at (Payload m) =
+          unless saidStep (eqb m 0) _ _ _ refl refl λ _. piece-order m m _ _ _ (done _ ∙ passes 14 [] _) ∙ passes 4 _ _
+      at Ended = stops 4 _ _ ∙ passes 1 _ _
 
 -- ---- sealing
 
@@ -219,6 +225,7 @@ chunk-order : (s : Sender) (payload room : ℕ) → saidPiece (chunkAnswer s pay
 unfolding chunkAnswer
 chunk-order s payload room =
     unless saidPiece (eqb (keyLength (s .method)) 0) _ _ _ (other-method (s .method)) refl λ _.
+    unless saidPiece (eqb payload 0) _ _ _ refl refl λ _.
     next saidPiece (ltb (s .counter) (lastCounter - 1)) _ _ _ refl refl λ _. size-order payload 18 room (moved s)
 
 module _ (method : ℕ) (key salt address : List ℕ) (padding payload room : ℕ) where
@@ -238,6 +245,7 @@ module _ (method : ℕ) (key salt requestSalt : List ℕ) (payload room : ℕ) w
   response-seal-order =
       next saidPiece ((keyFits method (length key) && eqb (length salt) (saltLength method)) && eqb (length requestSalt) (length salt)) _ _ _
       (unsuited-both method (length key) (length salt) (length requestSalt)) refl λ _.
+      unless saidPiece (eqb payload 0) _ _ _ refl refl λ _.
       size-order payload (length salt + 27 + length requestSalt) room (begun method key salt)
 
 module _ (method k : ℕ) (sender : Session) (address : List ℕ) (padding payload room : ℕ) where
@@ -325,6 +333,10 @@ module _ (method : ℕ) (key : List ℕ) (clock : ℕ) (requestSalt s : List ℕ
     record { method = method; turn = Payload (be 2 (drop m fixed)); counter = 1; subkey = subkeyWords k },
   )
 
+  -- 14, likewise
+  abbrev nothing : ℕ → Rule
+  nothing m = rule 14 (eqb (be 2 (drop m fixed)) 0)
+
   response-order : saidResponse (openedResponse method key clock requestSalt s)
       ≡ first (responseOrder method key clock requestSalt s) (responseOpened method key clock requestSalt s)
   unfolding openedResponse responseAt boundOf
@@ -332,8 +344,9 @@ module _ (method : ℕ) (key : List ℕ) (clock : ℕ) (requestSalt s : List ℕ
       next saidResponse (keyFits method (length key) && eqb (length requestSalt) n) _ _ _ (unsuited method (length key) (length requestSalt)) refl λ _.
       next saidResponse (leb (n + 27 + n) (length s)) _ _ _ (under (length s) (n + 27 + n)) refl λ e.
       fixed-order (λ (f : FixedRead). saidResponse (boundAs method (subkeyWords k) (n + 27 + n) ours f)) k 1 clock (take (27 + n) (drop n s)) _ _ (λ r. refl)
-      (next saidResponse ours (rule 13 (not ours)) [] (answered (length fixed - 2)) refl refl (λ _. done _)
-      ∙ ap (λ (m : ℕ). first (rule 13 (not ours) ∷ []) (answered m)) (length-place k n n s (leb-true (n + 27 + n) (length s) e)))
+      (next saidResponse ours (rule 13 (not ours)) (nothing (length fixed - 2) ∷ []) (answered (length fixed - 2)) refl refl (λ _.
+      unless saidResponse (nothing (length fixed - 2) .when) (nothing (length fixed - 2)) [] (answered (length fixed - 2)) refl refl λ _. done _)
+      ∙ ap (λ (m : ℕ). first (rule 13 (not ours) ∷ nothing m ∷ []) (answered m)) (length-place k n n s (leb-true (n + 27 + n) (length s) e)))
 
 module _ (method : ℕ) (key : List ℕ) (clock : ℕ) (s pool out : List ℕ) where
   abbrev bytes : ℕ

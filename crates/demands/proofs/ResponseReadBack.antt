@@ -1,7 +1,7 @@
 -- What the head of a response was sealed from is read back from it, and its first payload by the next step.
 -- Assumes nothing.
 use mathlib.Core.Path.{_≡_, refl, sym, ap, ap₂, _∙_}
-use mathlib.Core.Bool.{true, false, cond, _&&_, and-eq-true-iff}
+use mathlib.Core.Bool.{Bool, true, false, cond, _&&_, and-eq-true-iff}
 use mathlib.Core.List.{List, _++_, append-assoc}
 use mathlib.Core.Logic.{⊎-elim}
 use Prim.Native.Nat.{ℕ, _+_, _^_, _≤_, _<_}
@@ -15,10 +15,10 @@ use Rattle.protocol.specs.Method.{keyFits, keyLength, saltLength}
 use Rattle.protocol.specs.Subkey.{subkey}
 use Rattle.protocol.specs.Time.{timeValid}
 use Rattle.protocol.proofs.MethodLaws.{fits-sizes}
-use Rattle.protocol.specs.declared.Refusal.the-variants.{Settings, More}
+use Rattle.protocol.specs.declared.Refusal.the-variants.{Settings, More, Empty}
 use Rattle.stream_seal.specs.declared.Sender.{Sender}
 use Rattle.stream_seal.specs.declared.Sealed.the-variants.{Bytes}
-use Rattle.stream_pieces.specs.Pieces.{sealAt, openAt, subkeyWords, keyOf, lastCounter}
+use Rattle.stream_pieces.specs.Pieces.{isEmpty, sealAt, openAt, subkeyWords, keyOf, lastCounter}
 use Rattle.stream_seal_heads.specs.HeadSealing.{front, responseOf, response, begun, sizesFit, responseAnswer}
 use Rattle.stream_open.specs.declared.Turn.the-variants.{Length, Payload}
 use Rattle.stream_heads.specs.declared.FixedRead.the-variants.{Read}
@@ -28,7 +28,7 @@ use Rattle.stream_open.specs.Chunks.{receiver, stepAnswer, stepOut}
 use Rattle.stream_open_response.specs.Responses.{bindingOf, boundAs, boundOf, responseAt, openedResponse}
 use Rattle.demands.specs.StreamsBack.{ResponseBack, ResponsesGivenBack}
 use Rattle.stream_seal_heads.proofs.HeadLengthLaws.{length-responseOf}
-use Rattle.demands.proofs.StreamReadBack.{answers, Sized, sized, sent-behind, payload-step, payload-out, salt-back, front-whole, behind-front, binding-back, fixed-back, stream-key}
+use Rattle.demands.proofs.StreamReadBack.{answers, denied, Sized, sized, sent-behind, payload-step, payload-out, salt-back, front-whole, behind-front, binding-back, fixed-back, stream-key}
 
 -- ---- the head of a response
 
@@ -36,6 +36,7 @@ pub record Responds (method : ℕ) (key salt binding : List ℕ) (payload room n
   pub fits : keyFits method (length key) ≡ true
   pub salt-fits : length salt ≡ saltLength method
   pub binding-fits : length binding ≡ length salt
+  pub some : isEmpty payload ≡ false
   pub sizes : Sized payload (length salt + 27 + length binding) room (begun method key salt) n next
 
 pub responds : (method : ℕ) (key salt binding : List ℕ) (payload room n : ℕ) (next : Sender)
@@ -43,13 +44,15 @@ pub responds : (method : ℕ) (key salt binding : List ℕ) (payload room n : �
 unfolding responseAnswer sizesFit
 responds method key salt binding payload room n next e =
     let e₁ = answers ((keyFits method (length key) && eqb (length salt) (saltLength method)) && eqb (length binding) (length salt)) _ _ n next e in
+    let e₂ = denied (isEmpty payload) _ _ n next (e₁ .then) in
     let bound = and-eq-true-iff (keyFits method (length key) && eqb (length salt) (saltLength method)) _ .0 (e₁ .test) in
     let keyed = and-eq-true-iff (keyFits method (length key)) _ .0 (bound .0) in
     record {
       fits = keyed .0;
       salt-fits = eqb-true (length salt) (saltLength method) (keyed .1);
       binding-fits = eqb-true (length binding) (length salt) (bound .1);
-      sizes = sized payload (length salt + 27 + length binding) room (begun method key salt) n next (e₁ .then);
+      some = e₂ .test;
+      sizes = sized payload (length salt + 27 + length binding) room (begun method key salt) n next (e₂ .then);
     }
 
 module _ (method : ℕ) (key salt binding : List ℕ) (time : ℕ) (payload : List ℕ) (space n : ℕ) (next : Sender)
@@ -124,7 +127,11 @@ module _ (method : ℕ) (key salt binding : List ℕ) (time : ℕ) (payload : Li
       unfolding responseAt boundOf
       head-accepted later valid =
           let ours = ap (λ (x : List ℕ). same x binding) binding-here ∙ same-refl binding in
+          let accepted =
+          Answered (record { time = time; length = length payload; used = frontLength salts salts })
+          (receiver method (Payload (length payload)) 1 (subkeyWords response-key)) in
           (λ i. boundAs method (subkeyWords response-key) (frontLength salts salts) (ours i) (header-here later valid i))
+          ∙ ap (λ (b : Bool). cond b (NoResponse Empty) accepted) (response-facts .some)
 
       response-accepted : (later : ℕ) → timeValid time later ≡ true
           → openedResponse method key later binding all
@@ -164,10 +171,10 @@ module _ (method : ℕ) (key salt binding : List ℕ) (time : ℕ) (payload : Li
                 (receiver method (Payload (length payload)) 1 (words i)));
             payload-read =
                 (λ i. stepAnswer (receiver method (Payload (length payload)) 1 (sym words i)) (there i) (length out))
-                ∙ payload-step method 1 (subkeyWords response-key) known-method one-usable payload rest (length out) h;
+                ∙ payload-step method 1 (subkeyWords response-key) known-method one-usable payload rest (response-facts .some) (length out) h;
             payload-written =
                 (λ i. stepOut (receiver method (Payload (length payload)) 1 (sym words i)) (there i) out)
-                ∙ payload-out method 1 (subkeyWords response-key) known-method one-usable payload rest out h;
+                ∙ payload-out method 1 (subkeyWords response-key) known-method one-usable payload rest (response-facts .some) out h;
             payload-next = λ i. receiver (sym (response-facts .sizes .after) i .method) Length (sym (response-facts .sizes .after) i .counter) (next .subkey);
             counter-two = ap (λ (x : Sender). x .counter) (response-facts .sizes .after);
             left =

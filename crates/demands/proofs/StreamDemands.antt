@@ -1,6 +1,6 @@
 -- Demands 1 and 2 for streams. Demand 1: each call answers or refuses, and what a refusal leaves.
 -- Assumes nothing.
-use mathlib.Core.Path.{_≡_, refl, sym, ap, _∙_, subst}
+use mathlib.Core.Path.{_≡_, refl, sym, ap, ap₂, _∙_, subst}
 use mathlib.Core.Bool.{Bool, true, false, cond, _&&_}
 use mathlib.Core.List.{List}
 use Prim.Native.Nat.{ℕ, _+_, _-_, _≤_}
@@ -9,19 +9,19 @@ use native.Mathlib.Omega.{arith}
 use lib.Dec.{eqb, leb, ltb}
 use lib.ListN.{length, take, drop, replicate, length-replicate}
 use lib.Seq.{length-take-le}
-use borrow.Author.Tests.{ne-eqb, eqb-false, not-true}
+use borrow.Author.Tests.{eq-eqb, ne-eqb, eqb-true, eqb-false, not-true}
 use Rattle.octets.specs.Buffers.{put}
 use Rattle.octets.proofs.BufferLaws.{length-put, drop-put}
 use Rattle.protocol.specs.declared.Refusal.{Refusal}
-use Rattle.protocol.specs.declared.Refusal.the-variants.{Settings, Length as TooLong, Room, NotAuthentic, Malformed, More, Counter, Argument}
-use Rattle.protocol.specs.Refusal.{refusalNumber}
-use Rattle.protocol.specs.Method.{keyLength, saltLength}
+use Rattle.protocol.specs.declared.Refusal.the-variants.{Settings, Length as TooLong, Room, NotAuthentic, Malformed, WrongType, WrongTime, Replay, Full, More, Counter, Argument, Binding, Empty}
+use Rattle.protocol.specs.Refusal.{refusalNumber, endsStream}
+use Rattle.protocol.specs.Method.{keyFits, keyLength, saltLength}
 use Rattle.protocol.specs.Subkey.{subkey}
 use Rattle.socks5.specs.Address.{isAddress}
 use Rattle.stream_seal.specs.declared.Sender.{Sender}
 use Rattle.stream_seal.specs.declared.Sealed.{Sealed}
 use Rattle.stream_seal.specs.declared.Sealed.the-variants.{Bytes, Refused as Unsealed}
-use Rattle.stream_pieces.specs.Pieces.{authenticAt, openAt, maxChunk, lastCounter}
+use Rattle.stream_pieces.specs.Pieces.{authenticAt, openAt, maxChunk, isEmpty, lastCounter}
 use Rattle.stream_seal.specs.Sealing.{chunk, moved, senderKey, sizeAnswer, chunkAnswer, sealOut}
 use Rattle.stream_seal_heads.specs.HeadSealing.{variableLength, request, response, begun, sizesFit, paddingLawful, requestAnswer, responseAnswer}
 use Rattle.stream_open.specs.declared.Turn.{Turn}
@@ -34,19 +34,21 @@ use Rattle.stream_open.specs.declared.Stepped.the-variants.{Opened, Refused as 
 use Rattle.stream_open_request.specs.declared.RequestOpened.{RequestOpened}
 use Rattle.stream_open_request.specs.declared.RequestOpened.the-variants.{Accepted, Refused}
 use Rattle.stream_open_request.specs.Requests.{variableOf, openedRequest, requestOut, requestPool}
-use Rattle.stream_open.specs.Chunks.{streamKey, pieceAnswer, lengthRead, turnAnswer, writtenBy, payloadPiece, stepAnswer, stepOut, ended, stepNext}
-use Rattle.demands.specs.StreamsKeep.{saltOf, ofStep, ofSealer, dueOf, RequestAnswered, accepted-request, refused-request, RequestKeeps, StepAnswered, opened-step, refused-step, dueAt, StepKeeps, SealAnswered, sealed-text, refused-text, SealKeeps, SealersKeep, StreamsDemand1}
+use Rattle.stream_open.specs.Chunks.{streamKey, pieceAnswer, lengthRead, lengthAnswer, turnAnswer, writtenBy, payloadPiece, stepAnswer, stepOut, ended, stepNext}
+use Rattle.demands.specs.StreamsKeep.{among, saltOf, ofStep, requestSealer, responseSealer, chunkSealer, dueOf, RequestAnswered, accepted-request, refused-request, RequestKeeps, StepAnswered, opened-step, refused-step, dueAt, StepKeeps, SealAnswered, sealed-text, refused-text, SealKeeps, SealersKeep, StreamsDemand1}
 use Rattle.demands.specs.StreamsOpen.{TurnOpens, turnText}
-use Rattle.demands.specs.StreamsBack.{StreamsDemand2}
+use Rattle.demands.specs.StreamsBack.{EmptyUnsealed, StreamsDemand2}
 use Rattle.stream_pieces.proofs.LengthLaws.{length-openAt}
 use Rattle.stream_seal.proofs.LengthLaws.{length-chunk}
+use Rattle.stream_seal.proofs.SealAnswerLaws.{chunk-empty}
+use Rattle.stream_seal_heads.proofs.HeadAnswerLaws.{response-empty}
 use Rattle.stream_seal_heads.proofs.HeadLengthLaws.{length-requestAt, length-responseOf}
 use Rattle.demands.proofs.StreamReadBack.{Sized, chunkable, chunk-back}
 use Rattle.demands.proofs.ResponseReadBack.{responds, response-back}
 use Rattle.demands.proofs.RequestReadBack.{requests, request-back}
 use Rattle.demands.proofs.WholeStreams.{stream-back, own-counters, request-stream, response-stream}
-use Rattle.demands.proofs.StreamTells.{step-tells, step-text, step-exactly-when, nonce-injective, own-nonce}
-use Rattle.demands.proofs.HeadTells.{spares, length-plain, not-accepted, Way, refused, zeroed, accepted, way, request-exactly-when, response-keeps, response-exactly-when}
+use Rattle.demands.proofs.StreamTells.{step-tells, step-text, step-exactly-when, step-empty-exactly-when, no-empty-chunk, nonce-injective, own-nonce}
+use Rattle.demands.proofs.HeadTells.{spares, length-plain, not-accepted, Way, refused, zeroed, accepted, way, request-exactly-when, response-keeps, response-exactly-when, response-empty-exactly-when}
 
 -- ---- buffers
 
@@ -169,17 +171,19 @@ step-denied : (b : Bool) (x : Stepped) (r : Refusal) → amongSteps x ≡ true �
 step-denied true x r e g = g
 step-denied false x r e g = e
 
-piece-among : (st : Receiver) (n : ℕ) (s : List ℕ) (asked room : ℕ) (c : Chunk) → amongSteps (pieceAnswer st n s asked room (Opened c)) ≡ true
+piece-among : (st : Receiver) (n : ℕ) (s : List ℕ) (asked room : ℕ) (good : Stepped) → amongSteps good ≡ true
+    → amongSteps (pieceAnswer st n s asked room good) ≡ true
 unfolding pieceAnswer
-piece-among st n s asked room c =
+piece-among st n s asked room good g =
     step-denied (eqb (st .counter) lastCounter) _ Counter
     (step-among (leb (n + 16) (length s)) _ (More (n + 16))
     (step-among (leb asked room) _ Room
-    (step-among (authenticAt (streamKey st) (st .counter) (take (n + 16) s)) _ NotAuthentic refl refl) refl) refl) refl
+    (step-among (authenticAt (streamKey st) (st .counter) (take (n + 16) s)) _ NotAuthentic g refl) refl) refl) refl
 
 turn-among : (turn : Turn) (st : Receiver) (s : List ℕ) (room : ℕ) → amongSteps (turnAnswer turn st s room) ≡ true
-turn-among Length st s room = piece-among st 2 s 0 room (record { used = 18; length = lengthRead st s })
-turn-among (Payload n) st s room = piece-among st n s n room (record { used = n + 16; length = n })
+turn-among Length st s room =
+    piece-among st 2 s 0 room (lengthAnswer (lengthRead st s)) (step-denied (isEmpty (lengthRead st s)) _ Empty refl refl)
+turn-among (Payload n) st s room = step-denied (isEmpty n) _ Settings (piece-among st n s n room _ refl) refl
 turn-among Ended st s room = refl
 
 among-step : (st : Receiver) (s : List ℕ) (room : ℕ) → amongSteps (stepAnswer st s room) ≡ true
@@ -194,6 +198,23 @@ turn-front (Payload n) key counter s out c d =
     let l : length (openAt key counter (take (n + 16) s)) ≡ n = omega (arith, length-openAt key counter (take (n + 16) s), t) in
     front-kept out (openAt key counter (take (n + 16) s)) n l (d .0 .has-room)
 turn-front Ended key counter s out c d = absurd d
+
+-- no refusal but 4 and 14 ends a stream
+goes-on : (r : Refusal) → (refusalNumber r ≡ 4 → ⊥) → (refusalNumber r ≡ 14 → ⊥) → endsStream r ≡ false
+goes-on NotAuthentic not-4 not-14 = absurd (not-4 refl)
+goes-on Empty not-4 not-14 = absurd (not-14 refl)
+goes-on Settings not-4 not-14 = refl
+goes-on TooLong not-4 not-14 = refl
+goes-on Room not-4 not-14 = refl
+goes-on Malformed not-4 not-14 = refl
+goes-on WrongType not-4 not-14 = refl
+goes-on WrongTime not-4 not-14 = refl
+goes-on Replay not-4 not-14 = refl
+goes-on Full not-4 not-14 = refl
+goes-on (More wanted) not-4 not-14 = refl
+goes-on Counter not-4 not-14 = refl
+goes-on Argument not-4 not-14 = refl
+goes-on Binding not-4 not-14 = refl
 
 module _ (st : Receiver) (s out : List ℕ) where
   abbrev step : Stepped
@@ -211,12 +232,14 @@ module _ (st : Receiver) (s out : List ℕ) where
   refused-keeps-out r e =
       ap (λ (a : Stepped). writtenBy a (st .turn) (openAt (streamKey st) (st .counter) (payloadPiece (st .turn) s)) out) e
 
-  refused-keeps-state : (r : Refusal) → step ≡ Unopened r → (refusalNumber r ≡ 4 → ⊥) → stepNext st step ≡ st
-  refused-keeps-state r e other =
-      ap (stepNext st) e ∙ ap (λ (b : Bool). cond b (ended st) st) (ne-eqb (refusalNumber r) 4 other)
+  refused-keeps-state : (r : Refusal) → step ≡ Unopened r → (refusalNumber r ≡ 4 → ⊥) → (refusalNumber r ≡ 14 → ⊥) → stepNext st step ≡ st
+  refused-keeps-state r e not-4 not-14 = ap (stepNext st) e ∙ ap (λ (b : Bool). cond b (ended st) st) (goes-on r not-4 not-14)
 
   forged-ends : step ≡ Unopened NotAuthentic → stepNext st step ≡ ended st
   forged-ends e = ap (stepNext st) e
+
+  empty-ends : step ≡ Unopened Empty → stepNext st step ≡ ended st
+  empty-ends e = ap (stepNext st) e
 
   ended-refuses : (keyLength (st .method) ≡ 0 → ⊥) → (bytes : List ℕ) (room : ℕ) → stepAnswer (ended st) bytes room ≡ Unopened NotAuthentic
   unfolding stepAnswer
@@ -239,6 +262,7 @@ module _ (st : Receiver) (s out : List ℕ) where
         refused-keeps-out = refused-keeps-out;
         refused-keeps-state = refused-keeps-state;
         forged-ends = forged-ends;
+        empty-ends = empty-ends;
         ended-refuses = ended-refuses;
         past-due-kept = step-front .past;
         length-kept = step-front .size;
@@ -246,51 +270,58 @@ module _ (st : Receiver) (s out : List ℕ) where
 
 -- ---- sealing
 
-abbrev amongSealed : Sealed → Bool
-amongSealed (Bytes n s) = true
-amongSealed (Unsealed r) = ofSealer r
+abbrev amongSealed : List ℕ → Sealed → Bool
+amongSealed ks (Bytes n s) = true
+amongSealed ks (Unsealed r) = among ks (refusalNumber r)
 
-sealed-among : (b : Bool) (x : Sealed) (r : Refusal) → amongSealed x ≡ true → ofSealer r ≡ true → amongSealed (cond b x (Unsealed r)) ≡ true
-sealed-among true x r e g = e
-sealed-among false x r e g = g
+module _ (ks : List ℕ) where
+  sealed-among : (b : Bool) (x : Sealed) (r : Refusal) → amongSealed ks x ≡ true → among ks (refusalNumber r) ≡ true
+      → amongSealed ks (cond b x (Unsealed r)) ≡ true
+  sealed-among true x r e g = e
+  sealed-among false x r e g = g
 
-sealed-denied : (b : Bool) (x : Sealed) (r : Refusal) → amongSealed x ≡ true → ofSealer r ≡ true → amongSealed (cond b (Unsealed r) x) ≡ true
-sealed-denied true x r e g = g
-sealed-denied false x r e g = e
+  sealed-denied : (b : Bool) (x : Sealed) (r : Refusal) → amongSealed ks x ≡ true → among ks (refusalNumber r) ≡ true
+      → amongSealed ks (cond b (Unsealed r) x) ≡ true
+  sealed-denied true x r e g = g
+  sealed-denied false x r e g = e
 
-among-sizes : (n before room : ℕ) (s : Sender) → amongSealed (sizeAnswer n before room s) ≡ true
-unfolding sizeAnswer
-among-sizes n before room s =
-    sealed-among (leb n maxChunk) _ TooLong (sealed-among (leb (before + n + 16) room) _ Room refl refl) refl
+  -- where 2 and 3 are among them
+  among-sizes : among ks 2 ≡ true → among ks 3 ≡ true → (n before room : ℕ) (s : Sender) → amongSealed ks (sizeAnswer n before room s) ≡ true
+  unfolding sizeAnswer
+  among-sizes two three n before room s =
+      sealed-among (leb n maxChunk) _ TooLong (sealed-among (leb (before + n + 16) room) _ Room refl three) two
 
 among-request : (method : ℕ) (key salt address : List ℕ) (padding payload room : ℕ)
-    → amongSealed (requestAnswer method key salt address padding payload room) ≡ true
+    → amongSealed requestSealer (requestAnswer method key salt address padding payload room) ≡ true
 unfolding requestAnswer
 among-request method key salt address padding payload room =
-    sealed-among (sizesFit method (length key) (length salt)) _ Settings
-    (sealed-among (isAddress address && paddingLawful padding payload) _ Argument
-    (among-sizes (variableLength (length address) padding payload) (length salt + 27) room (begun method key salt)) refl) refl
+    sealed-among requestSealer (sizesFit method (length key) (length salt)) _ Settings
+    (sealed-among requestSealer (isAddress address && paddingLawful padding payload) _ Argument
+    (among-sizes requestSealer refl refl (variableLength (length address) padding payload) (length salt + 27) room (begun method key salt)) refl) refl
 
-among-response : (method : ℕ) (key salt binding : List ℕ) (payload room : ℕ) → amongSealed (responseAnswer method key salt binding payload room) ≡ true
+among-response : (method : ℕ) (key salt binding : List ℕ) (payload room : ℕ)
+    → amongSealed responseSealer (responseAnswer method key salt binding payload room) ≡ true
 unfolding responseAnswer
 among-response method key salt binding payload room =
-    sealed-among (sizesFit method (length key) (length salt) && eqb (length binding) (length salt)) _ Settings
-    (among-sizes payload (length salt + 27 + length binding) room (begun method key salt)) refl
+    sealed-among responseSealer (sizesFit method (length key) (length salt) && eqb (length binding) (length salt)) _ Settings
+    (sealed-denied responseSealer (isEmpty payload) _ Empty
+    (among-sizes responseSealer refl refl payload (length salt + 27 + length binding) room (begun method key salt)) refl) refl
 
-among-chunk : (s : Sender) (payload room : ℕ) → amongSealed (chunkAnswer s payload room) ≡ true
+among-chunk : (s : Sender) (payload room : ℕ) → amongSealed chunkSealer (chunkAnswer s payload room) ≡ true
 unfolding chunkAnswer
 among-chunk s payload room =
-    sealed-denied (eqb (keyLength (s .method)) 0) _ Settings
-    (sealed-among (ltb (s .counter) (lastCounter - 1)) _ Counter (among-sizes payload 18 room (moved s)) refl) refl
+    sealed-denied chunkSealer (eqb (keyLength (s .method)) 0) _ Settings
+    (sealed-denied chunkSealer (isEmpty payload) _ Empty
+    (sealed-among chunkSealer (ltb (s .counter) (lastCounter - 1)) _ Counter (among-sizes chunkSealer refl refl payload 18 room (moved s)) refl) refl) refl
 
-module _ (a : Sealed) (text out : List ℕ) (among : amongSealed a ≡ true)
+module _ (ks : List ℕ) (a : Sealed) (text out : List ℕ) (listed : amongSealed ks a ≡ true)
     (sizes : (n : ℕ) (next : Sender) → a ≡ Bytes n next → (length text ≡ n) × (n ≤ length out)) where
-  seal-answered : SealAnswered a
+  seal-answered : SealAnswered ks a
   seal-answered = go a refl
     where
-      go : (x : Sealed) → a ≡ x → SealAnswered a
+      go : (x : Sealed) → a ≡ x → SealAnswered ks a
       go (Bytes n next) e = sealed-text n next e
-      go (Unsealed r) e = refused-text r (ap amongSealed (sym e) ∙ among) e
+      go (Unsealed r) e = refused-text r (ap (amongSealed ks) (sym e) ∙ listed) e
 
   writes-nothing : (r : Refusal) → a ≡ Unsealed r → sealOut a text out ≡ out
   writes-nothing r e = ap (λ (x : Sealed). sealOut x text out) e
@@ -300,11 +331,11 @@ module _ (a : Sealed) (text out : List ℕ) (among : amongSealed a ≡ true)
       front-same n (sealOut a text out) out (put out 0 text) (ap (λ (x : Sealed). sealOut x text out) e)
       (front-kept out text n (sizes n next e .0) (sizes n next e .1))
 
-  seal-length : SealAnswered a → length (sealOut a text out) ≡ length out
+  seal-length : SealAnswered ks a → length (sealOut a text out) ≡ length out
   seal-length (sealed-text n next e) = seal-front n next e .size
   seal-length (refused-text r o e) = ap length (writes-nothing r e)
 
-  keeps : SealKeeps a text out
+  keeps : SealKeeps ks a text out
   keeps =
       record {
         answered = seal-answered;
@@ -331,22 +362,79 @@ length-response key salt binding time payload = length-responseOf (subkey key sa
 pub seal-keeps : SealersKeep
 seal-keeps =
     record {
-      requests = λ method key salt time address padding payload out. keeps
+      requests = λ method key salt time address padding payload out. keeps requestSealer
           (requestAnswer method key salt address padding (length payload) (length out)) (request key salt time address padding payload) out
           (among-request method key salt address padding (length payload) (length out))
           (λ n next e. sized-length _ _ _ _ n next (request key salt time address padding payload)
           (requests method key salt address padding (length payload) (length out) n next e .sizes)
           (length-request key salt time address padding payload));
-      responses = λ method key salt binding time payload out. keeps
+      responses = λ method key salt binding time payload out. keeps responseSealer
           (responseAnswer method key salt binding (length payload) (length out)) (response key salt binding time payload) out
           (among-response method key salt binding (length payload) (length out))
           (λ n next e. sized-length _ _ _ _ n next (response key salt binding time payload)
           (responds method key salt binding (length payload) (length out) n next e .sizes) (length-response key salt binding time payload));
-      chunks = λ s payload out. keeps (chunkAnswer s (length payload) (length out)) (chunk (senderKey s) (s .counter) payload) out
+      chunks = λ s payload out. keeps chunkSealer (chunkAnswer s (length payload) (length out)) (chunk (senderKey s) (s .counter) payload) out
           (among-chunk s (length payload) (length out))
           (λ n next e. sized-length _ _ _ _ n next (chunk (senderKey s) (s .counter) payload)
           (chunkable s (length payload) (length out) n next e .sizes) (length-chunk (senderKey s) (s .counter) payload));
     }
+
+-- ---- an empty payload is not sealed
+
+abbrev isEmptied : Sealed → ℕ
+isEmptied (Bytes n next) = 0
+isEmptied (Unsealed r) = cond (eqb (refusalNumber r) 14) 1 0
+
+-- 14 is given by its own test alone
+by-itself : (n : ℕ) (x : Sealed) → isEmptied x ≡ 0 → cond (isEmpty n) (Unsealed Empty) x ≡ Unsealed Empty → n ≡ 0
+by-itself n x o e = go (isEmpty n) refl e
+  where
+    go : (b : Bool) → isEmpty n ≡ b → cond b (Unsealed Empty) x ≡ Unsealed Empty → n ≡ 0
+    go true h f = eqb-true n 0 h
+    go false h f = absurd (let z : _≡_ {A = ℕ} 0 1 = sym o ∙ ap isEmptied f in omega arith)
+
+others : (b : Bool) (x : Sealed) (r : Refusal) → isEmptied x ≡ 0 → isEmptied (Unsealed r) ≡ 0 → isEmptied (cond b x (Unsealed r)) ≡ 0
+others true x r e g = e
+others false x r e g = g
+
+sizes-others : (n before room : ℕ) (s : Sender) → isEmptied (sizeAnswer n before room s) ≡ 0
+unfolding sizeAnswer
+sizes-others n before room s = others (leb n maxChunk) _ TooLong (others (leb (before + n + 16) room) _ Room refl refl) refl
+
+-- behind a test whose refusal is another
+behind : (b : Bool) (x : Sealed) (r : Refusal) → isEmptied (Unsealed r) ≡ 0 → cond b x (Unsealed r) ≡ Unsealed Empty → x ≡ Unsealed Empty
+behind true x r o e = e
+behind false x r o e = absurd (let z : _≡_ {A = ℕ} 0 1 = sym o ∙ ap isEmptied e in omega arith)
+
+past : (b : Bool) (x : Sealed) (r : Refusal) → isEmptied (Unsealed r) ≡ 0 → cond b (Unsealed r) x ≡ Unsealed Empty → x ≡ Unsealed Empty
+past true x r o e = absurd (let z : _≡_ {A = ℕ} 0 1 = sym o ∙ ap isEmptied e in omega arith)
+past false x r o e = e
+
+empty-chunk : (s : Sender) (room : ℕ) → (keyLength (s .method) ≡ 0 → ⊥) → chunkAnswer s 0 room ≡ Unsealed Empty
+empty-chunk s room known = sym (chunk-empty s 0 room (keyLength (s .method)) refl known refl)
+
+empty-chunk-only : (s : Sender) (payload room : ℕ) → chunkAnswer s payload room ≡ Unsealed Empty → payload ≡ 0
+unfolding chunkAnswer
+empty-chunk-only s payload room e =
+    by-itself payload _ (others (ltb (s .counter) (lastCounter - 1)) _ Counter (sizes-others payload 18 room (moved s)) refl)
+    (past (eqb (keyLength (s .method)) 0) _ Settings refl e)
+
+empty-response : (method : ℕ) (key salt binding : List ℕ) (room : ℕ) → keyFits method (length key) ≡ true → length salt ≡ saltLength method
+    → length binding ≡ saltLength method → responseAnswer method key salt binding 0 room ≡ Unsealed Empty
+unfolding sizesFit
+empty-response method key salt binding room fits same bound =
+    sym (response-empty method key salt binding 0 room (ap₂ _&&_ fits (eq-eqb (length salt) (saltLength method) same)) (bound ∙ sym same) refl)
+
+empty-response-only : (method : ℕ) (key salt binding : List ℕ) (payload room : ℕ)
+    → responseAnswer method key salt binding payload room ≡ Unsealed Empty → payload ≡ 0
+unfolding responseAnswer
+empty-response-only method key salt binding payload room e =
+    by-itself payload _ (sizes-others payload (length salt + 27 + length binding) room (begun method key salt))
+    (behind (sizesFit method (length key) (length salt) && eqb (length binding) (length salt)) _ Settings refl e)
+
+empty-unsealed : EmptyUnsealed
+empty-unsealed =
+    record { chunks = empty-chunk; chunks-only = empty-chunk-only; responses = empty-response; responses-only = empty-response-only }
 
 -- ---- all of them
 
@@ -359,6 +447,10 @@ streams-demand2 =
       requests-exactly = request-exactly-when;
       responses-exactly = response-exactly-when;
       steps-exactly = step-exactly-when;
+      empty-responses-exactly = response-empty-exactly-when;
+      empty-steps-exactly = step-empty-exactly-when;
+      no-empty-chunk = no-empty-chunk;
+      empty-unsealed = empty-unsealed;
       requests-back = request-back;
       responses-back = response-back;
       chunks-back = chunk-back;

@@ -23,12 +23,12 @@ use Rattle.protocol.specs.Subkey.{subkey}
 use Rattle.protocol.specs.Time.{timeValid}
 use Rattle.protocol.proofs.MethodLaws.{fits-sizes}
 use Rattle.protocol.specs.declared.Refusal.{Refusal}
-use Rattle.protocol.specs.declared.Refusal.the-variants.{Settings, Room, NotAuthentic, WrongType, WrongTime, More, Counter}
+use Rattle.protocol.specs.declared.Refusal.the-variants.{Settings, Room, NotAuthentic, WrongType, WrongTime, More, Counter, Empty}
 use Rattle.stream_pieces.specs.declared.Subkey.{Subkey}
 use Rattle.stream_seal.specs.declared.Sender.{Sender}
 use Rattle.stream_seal.specs.declared.Sealed.{Sealed}
 use Rattle.stream_seal.specs.declared.Sealed.the-variants.{Bytes, Refused as Unsealed}
-use Rattle.stream_pieces.specs.Pieces.{nonce, sealAt, authenticAt, openAt, subkeyWords, keyOf, maxChunk, lastCounter}
+use Rattle.stream_pieces.specs.Pieces.{nonce, sealAt, authenticAt, openAt, subkeyWords, keyOf, maxChunk, isEmpty, lastCounter}
 use Rattle.stream_seal.specs.Sealing.{chunk, senderKey, moved, sizeAnswer, chunkAnswer}
 use Rattle.stream_seal_heads.specs.HeadSealing.{fixedPart, front}
 use Rattle.stream_open.specs.declared.Turn.{Turn}
@@ -38,7 +38,7 @@ use Rattle.stream_open.specs.declared.Stepped.{Stepped}
 use Rattle.stream_open.specs.declared.Stepped.the-variants.{Opened, Refused}
 use Rattle.stream_heads.specs.declared.FixedRead.the-variants.{Read, Refused as Unread}
 use Rattle.stream_heads.specs.Heads.{frontLength, fixedOf, fieldsOf, readFixed, openFixed}
-use Rattle.stream_open.specs.Chunks.{receiver, pieceAnswer, lengthRead, turnAnswer, writtenBy, stepAnswer, stepOut}
+use Rattle.stream_open.specs.Chunks.{receiver, pieceAnswer, lengthRead, lengthAnswer, turnAnswer, writtenBy, stepAnswer, stepOut}
 use Rattle.stream_open_response.specs.Responses.{bindingOf}
 use Rattle.stream_open.proofs.ChunkLaws.{length-kept}
 use Rattle.demands.specs.StreamsBack.{partner, midway, ChunkBack, ChunksGivenBack}
@@ -85,11 +85,11 @@ answers true x r n s e = record { test = refl; then = e }
 answers false x r n s e = absurd (not-bytes r n s e)
 
 -- the same where the refusal is given by a test that holds
-record Denied (b : Bool) (x : Sealed) (n : ℕ) (s : Sender) : Type 0 where
-  test : b ≡ false
-  then : x ≡ Bytes n s
+pub record Denied (b : Bool) (x : Sealed) (n : ℕ) (s : Sender) : Type 0 where
+  pub test : b ≡ false
+  pub then : x ≡ Bytes n s
 
-denied : (b : Bool) (x : Sealed) (r : Refusal) (n : ℕ) (s : Sender) → cond b (Unsealed r) x ≡ Bytes n s → Denied b x n s
+pub denied : (b : Bool) (x : Sealed) (r : Refusal) (n : ℕ) (s : Sender) → cond b (Unsealed r) x ≡ Bytes n s → Denied b x n s
 denied false x r n s e = record { test = refl; then = e }
 denied true x r n s e = absurd (not-bytes r n s e)
 
@@ -114,6 +114,7 @@ sized size before room s n next e =
 
 pub record Chunkable (s : Sender) (payload room n : ℕ) (next : Sender) : Type 0 where
   pub known : eqb (keyLength (s .method)) 0 ≡ false
+  pub some : isEmpty payload ≡ false
   pub counter : s .counter < lastCounter - 1
   pub sizes : Sized payload 18 room (moved s) n next
 
@@ -121,9 +122,11 @@ pub chunkable : (s : Sender) (payload room n : ℕ) (next : Sender) → chunkAns
 unfolding chunkAnswer
 chunkable s payload room n next e =
     let e₁ = denied (eqb (keyLength (s .method)) 0) _ _ n next e in
-    let e₂ = answers (ltb (s .counter) (lastCounter - 1)) _ _ n next (e₁ .then) in
+    let e₃ = denied (isEmpty payload) _ _ n next (e₁ .then) in
+    let e₂ = answers (ltb (s .counter) (lastCounter - 1)) _ _ n next (e₃ .then) in
     record {
       known = e₁ .test;
+      some = e₃ .test;
       counter = ltb-true (s .counter) (lastCounter - 1) (e₂ .test);
       sizes = sized payload 18 room (moved s) n next (e₂ .then);
     }
@@ -170,34 +173,37 @@ module _ (method counter : ℕ) (w : Subkey) (known : eqb (keyLength method) 0 �
         (cond (le-leb asked room h i) (cond (sent-authentic n e i) good (Refused NotAuthentic)) (Refused Room))
         (Refused (More (n + 16)))))
 
-  length-step : (n : ℕ) → n ≤ maxChunk → (rest : List ℕ) (room : ℕ)
+  length-step : (n : ℕ) → isEmpty n ≡ false → n ≤ maxChunk → (rest : List ℕ) (room : ℕ)
       → stepAnswer (at Length) (sealAt key counter (toBe 2 n) ++ rest) room ≡ Opened (record { used = 18; length = n })
   unfolding stepAnswer lengthRead
-  length-step n h rest room =
+  length-step n filled h rest room =
       let text = toBe 2 n in
       let here : be 2 (openAt key counter (take 18 (sent text rest))) ≡ n =
       ap (be 2) (sent-opened text rest 2 (length-toBe 2 n)) ∙ be-toBe 2 n ∙ mod-eq-of-lt (omega arith) in
       (λ i. cond (known i) (Refused Settings) (turnAnswer Length (at Length) (sent text rest) room))
-      ∙ piece-given text rest Length 2 0 room (length-toBe 2 n) (omega arith) (Opened (record { used = 18; length = lengthRead (at Length) (sent text rest) }))
-      ∙ ap (λ (k : ℕ). Opened (record { used = 18; length = k })) here
+      ∙ piece-given text rest Length 2 0 room (length-toBe 2 n) (omega arith) (lengthAnswer (lengthRead (at Length) (sent text rest)))
+      ∙ ap lengthAnswer here ∙ ap (λ (b : Bool). cond b (Refused Empty) (Opened (record { used = 18; length = n }))) filled
 
   pub length-out : (s out : List ℕ) → stepOut (at Length) s out ≡ out
   unfolding stepOut
   length-out s out = length-kept (stepAnswer (at Length) s (length out)) _ out
 
-  pub payload-step : (text rest : List ℕ) (room : ℕ) → length text ≤ room
+  pub payload-step : (text rest : List ℕ) → isEmpty (length text) ≡ false → (room : ℕ) → length text ≤ room
       → stepAnswer (at (Payload (length text))) (sealAt key counter text ++ rest) room
       ≡ Opened (record { used = length text + 16; length = length text })
   unfolding stepAnswer
-  payload-step text rest room h =
-      (λ i. cond (known i) (Refused Settings) (turnAnswer (Payload (length text)) (at (Payload (length text))) (sent text rest) room))
+  payload-step text rest filled room h =
+      (λ i. cond (known i) (Refused Settings)
+      (cond (filled i) (Refused Settings)
+      (pieceAnswer (at (Payload (length text))) (length text) (sent text rest) (length text) room
+      (Opened (record { used = length text + 16; length = length text })))))
       ∙ piece-given text rest (Payload (length text)) (length text) (length text) room refl h _
 
-  pub payload-out : (text rest out : List ℕ) → length text ≤ length out
+  pub payload-out : (text rest : List ℕ) → isEmpty (length text) ≡ false → (out : List ℕ) → length text ≤ length out
       → stepOut (at (Payload (length text))) (sealAt key counter text ++ rest) out ≡ put out 0 text
   unfolding stepOut
-  payload-out text rest out h =
-      ap₂ (λ (a : Stepped) (plain : List ℕ). writtenBy a (Payload (length text)) plain out) (payload-step text rest (length out) h)
+  payload-out text rest filled out h =
+      ap₂ (λ (a : Stepped) (plain : List ℕ). writtenBy a (Payload (length text)) plain out) (payload-step text rest filled (length out) h)
       (sent-opened text rest (length text) refl)
 
 -- ---- a chunk
@@ -236,13 +242,13 @@ module _ (s next : Sender) (payload : List ℕ) (space n : ℕ) (answered : chun
       record {
         sealed-length = length-chunk (senderKey s) (s .counter) payload ∙ sym (facts .sizes .count);
         length-read = λ room. ap (λ (x : List ℕ). stepAnswer (partner s) x room) (split rest)
-            ∙ length-step (s .method) (s .counter) (s .subkey) (facts .known) first (length payload) (facts .sizes .small) (body ++ rest) room;
+            ∙ length-step (s .method) (s .counter) (s .subkey) (facts .known) first (length payload) (facts .some) (facts .sizes .small) (body ++ rest) room;
         length-writes-nothing = λ o. length-out (s .method) (s .counter) (s .subkey) (facts .known) first _ o;
         length-next = refl;
         payload-read = ap (λ (x : List ℕ). stepAnswer (midway s (length payload)) x (length out)) (behind rest)
-            ∙ payload-step (s .method) (s .counter + 1) (s .subkey) (facts .known) second payload rest (length out) h;
+            ∙ payload-step (s .method) (s .counter + 1) (s .subkey) (facts .known) second payload rest (facts .some) (length out) h;
         payload-written = ap (λ (x : List ℕ). stepOut (midway s (length payload)) x out) (behind rest)
-            ∙ payload-out (s .method) (s .counter + 1) (s .subkey) (facts .known) second payload rest out h;
+            ∙ payload-out (s .method) (s .counter + 1) (s .subkey) (facts .known) second payload rest (facts .some) out h;
         payload-next = ap (λ (k : ℕ). receiver (s .method) Length k (s .subkey)) two ∙ ap partner (sym (facts .sizes .after));
         used-all = omega (arith, facts .sizes .count);
         left = ap (drop (length payload + 16)) (behind rest)

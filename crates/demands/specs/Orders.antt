@@ -256,7 +256,7 @@ module _ (method : ℕ) (key : List ℕ) (clock : ℕ) (s pool out : List ℕ) w
     record { method = method; turn = Length; counter = 2; subkey = subkeyWords k },
   )
 
--- ---- opening a response's head: 1, 10, 4, 6, 7, 13
+-- ---- opening a response's head: 1, 10, 4, 6, 7, 13, 14
 
 abbrev pub saidResponse : ResponseOpened → Said (Response × Receiver)
 saidResponse (Answered h st) = gives (h, st)
@@ -275,8 +275,8 @@ module _ (method : ℕ) (key : List ℕ) (clock : ℕ) (requestSalt s : List ℕ
   abbrev head : List ℕ
   head = openAt streamKeyOf 0 headPiece
 
-  abbrev payload : ℕ
-  payload = be 2 (drop (9 + saltBytes) head)
+  abbrev firstPayload : ℕ
+  firstPayload = be 2 (drop (9 + saltBytes) head)
 
   abbrev pub responseOrder : List Rule
   responseOrder =
@@ -286,20 +286,33 @@ module _ (method : ℕ) (key : List ℕ) (clock : ℕ) (requestSalt s : List ℕ
       ∷ rule 6 (not (eqb (getD head 0 0) 1))
       ∷ rule 7 (not (timeValid (be 8 (drop 1 head)) clock))
       ∷ rule 13 (not (same (take saltBytes (drop 9 head)) requestSalt))
+      ∷ rule 14 (eqb firstPayload 0)
       ∷ []
 
   abbrev pub responseOpened : Response × Receiver
   responseOpened = (
-    record { time = be 8 (drop 1 head); length = payload; used = saltBytes + 27 + saltBytes },
-    record { method = method; turn = Payload payload; counter = 1; subkey = subkeyWords streamKeyOf },
+    record { time = be 8 (drop 1 head); length = firstPayload; used = saltBytes + 27 + saltBytes },
+    record { method = method; turn = Payload firstPayload; counter = 1; subkey = subkeyWords streamKeyOf },
   )
 
--- ---- a step: 1, 4 (ended), 11, 10, 3, 4
+-- ---- a step: 1, 4 (ended), 11, 10, 3, 4, 14 (a length of 0)
 
 abbrev pub isEnded : Turn → Bool
 isEnded Length = false
 isEnded (Payload m) = false
 isEnded Ended = true
+
+-- a payload of 0 bytes is next, which no length says that is accepted
+abbrev pub atNothing : Turn → Bool
+atNothing Length = false
+atNothing (Payload m) = eqb m 0
+atNothing Ended = false
+
+-- the length read is 0
+abbrev pub emptyLength : Turn → (read : ℕ) → Bool
+emptyLength Length read = eqb read 0
+emptyLength (Payload m) read = false
+emptyLength Ended read = false
 
 -- the plaintext of the piece that is next, and the bytes due, which a length has none of
 abbrev pub textBytes : Turn → ℕ
@@ -328,12 +341,13 @@ module _ (st : Receiver) (s : List ℕ) (room : ℕ) where
 
   abbrev pub stepOrder : List Rule
   stepOrder =
-      rule 1 (otherMethod (st .method))
+      rule 1 (otherMethod (st .method) || atNothing (st .turn))
       ∷ rule 4 (isEnded (st .turn))
       ∷ rule 11 (eqb (st .counter) (2 ^ 64 - 1))
       ∷ more (textBytes (st .turn) + 16) (ltb (length s) (textBytes (st .turn) + 16))
       ∷ rule 3 (ltb room (dueBytes (st .turn)))
       ∷ rule 4 (not (authenticAt (streamKey st) (st .counter) piece))
+      ∷ rule 14 (emptyLength (st .turn) (be 2 (openAt (streamKey st) (st .counter) piece)))
       ∷ []
 
   abbrev pub chunkOpened : Chunk
@@ -371,7 +385,7 @@ module _ (method k : ℕ) (sender : Session) (address : List ℕ) (padding paylo
       ∷ rule 3 (ltb room datagramBytes)
       ∷ []
 
--- ---- sealing a request's head: 1, 12, 2, 3; a response's: 1, 2, 3; a chunk: 1, 11, 2, 3
+-- ---- sealing a request's head: 1, 12, 2, 3; a response's: 1, 14, 2, 3; a chunk: 1, 14, 11, 2, 3
 
 abbrev pub saidPiece : Sealed → Said (ℕ × Sender)
 saidPiece (Bytes n next) = gives (n, next)
@@ -408,6 +422,7 @@ module _ (method : ℕ) (key salt requestSalt : List ℕ) (payload room : ℕ) w
       rule 1
       (otherKey method (length key)
       || (not (eqb (length salt) (saltLength method)) || not (eqb (length requestSalt) (saltLength method))))
+      ∷ rule 14 (eqb payload 0)
       ∷ rule 2 (ltb 65535 payload)
       ∷ rule 3 (ltb room responseBytes)
       ∷ []
@@ -415,16 +430,17 @@ module _ (method : ℕ) (key salt requestSalt : List ℕ) (payload room : ℕ) w
   abbrev pub responseSealed : ℕ × Sender
   responseSealed = (responseBytes, senderBehind method key salt)
 
-module _ (s : Sender) (payload room : ℕ) where
+module _ (s : Sender) (size room : ℕ) where
   -- a length of 2 bytes and the payload, each with its tag
   abbrev chunkBytes : ℕ
-  chunkBytes = 2 + 16 + payload + 16
+  chunkBytes = 2 + 16 + size + 16
 
   abbrev pub sealChunkOrder : List Rule
   sealChunkOrder =
       rule 1 (otherMethod (s .method))
+      ∷ rule 14 (eqb size 0)
       ∷ rule 11 (not (ltb (s .counter) (2 ^ 64 - 2)))
-      ∷ rule 2 (ltb 65535 payload)
+      ∷ rule 2 (ltb 65535 size)
       ∷ rule 3 (ltb room chunkBytes)
       ∷ []
 

@@ -8,6 +8,8 @@ use Prim.Native.Nat.{ℕ, zero, suc, _+_, _*_, _^_, _≤_, _<_}
 use lib.ListN.{length, take, drop}
 use Rattle.octets.specs.Buffers.{put}
 use Rattle.octets.specs.Numbers.{toBe}
+use Rattle.protocol.specs.declared.Refusal.the-variants.{Empty}
+use Rattle.protocol.specs.Method.{keyFits, keyLength, saltLength}
 use Rattle.protocol.specs.Time.{timeValid}
 use Rattle.socks5.specs.declared.Address.{Address}
 use Rattle.socks5.specs.declared.Parsed.the-variants.{Found}
@@ -32,7 +34,7 @@ use Rattle.stream_open_request.specs.declared.RequestOpened.the-variants.{Accep
 use Rattle.stream_open.specs.Chunks.{receiver, streamKey, stepAnswer, stepOut, stepNext}
 use Rattle.stream_open_response.specs.Responses.{openedResponse}
 use Rattle.stream_open_request.specs.Requests.{openedRequest, requestOut, requestPool}
-use Rattle.demands.specs.StreamsOpen.{RequestExactlyWhen, ResponseExactlyWhen, TurnOpens, turnText, StepExactlyWhen}
+use Rattle.demands.specs.StreamsOpen.{RequestExactlyWhen, ResponseExactlyWhen, ResponseEmptyExactlyWhen, TurnOpens, turnText, StepExactlyWhen, StepEmptyExactlyWhen}
 
 -- ---- one chunk
 
@@ -180,6 +182,27 @@ abbrev pub AllOpened : (k : ℕ) → Flow → Type 0
 AllOpened zero f = Unit {0}
 AllOpened (suc k) f = ((c : Chunk) × (answerTo f ≡ Opened c)) × AllOpened k (stepped f)
 
+-- ---- no payload is empty
+
+-- what a step tells as a length is not 0, and no payload that steps hand out, as many as there are, is empty: from every state,
+-- and so behind every head that was accepted
+abbrev pub NoneEmpty : List (List ℕ) → Type 0
+NoneEmpty [] = Unit {0}
+NoneEmpty (p ∷ ps) = (0 < length p) × NoneEmpty ps
+
+pub record NoEmptyChunk : Type 0 where
+  pub step : (st : Receiver) (s : List ℕ) (room : ℕ) (c : Chunk) → stepAnswer st s room ≡ Opened c → 0 < c .length
+  pub steps : (k : ℕ) (f : Flow) → NoneEmpty (received k f)
+
+-- and none is sealed: an empty payload is 14, whatever the counter and the room are, and 14 is for nothing else
+pub record EmptyUnsealed : Type 0 where
+  pub chunks : (s : Sender) (room : ℕ) → (keyLength (s .method) ≡ 0 → ⊥) → chunkAnswer s 0 room ≡ Unsealed Empty
+  pub chunks-only : (s : Sender) (payload room : ℕ) → chunkAnswer s payload room ≡ Unsealed Empty → payload ≡ 0
+  pub responses : (method : ℕ) (key salt binding : List ℕ) (room : ℕ) → keyFits method (length key) ≡ true → length salt ≡ saltLength method
+      → length binding ≡ saltLength method → responseAnswer method key salt binding 0 room ≡ Unsealed Empty
+  pub responses-only : (method : ℕ) (key salt binding : List ℕ) (payload room : ℕ)
+      → responseAnswer method key salt binding payload room ≡ Unsealed Empty → payload ≡ 0
+
 -- ---- each chunk has its own nonce
 
 -- behind k accepted steps the counter is k further, and the step that follows is opened under that counter
@@ -314,6 +337,11 @@ pub record StreamsDemand2 : Type 0 where
   pub requests-exactly : RequestExactlyWhen
   pub responses-exactly : ResponseExactlyWhen
   pub steps-exactly : StepExactlyWhen
+  -- 14 exactly when
+  pub empty-responses-exactly : ResponseEmptyExactlyWhen
+  pub empty-steps-exactly : StepEmptyExactlyWhen
+  pub no-empty-chunk : NoEmptyChunk
+  pub empty-unsealed : EmptyUnsealed
   -- what is sealed here is given back
   pub requests-back : RequestsGivenBack
   pub responses-back : ResponsesGivenBack

@@ -8,7 +8,7 @@ use lib.ListN.{length, take, drop, replicate}
 use Rattle.octets.specs.Buffers.{put}
 use Rattle.octets.specs.Numbers.{be}
 use Rattle.protocol.specs.declared.Refusal.{Refusal}
-use Rattle.protocol.specs.declared.Refusal.the-variants.{NotAuthentic, Malformed}
+use Rattle.protocol.specs.declared.Refusal.the-variants.{NotAuthentic, Malformed, Empty}
 use Rattle.protocol.specs.Refusal.{refusalNumber}
 use Rattle.protocol.specs.Subkey.{subkey}
 use Rattle.protocol.specs.Method.{keyLength, saltLength}
@@ -52,15 +52,21 @@ ofFront r = among (4 ∷ 6 ∷ 7 ∷ []) (refusalNumber r)
 
 -- by a response's head
 abbrev pub ofResponse : Refusal → Bool
-ofResponse r = among (1 ∷ 4 ∷ 6 ∷ 7 ∷ 10 ∷ 13 ∷ []) (refusalNumber r)
+ofResponse r = among (1 ∷ 4 ∷ 6 ∷ 7 ∷ 10 ∷ 13 ∷ 14 ∷ []) (refusalNumber r)
 
 -- by a step
 abbrev pub ofStep : Refusal → Bool
-ofStep r = among (1 ∷ 3 ∷ 4 ∷ 10 ∷ 11 ∷ []) (refusalNumber r)
+ofStep r = among (1 ∷ 3 ∷ 4 ∷ 10 ∷ 11 ∷ 14 ∷ []) (refusalNumber r)
 
--- by a sealer
-abbrev pub ofSealer : Refusal → Bool
-ofSealer r = among (1 ∷ 2 ∷ 3 ∷ 11 ∷ 12 ∷ []) (refusalNumber r)
+-- by the sealer of a request's head, of a response's, and of a chunk
+abbrev pub requestSealer : List ℕ
+requestSealer = 1 ∷ 2 ∷ 3 ∷ 12 ∷ []
+
+abbrev pub responseSealer : List ℕ
+responseSealer = 1 ∷ 2 ∷ 3 ∷ 14 ∷ []
+
+abbrev pub chunkSealer : List ℕ
+chunkSealer = 1 ∷ 2 ∷ 3 ∷ 11 ∷ 14 ∷ []
 
 -- ---- a request's head
 
@@ -118,10 +124,11 @@ dueAt Ended = 0
 pub record StepKeeps (st : Receiver) (s out : List ℕ) : Type 0 where
   pub answered : StepAnswered (stepAnswer st s (length out))
   pub refused-keeps-out : (r : Refusal) → stepAnswer st s (length out) ≡ Unopened r → stepOut st s out ≡ out
-  -- 4 ends the stream, and no other refusal moves it
-  pub refused-keeps-state : (r : Refusal) → stepAnswer st s (length out) ≡ Unopened r → (refusalNumber r ≡ 4 → ⊥)
+  -- 4 and 14 end the stream, and no other refusal moves it
+  pub refused-keeps-state : (r : Refusal) → stepAnswer st s (length out) ≡ Unopened r → (refusalNumber r ≡ 4 → ⊥) → (refusalNumber r ≡ 14 → ⊥)
       → stepNext st (stepAnswer st s (length out)) ≡ st
   pub forged-ends : stepAnswer st s (length out) ≡ Unopened NotAuthentic → stepNext st (stepAnswer st s (length out)) ≡ ended st
+  pub empty-ends : stepAnswer st s (length out) ≡ Unopened Empty → stepNext st (stepAnswer st s (length out)) ≡ ended st
   -- a stream that has ended opens nothing any more
   pub ended-refuses : (keyLength (st .method) ≡ 0 → ⊥) → (bytes : List ℕ) (room : ℕ) → stepAnswer (ended st) bytes room ≡ Unopened NotAuthentic
   pub past-due-kept : drop (dueAt (st .turn)) (stepOut st s out) ≡ drop (dueAt (st .turn)) out
@@ -129,13 +136,14 @@ pub record StepKeeps (st : Receiver) (s out : List ℕ) : Type 0 where
 
 -- ---- sealing
 
-pub data SealAnswered (a : Sealed) : Type 0 where
-  sealed-text : (n : ℕ) (next : Sender) → a ≡ Bytes n next → SealAnswered a
-  refused-text : (r : Refusal) → ofSealer r ≡ true → a ≡ Unsealed r → SealAnswered a
+-- with these refusals
+pub data SealAnswered (refusals : List ℕ) (a : Sealed) : Type 0 where
+  sealed-text : (n : ℕ) (next : Sender) → a ≡ Bytes n next → SealAnswered refusals a
+  refused-text : (r : Refusal) → among refusals (refusalNumber r) ≡ true → a ≡ Unsealed r → SealAnswered refusals a
 
 -- the text that is written, where the sealer answers `a`
-pub record SealKeeps (a : Sealed) (text out : List ℕ) : Type 0 where
-  pub answered : SealAnswered a
+pub record SealKeeps (refusals : List ℕ) (a : Sealed) (text out : List ℕ) : Type 0 where
+  pub answered : SealAnswered refusals a
   pub refused-writes-nothing : (r : Refusal) → a ≡ Unsealed r → sealOut a text out ≡ out
   pub sealed-length : (n : ℕ) (next : Sender) → a ≡ Bytes n next → (length text ≡ n) × (n ≤ length out)
   pub past-length-kept : (n : ℕ) (next : Sender) → a ≡ Bytes n next → drop n (sealOut a text out) ≡ drop n out
@@ -143,11 +151,11 @@ pub record SealKeeps (a : Sealed) (text out : List ℕ) : Type 0 where
 
 pub record SealersKeep : Type 0 where
   pub requests : (method : ℕ) (key salt : List ℕ) (time : ℕ) (address : List ℕ) (padding : ℕ) (payload out : List ℕ)
-      → SealKeeps (requestAnswer method key salt address padding (length payload) (length out)) (request key salt time address padding payload) out
+      → SealKeeps requestSealer (requestAnswer method key salt address padding (length payload) (length out)) (request key salt time address padding payload) out
   pub responses : (method : ℕ) (key salt binding : List ℕ) (time : ℕ) (payload out : List ℕ)
-      → SealKeeps (responseAnswer method key salt binding (length payload) (length out)) (response key salt binding time payload) out
+      → SealKeeps responseSealer (responseAnswer method key salt binding (length payload) (length out)) (response key salt binding time payload) out
   pub chunks : (s : Sender) (payload out : List ℕ)
-      → SealKeeps (chunkAnswer s (length payload) (length out)) (chunk (senderKey s) (s .counter) payload) out
+      → SealKeeps chunkSealer (chunkAnswer s (length payload) (length out)) (chunk (senderKey s) (s .counter) payload) out
 
 -- ---- demand 1
 

@@ -3,10 +3,12 @@
 use mathlib.Core.Path.{_≡_}
 use mathlib.Core.Bool.{true}
 use mathlib.Core.List.{List}
+use mathlib.Core.Logic.{_↔_}
 use Prim.Native.Nat.{ℕ, _+_, _≤_, _<_}
 use lib.ListN.{length, getD, take, drop}
 use Rattle.octets.specs.Buffers.{put}
 use Rattle.octets.specs.Numbers.{be}
+use Rattle.protocol.specs.declared.Refusal.the-variants.{Empty}
 use Rattle.protocol.specs.Subkey.{subkey}
 use Rattle.protocol.specs.Method.{keyFits, keyLength, saltLength}
 use Rattle.protocol.specs.Time.{timeValid}
@@ -21,9 +23,9 @@ use Rattle.stream_open.specs.declared.Turn.{Turn}
 use Rattle.stream_open.specs.declared.Turn.the-variants.{Length, Payload, Ended}
 use Rattle.stream_open.specs.declared.Receiver.{Receiver}
 use Rattle.stream_open.specs.declared.Chunk.{Chunk}
-use Rattle.stream_open.specs.declared.Stepped.the-variants.{Opened}
+use Rattle.stream_open.specs.declared.Stepped.the-variants.{Opened, Refused as Unopened}
 use Rattle.stream_open_response.specs.declared.Response.{Response}
-use Rattle.stream_open_response.specs.declared.ResponseOpened.the-variants.{Accepted as Answered}
+use Rattle.stream_open_response.specs.declared.ResponseOpened.the-variants.{Accepted as Answered, Refused as Unanswered}
 use Rattle.stream_open_request.specs.declared.Request.{Request}
 use Rattle.stream_open_request.specs.declared.RequestOpened.the-variants.{Accepted}
 use Rattle.stream_open.specs.Chunks.{receiver, streamKey, stepAnswer, stepOut}
@@ -108,6 +110,7 @@ pub record ResponseOpens (method : ℕ) (key : List ℕ) (clock : ℕ) (requestS
   pub for-us : bindingOf (saltLength method)
       (openAt (subkey key (saltOf method s)) 0 (fixedOf (saltLength method) (saltLength method) s))
       ≡ requestSalt
+  pub not-empty : 0 < size
   pub says : h ≡ record { time = time; length = size; used = frontLength (saltLength method) (saltLength method) }
   -- the stream goes on with the payload, with counter 1
   pub stream : st ≡ receiver method (Payload size) 1 (subkeyWords (subkey key (saltOf method s)))
@@ -121,6 +124,21 @@ ResponseExactlyWhen =
     (method : ℕ) (key : List ℕ) (clock : ℕ) (requestSalt s : List ℕ) → keyFits method (length key) ≡ true
     → length requestSalt ≡ saltLength method → (h : Response) (st : Receiver) → ResponseExactly method key clock requestSalt s h st
 
+-- 14: all before it is good, and the first payload has no bytes
+pub record ResponseEmpty (method : ℕ) (key : List ℕ) (clock : ℕ) (requestSalt s : List ℕ) : Type 0 where
+  pub front-whole : frontLength (saltLength method) (saltLength method) ≤ length s
+  pub time : ℕ
+  pub fixed-opens : FixedOpens (subkey key (saltOf method s)) 1 clock (fixedOf (saltLength method) (saltLength method) s) time 0
+  pub for-us : bindingOf (saltLength method)
+      (openAt (subkey key (saltOf method s)) 0 (fixedOf (saltLength method) (saltLength method) s))
+      ≡ requestSalt
+
+abbrev pub ResponseEmptyExactlyWhen : Type 0
+ResponseEmptyExactlyWhen =
+    (method : ℕ) (key : List ℕ) (clock : ℕ) (requestSalt s : List ℕ) → keyFits method (length key) ≡ true
+    → length requestSalt ≡ saltLength method
+    → (openedResponse method key clock requestSalt s ≡ Unanswered Empty) ↔ ResponseEmpty method key clock requestSalt s
+
 -- ---- a step is accepted exactly when
 
 -- a piece of n bytes of plaintext can be opened under a key and a counter, into room for as many bytes as are asked
@@ -130,11 +148,12 @@ pub record PieceOpens (key : List ℕ) (counter n : ℕ) (s : List ℕ) (asked r
   pub has-room : asked ≤ room
   pub authentic : authenticAt key counter (take (n + 16) s) ≡ true
 
--- by turns: a length is what the piece says; a payload is as long as the length before it said
+-- by turns: a length is what the piece says; a payload is as long as the length before it said; neither is 0
 abbrev pub TurnOpens : (key : List ℕ) (counter : ℕ) → Turn → List ℕ → (room : ℕ) → Chunk → Type 0
 TurnOpens key counter Length s room c =
-    PieceOpens key counter 2 s 0 room × (c ≡ record { used = 18; length = be 2 (openAt key counter (take 18 s)) })
-TurnOpens key counter (Payload n) s room c = PieceOpens key counter n s n room × (c ≡ record { used = n + 16; length = n })
+    PieceOpens key counter 2 s 0 room
+    × ((0 < be 2 (openAt key counter (take 18 s))) × (c ≡ record { used = 18; length = be 2 (openAt key counter (take 18 s)) }))
+TurnOpens key counter (Payload n) s room c = PieceOpens key counter n s n room × ((0 < n) × (c ≡ record { used = n + 16; length = n }))
 TurnOpens key counter Ended s room c = ⊥
 
 -- what the buffer holds then
@@ -154,6 +173,16 @@ pub record StepExactly (st : Receiver) (s out : List ℕ) (c : Chunk) : Type 0 w
 
 abbrev pub StepExactlyWhen : Type 0
 StepExactlyWhen = (st : Receiver) (s out : List ℕ) (c : Chunk) → StepExactly st s out c
+
+-- 14: a length that is good in all but that it is 0
+pub record StepEmpty (st : Receiver) (s : List ℕ) (room : ℕ) : Type 0 where
+  pub known : keyLength (st .method) ≡ 0 → ⊥
+  pub at-length : st .turn ≡ Length
+  pub opens : PieceOpens (streamKey st) (st .counter) 2 s 0 room
+  pub says-0 : be 2 (openAt (streamKey st) (st .counter) (take 18 s)) ≡ 0
+
+abbrev pub StepEmptyExactlyWhen : Type 0
+StepEmptyExactlyWhen = (st : Receiver) (s : List ℕ) (room : ℕ) → (stepAnswer st s room ≡ Unopened Empty) ↔ StepEmpty st s room
 
 -- ---- the bytes behind those used are not read
 

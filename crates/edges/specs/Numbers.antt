@@ -17,7 +17,7 @@ use Rattle.protocol.specs.declared.Numbered.{Numbered}
 use Rattle.protocol.specs.declared.Numbered.the-variants.{Known, Unknown}
 use Rattle.protocol.specs.Method.{methodOf, keyFits, keyLength, saltLength}
 use Rattle.protocol.specs.declared.Refusal.{Refusal}
-use Rattle.protocol.specs.declared.Refusal.the-variants.{Settings, Length, Room, NotAuthentic, Malformed, WrongType, WrongTime, Replay, Full, More, Counter, Argument, Binding}
+use Rattle.protocol.specs.declared.Refusal.the-variants.{Settings, Length, Room, NotAuthentic, Malformed, WrongType, WrongTime, Replay, Full, More, Counter, Argument, Binding, Empty}
 use Rattle.protocol.specs.Refusal.{refusalNumber, wantedBytes}
 use Rattle.protocol.specs.Subkey.{subkey, sessionSubkey}
 use Rattle.protocol.specs.Time.{tolerance}
@@ -47,10 +47,12 @@ use Rattle.stream_seal_heads.specs.HeadSealing.{fixedPart as fixedHeader, varia
 use Rattle.stream_open.specs.declared.Turn.{Turn}
 use Rattle.stream_open.specs.declared.Turn.the-variants.{Length as LengthTurn, Payload, Ended}
 use Rattle.stream_open.specs.declared.Receiver.{Receiver}
+use Rattle.stream_open.specs.Chunks.{lengthAnswer, stepAnswer}
 use Rattle.stream_open.specs.declared.Stepped.the-variants.{Opened as StepOpened, Refused as StepRefused}
 use Rattle.words.specs.Answers.{answerWords, kindOf, headerWords, requestWords, chunkWords, refusedAnswer}
 use Rattle.words.specs.States.{sessionSize, sessionWords, streamSize, senderWords, receiverWords, receiverLawful}
-use Rattle.stream_answers.specs.Told.{steppedAnswer, stepStream}
+use Rattle.stream_answers.specs.Told.{steppedNumber, steppedAnswer, stepStream}
+use Rattle.relay.specs.Streams.{notSealing}
 use Rattle.relay.specs.Datagrams.{settingsNumber, begunWords, sealed, openedNumber, openedWords, callerOf}
 use Rattle.edges.specs.Edges.{home, nameA, numberOf}
 
@@ -84,7 +86,7 @@ sizesOf Unknown = []
 abbrev pub refusals : List Refusal
 refusals =
     Settings ∷ Length ∷ Room ∷ NotAuthentic ∷ Malformed ∷ WrongType ∷ WrongTime ∷ Replay ∷ Full ∷ More 43 ∷ Counter ∷ Argument
-    ∷ Binding ∷ []
+    ∷ Binding ∷ Empty ∷ []
 
 unfoldable pub methodFacts : List Fact
 methodFacts =
@@ -97,9 +99,9 @@ methodFacts =
     ∷ fact (sizesOf (methodOf (2 ^ 32 + 1))) []
     ∷ fact (keyLength 1 ∷ keyLength 2 ∷ saltLength 1 ∷ saltLength 2 ∷ []) (16 ∷ 32 ∷ 16 ∷ 32 ∷ [])
     ∷ fact (bits (keyFits 1 16 ∷ keyFits 1 32 ∷ keyFits 2 32 ∷ keyFits 2 16 ∷ keyFits 0 0 ∷ [])) (1 ∷ 0 ∷ 1 ∷ 0 ∷ 0 ∷ [])
-    ∷ fact (map refusalNumber refusals) (1 ∷ 2 ∷ 3 ∷ 4 ∷ 5 ∷ 6 ∷ 7 ∷ 8 ∷ 9 ∷ 10 ∷ 11 ∷ 12 ∷ 13 ∷ [])
+    ∷ fact (map refusalNumber refusals) (1 ∷ 2 ∷ 3 ∷ 4 ∷ 5 ∷ 6 ∷ 7 ∷ 8 ∷ 9 ∷ 10 ∷ 11 ∷ 12 ∷ 13 ∷ 14 ∷ [])
     -- only 10 adds a count
-    ∷ fact (map wantedBytes refusals) (0 ∷ 0 ∷ 0 ∷ 0 ∷ 0 ∷ 0 ∷ 0 ∷ 0 ∷ 0 ∷ 43 ∷ 0 ∷ 0 ∷ 0 ∷ [])
+    ∷ fact (map wantedBytes refusals) (0 ∷ 0 ∷ 0 ∷ 0 ∷ 0 ∷ 0 ∷ 0 ∷ 0 ∷ 0 ∷ 43 ∷ 0 ∷ 0 ∷ 0 ∷ 0 ∷ [])
     ∷ number tolerance 30
     ∷ []
 
@@ -282,6 +284,10 @@ datagramFacts =
 
 -- ---- streams
 
+-- a stream whose subkey has these words
+abbrev pub streamAt : Turn → Receiver
+streamAt turn = record { method = 1; turn = turn; counter = 2; subkey = record { a = 4; b = 5; c = 6; d = 7 } }
+
 unfoldable pub streamFacts : List Fact
 streamFacts =
     fact (maxChunk ∷ maxPadding ∷ lastCounter ∷ []) (65535 ∷ 900 ∷ (2 ^ 64 - 1) ∷ [])
@@ -291,13 +297,12 @@ streamFacts =
     ∷ fact (fixedHeader 1 1000 bytes18 258) (1 ∷ thousand ++ (bytes18 ++ (1 ∷ 2 ∷ [])))
     ∷ fact (variablePart nameA 2 (7 ∷ [])) (3 ∷ 1 ∷ 0x61 ∷ 0 ∷ 80 ∷ 0 ∷ 2 ∷ 0 ∷ 0 ∷ 7 ∷ [])
     ∷ fact (counterNonce 258) (2 ∷ 1 ∷ 0 ∷ 0 ∷ 0 ∷ 0 ∷ 0 ∷ 0 ∷ 0 ∷ 0 ∷ 0 ∷ 0 ∷ [])
+    -- a length of 0, and its neighbour; and a lent stream at a payload of 0
+    ∷ fact (map steppedNumber (lengthAnswer 0 ∷ lengthAnswer 1 ∷ lengthAnswer 65535 ∷ [])) (14 ∷ 0 ∷ 0 ∷ [])
+    ∷ number (steppedNumber (stepAnswer (streamAt (Payload 0)) [] 0)) 1
     ∷ []
 
 -- ---- words that a host lends
-
--- a stream whose subkey has these words
-abbrev pub streamAt : Turn → Receiver
-streamAt turn = record { method = 1; turn = turn; counter = 2; subkey = record { a = 4; b = 5; c = 6; d = 7 } }
 
 unfoldable pub wordFacts : List Fact
 wordFacts =
@@ -370,8 +375,12 @@ hostFacts =
     ∷ fact (refusedAnswer (More 43) sevens) (43 ∷ replicate 8 7)
     ∷ fact (refusedAnswer Room sevens) sevens
     ∷ fact (steppedAnswer (StepOpened (record { used = 18; length = 5 })) sevens) (18 ∷ 5 ∷ replicate 7 7)
-    -- of all refusals 4 alone ends a stream
-    ∷ fact (map turnBehind refusals) (1 ∷ 1 ∷ 1 ∷ 0 ∷ 1 ∷ 1 ∷ 1 ∷ 1 ∷ 1 ∷ 1 ∷ 1 ∷ 1 ∷ 1 ∷ [])
+    -- of all refusals 4 and 14 end a stream
+    ∷ fact (map turnBehind refusals) (1 ∷ 1 ∷ 1 ∷ 0 ∷ 1 ∷ 1 ∷ 1 ∷ 1 ∷ 1 ∷ 1 ∷ 1 ∷ 1 ∷ 1 ∷ 0 ∷ [])
+    -- sealing on a stream that has ended, and at another turn: an empty payload, one of a byte, and no method
+    ∷ fact
+    (map refusalNumber (notSealing 0 1 0 ∷ notSealing 0 1 1 ∷ notSealing 0 0 0 ∷ notSealing 1 1 0 ∷ notSealing 2 1 1 ∷ []))
+    (14 ∷ 4 ∷ 1 ∷ 1 ∷ 1 ∷ [])
     ∷ []
 
 abbrev pub facts : List Fact

@@ -1,7 +1,8 @@
--- The numbers given back: one for each refusal, and the count that number 10 adds.
+-- The numbers given back: one for each refusal, the count that number 10 adds, and which of them end a stream.
+use mathlib.Core.Bool.{Bool, true, false}
 use Prim.Native.Nat.{ℕ}
 use Rattle.protocol.specs.declared.Refusal.{Refusal}
-use Rattle.protocol.specs.declared.Refusal.the-variants.{Settings, Length, Room, NotAuthentic, Malformed, WrongType, WrongTime, Replay, Full, More, Counter, Argument, Binding}
+use Rattle.protocol.specs.declared.Refusal.the-variants.{Settings, Length, Room, NotAuthentic, Malformed, WrongType, WrongTime, Replay, Full, More, Counter, Argument, Binding, Empty}
 
 abbrev pub refusalNumber : Refusal → ℕ
 refusalNumber Settings = 1
@@ -17,6 +18,7 @@ refusalNumber (More wanted) = 10
 refusalNumber Counter = 11
 refusalNumber Argument = 12
 refusalNumber Binding = 13
+refusalNumber Empty = 14
 
 -- the number of bytes wanted in all, and 0 for the others
 abbrev pub wantedBytes : Refusal → ℕ
@@ -33,3 +35,21 @@ wantedBytes Full = 0
 wantedBytes Counter = 0
 wantedBytes Argument = 0
 wantedBytes Binding = 0
+wantedBytes Empty = 0
+
+-- the only place that says so: a wrong tag, and an empty chunk, end the stream that is opened; it answers number 4 from then on
+abbrev pub endsStream : Refusal → Bool
+endsStream NotAuthentic = true
+endsStream Empty = true
+endsStream Settings = false
+endsStream Length = false
+endsStream Room = false
+endsStream Malformed = false
+endsStream WrongType = false
+endsStream WrongTime = false
+endsStream Replay = false
+endsStream Full = false
+endsStream (More wanted) = false
+endsStream Counter = false
+endsStream Argument = false
+endsStream Binding = false

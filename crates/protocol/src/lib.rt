@@ -1,7 +1,7 @@
 // What the layers of SIP022 share: methods, refusals, the time rule.
 ghost use mathlib.Core.Path.{_≡_};
 ghost use Rattle.protocol.specs.Method.{maxKey, aes128, aes256, methodOf, keyFits, keyLength, saltLength};
-ghost use Rattle.protocol.specs.Refusal.{refusalNumber, wantedBytes};
+ghost use Rattle.protocol.specs.Refusal.{refusalNumber, wantedBytes, endsStream};
 ghost use Rattle.protocol.specs.Subkey.{subkey};
 ghost use Rattle.protocol.specs.Time.{timeValid};
 ghost use Prim.Native.Nat.{_≤_};
@@ -112,6 +112,7 @@ pub enum Refusal {
     Counter,
     Argument,
     Binding,
+    Empty,
 }
 
 impl Refusal {
@@ -132,6 +133,7 @@ impl Refusal {
             Refusal::Counter => 11,
             Refusal::Argument => 12,
             Refusal::Binding => 13,
+            Refusal::Empty => 14,
         }
     }
 
@@ -153,6 +155,29 @@ impl Refusal {
             Refusal::Counter => 0,
             Refusal::Argument => 0,
             Refusal::Binding => 0,
+            Refusal::Empty => 0,
+        }
+    }
+
+    // Whether a stream that is refused so has ended.
+    pub fn ends_stream(self) -> bool
+        ensures { λ r. ⌜ r ≡ endsStream self ⌝ }
+    {
+        match self {
+            Refusal::Settings => false,
+            Refusal::Length => false,
+            Refusal::Room => false,
+            Refusal::NotAuthentic => true,
+            Refusal::Malformed => false,
+            Refusal::WrongType => false,
+            Refusal::WrongTime => false,
+            Refusal::Replay => false,
+            Refusal::Full => false,
+            Refusal::More(_) => false,
+            Refusal::Counter => false,
+            Refusal::Argument => false,
+            Refusal::Binding => false,
+            Refusal::Empty => true,
         }
     }
 }

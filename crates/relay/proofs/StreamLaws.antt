@@ -7,9 +7,10 @@ use lib.Dec.{eqb}
 use lib.ListN.{length}
 use borrow.Author.Tests.{eq-eqb, ne-eqb, eqb-true}
 use Rattle.protocol.specs.declared.Refusal.{Refusal}
-use Rattle.protocol.specs.declared.Refusal.the-variants.{Settings, NotAuthentic}
+use Rattle.protocol.specs.declared.Refusal.the-variants.{Settings, NotAuthentic, Empty}
 use Rattle.protocol.specs.Method.{keyLength}
 use Rattle.protocol.specs.Refusal.{refusalNumber}
+use Rattle.stream_pieces.specs.Pieces.{isEmpty}
 use Rattle.stream_open.specs.declared.Receiver.{Receiver}
 use Rattle.stream_seal.specs.declared.Sealed.{Sealed}
 use Rattle.stream_seal.specs.declared.Sealed.the-variants.{Refused}
@@ -65,35 +66,35 @@ module _ (w : List ℕ) (payload room : ℕ) where
   unfolding chunkSealed
   at-sealing e =
       sym (ap
-      (λ (b : Bool). cond b (chunkAnswer (senderIn w) payload room) (Refused (notSealing (turnOf w) (senderIn w .method))))
+      (λ (b : Bool). cond b (chunkAnswer (senderIn w) payload room) (Refused (notSealing (turnOf w) (senderIn w .method) payload)))
       (eq-eqb (turnOf w) 3 e))
 
-  pub not-at-sealing : (turnOf w ≡ 3 → ⊥) → chunkSealed w payload room ≡ Refused (notSealing (turnOf w) (senderIn w .method))
+  pub not-at-sealing : (turnOf w ≡ 3 → ⊥) → chunkSealed w payload room ≡ Refused (notSealing (turnOf w) (senderIn w .method) payload)
   unfolding chunkSealed
   not-at-sealing e =
       ap
-      (λ (b : Bool). cond b (chunkAnswer (senderIn w) payload room) (Refused (notSealing (turnOf w) (senderIn w .method))))
+      (λ (b : Bool). cond b (chunkAnswer (senderIn w) payload room) (Refused (notSealing (turnOf w) (senderIn w .method) payload)))
       (ne-eqb (turnOf w) 3 e)
 
-module _ (turn method : ℕ) where
-  pub another-turn : (turn ≡ 0 → ⊥) → Settings ≡ notSealing turn method
+module _ (turn method payload : ℕ) where
+  decided : (a b c : Bool) → eqb turn 0 ≡ a → eqb (keyLength method) 0 ≡ b → isEmpty payload ≡ c
+      → cond a (cond b Settings (cond c Empty NotAuthentic)) Settings ≡ notSealing turn method payload
   unfolding notSealing
-  another-turn e =
-      sym (ap (λ (b : Bool). cond b (cond (eqb (keyLength method) 0) Settings NotAuthentic) Settings) (ne-eqb turn 0 e))
+  decided a b c ea eb ec = λ i. cond (sym ea i) (cond (sym eb i) Settings (cond (sym ec i) Empty NotAuthentic)) Settings
+
+  pub another-turn : (turn ≡ 0 → ⊥) → Settings ≡ notSealing turn method payload
+  another-turn e = decided false _ _ (ne-eqb turn 0 e) refl refl
 
   module _ (k : ℕ) (e : turn ≡ 0) (f : k ≡ keyLength method) where
-    ended : cond (eqb (keyLength method) 0) Settings NotAuthentic ≡ notSealing turn method
-    unfolding notSealing
-    ended =
-        sym (ap (λ (b : Bool). cond b (cond (eqb (keyLength method) 0) Settings NotAuthentic) Settings) (eq-eqb turn 0 e))
+    pub no-method : k ≡ 0 → Settings ≡ notSealing turn method payload
+    no-method g = decided true true _ (eq-eqb turn 0 e) (eq-eqb (keyLength method) 0 (sym f ∙ g)) refl
 
-    pub no-method : k ≡ 0 → Settings ≡ notSealing turn method
-    no-method g =
-        sym (ap (λ (b : Bool). cond b Settings NotAuthentic) (eq-eqb (keyLength method) 0 (sym f ∙ g))) ∙ ended
+    module _ (known : k ≡ 0 → ⊥) where
+      pub nothing-to-seal : payload ≡ 0 → Empty ≡ notSealing turn method payload
+      nothing-to-seal h = decided true false true (eq-eqb turn 0 e) (ne-eqb (keyLength method) 0 (λ x. known (f ∙ x))) (eq-eqb payload 0 h)
 
-    pub has-ended : (k ≡ 0 → ⊥) → NotAuthentic ≡ notSealing turn method
-    has-ended g =
-        sym (ap (λ (b : Bool). cond b Settings NotAuthentic) (ne-eqb (keyLength method) 0 (λ x. g (f ∙ x)))) ∙ ended
+      pub has-ended : (payload ≡ 0 → ⊥) → NotAuthentic ≡ notSealing turn method payload
+      has-ended h = decided true false false (eq-eqb turn 0 e) (ne-eqb (keyLength method) 0 (λ x. known (f ∙ x))) (ne-eqb payload 0 h)
 
 -- ---- the head of a request
 

@@ -6,8 +6,9 @@ use Prim.Native.Nat.{ℕ}
 use lib.Dec.{eqb}
 use lib.ListN.{length}
 use Rattle.protocol.specs.declared.Refusal.{Refusal}
-use Rattle.protocol.specs.declared.Refusal.the-variants.{Settings, NotAuthentic}
+use Rattle.protocol.specs.declared.Refusal.the-variants.{Settings, NotAuthentic, Empty}
 use Rattle.protocol.specs.Method.{keyLength}
+use Rattle.stream_pieces.specs.Pieces.{isEmpty}
 use Rattle.stream_seal.specs.declared.Sealed.{Sealed}
 use Rattle.stream_seal.specs.declared.Sealed.the-variants.{Refused}
 use Rattle.stream_open_request.specs.declared.RequestOpened.{RequestOpened}
@@ -54,13 +55,14 @@ module _ (method : ℕ) (key salt requestSalt : List ℕ) (clock : ℕ) (payload
       seals (responseAnswer method key salt requestSalt (length payload) (length out))
       (response key salt requestSalt clock payload) out stream answer
 
--- a stream that does not seal: refusal 4 where it has ended, and 1 at another turn or where its method is none
-unfoldable pub notSealing : (turn method : ℕ) → Refusal
-notSealing turn method = cond (eqb turn 0) (cond (eqb (keyLength method) 0) Settings NotAuthentic) Settings
+-- a stream that does not seal: 1 at another turn or where its method is none, 14 of an empty payload, and 4 where it has ended
+unfoldable pub notSealing : (turn method payload : ℕ) → Refusal
+notSealing turn method payload =
+    cond (eqb turn 0) (cond (eqb (keyLength method) 0) Settings (cond (isEmpty payload) Empty NotAuthentic)) Settings
 
 unfoldable pub chunkSealed : List ℕ → (payload room : ℕ) → Sealed
 chunkSealed w payload room =
-    cond (eqb (turnOf w) 3) (chunkAnswer (senderIn w) payload room) (Refused (notSealing (turnOf w) (senderIn w .method)))
+    cond (eqb (turnOf w) 3) (chunkAnswer (senderIn w) payload room) (Refused (notSealing (turnOf w) (senderIn w .method) payload))
 
 unfoldable pub sealsChunk : (stream payload out answer : List ℕ) → AfterChunk
 sealsChunk stream payload out answer =

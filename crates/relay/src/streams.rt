@@ -109,12 +109,15 @@ pub extern "C" fn relay_stream_seal_response(
 }
 
 // Why a stream that is not at the turn of sealing is refused.
-fn not_sealing(turn: u64, method: u64) -> Refusal
-    ensures { λ r. ⌜ r ≡ notSealing turn method ⌝ }
+fn not_sealing(turn: u64, method: u64, payload: usize) -> Refusal
+    ensures { λ r. ⌜ r ≡ notSealing turn method payload ⌝ }
 {
     if turn == ENDED {
         if protocol::key_length(method) == 0 {
             return Refusal::Settings;
+        }
+        if payload == 0 {
+            return Refusal::Empty;
         }
         return Refusal::NotAuthentic;
     }
@@ -137,7 +140,7 @@ pub extern "C" fn relay_stream_seal_chunk(
             let sealed = stream_seal::seal_chunk(sender_in(stream), payload, out);
             return write_sealed(sealed, stream, answer);
         }
-        let refusal = not_sealing(stream[0], stream[1]);
+        let refusal = not_sealing(stream[0], stream[1], payload.len());
         return refusal.number();
     }
     SETTINGS

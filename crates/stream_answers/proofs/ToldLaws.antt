@@ -1,13 +1,12 @@
 -- What is told, case by case. Assumes nothing.
 use Prim.Native.Nat.{ℕ}
-use mathlib.Core.Bool.{Bool, cond}
+use mathlib.Core.Bool.{Bool, true, false, cond}
 use mathlib.Core.List.{List}
 use mathlib.Core.Path.{_≡_, sym, ap, _∙_}
 use lib.ListN.{length, set}
 use lib.Seq.{sets}
-use borrow.Author.Tests.{eq-eqb, ne-eqb}
 use Rattle.protocol.specs.declared.Refusal.{Refusal}
-use Rattle.protocol.specs.Refusal.{refusalNumber}
+use Rattle.protocol.specs.Refusal.{refusalNumber, endsStream}
 use Rattle.stream_seal.specs.declared.Sender.{Sender}
 use Rattle.stream_seal.specs.declared.Sealed.{Sealed}
 use Rattle.stream_seal.specs.declared.Sealed.the-variants.{Bytes, Refused}
@@ -111,21 +110,20 @@ module _ (x : Stepped) (next : Receiver) (w answer : List ℕ) where
     ),
   )
 
-  module _ (r : Refusal) (n : ℕ) (told : List ℕ) (e : x ≡ StepRefused r) (f : n ≡ refusalNumber r) (g : told ≡ refusedAnswer r answer) where
-    pub told-ended : n ≡ 4 → (n ≡ steppedNumber x) × ((set w 0 0 ≡ stepStream x next w) × (told ≡ steppedAnswer x answer))
-    told-ended h = (
-      f ∙ sym (ap steppedNumber e),
-      (
-        sym (ap (λ (b : Bool). cond b (set w 0 0) w) (eq-eqb (refusalNumber r) 4 (sym f ∙ h))) ∙ sym (ap (λ (y : Stepped). stepStream y next w) e),
-        g ∙ sym (ap (λ (y : Stepped). steppedAnswer y answer) e),
-      ),
-    )
+  module _ (r : Refusal) (n : ℕ) (told : List ℕ) (e : x ≡ StepRefused r) (b : Bool) (eb : b ≡ endsStream r) (f : n ≡ refusalNumber r)
+      (g : told ≡ refusedAnswer r answer)
+    where
+      told-by : (y : Bool) → b ≡ y → (n ≡ steppedNumber x) × ((cond y (set w 0 0) w ≡ stepStream x next w) × (told ≡ steppedAnswer x answer))
+      told-by y h = (
+        f ∙ sym (ap steppedNumber e),
+        (
+          ap (λ (z : Bool). cond z (set w 0 0) w) (sym h ∙ eb) ∙ sym (ap (λ (z : Stepped). stepStream z next w) e),
+          g ∙ sym (ap (λ (z : Stepped). steppedAnswer z answer) e),
+        ),
+      )
 
-    pub told-stays : (n ≡ 4 → ⊥) → (n ≡ steppedNumber x) × ((w ≡ stepStream x next w) × (told ≡ steppedAnswer x answer))
-    told-stays h = (
-      f ∙ sym (ap steppedNumber e),
-      (
-        sym (ap (λ (b : Bool). cond b (set w 0 0) w) (ne-eqb (refusalNumber r) 4 (λ z. h (f ∙ z)))) ∙ sym (ap (λ (y : Stepped). stepStream y next w) e),
-        g ∙ sym (ap (λ (y : Stepped). steppedAnswer y answer) e),
-      ),
-    )
+      pub told-ended : b ≡ true → (n ≡ steppedNumber x) × ((set w 0 0 ≡ stepStream x next w) × (told ≡ steppedAnswer x answer))
+      told-ended h = told-by true h
+
+      pub told-stays : b ≡ false → (n ≡ steppedNumber x) × ((w ≡ stepStream x next w) × (told ≡ steppedAnswer x answer))
+      told-stays h = told-by false h

@@ -2,10 +2,9 @@
 use mathlib.Core.Bool.{cond}
 use mathlib.Core.List.{List}
 use Prim.Native.Nat.{ℕ}
-use lib.Dec.{eqb}
 use lib.ListN.{set}
 use lib.Seq.{sets}
-use Rattle.protocol.specs.Refusal.{refusalNumber}
+use Rattle.protocol.specs.Refusal.{refusalNumber, endsStream}
 use Rattle.stream_seal.specs.declared.Sealed.{Sealed}
 use Rattle.stream_seal.specs.declared.Sealed.the-variants.{Bytes, Refused}
 use Rattle.stream_open_request.specs.declared.RequestOpened.{RequestOpened}
@@ -73,7 +72,7 @@ abbrev pub steppedAnswer : Stepped → List ℕ → List ℕ
 steppedAnswer (Opened c) answer = sets answer 0 (chunkWords c)
 steppedAnswer (StepRefused r) answer = refusedAnswer r answer
 
--- refusal 4 ends the stream, and no other writes a word
+-- a refusal that ends the stream writes its turn, and no other writes a word
 abbrev pub stepStream : Stepped → Receiver → List ℕ → List ℕ
 stepStream (Opened c) next w = receiverWords next
-stepStream (StepRefused r) next w = cond (eqb (refusalNumber r) 4) (set w 0 0) w
+stepStream (StepRefused r) next w = cond (endsStream r) (set w 0 0) w

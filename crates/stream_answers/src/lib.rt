@@ -80,7 +80,7 @@ pub fn write_response(opened: ResponseOpened, stream: &mut [u64], answer: &mut [
     }
 }
 
-// Gives the counts and the stream to the caller. A refusal writes no word of the stream, but 4 ends it.
+// Gives the counts and the stream to the caller. A refusal writes no word of the stream, but its turn where it ends it.
 pub fn write_step(step: Step, stream: &mut [u64], answer: &mut [u64]) -> u64
     requires { ⌜ length (now stream) ≡ streamSize ⌝ }
     requires { ⌜ length (now answer) ≡ answerWords ⌝ }
@@ -100,7 +100,7 @@ pub fn write_step(step: Step, stream: &mut [u64], answer: &mut [u64]) -> u64
         }
         Stepped::Refused(refusal) => {
             let n = refuse(refusal, answer);
-            if n == 4 {
+            if refusal.ends_stream() {
                 stream[0] = ENDED;
             }
             n

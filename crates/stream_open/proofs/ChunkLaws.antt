@@ -13,10 +13,10 @@ use Rattle.octets.specs.Buffers.{put}
 use Rattle.octets.specs.Numbers.{be}
 use Rattle.octets.proofs.BufferLaws.{put-whole}
 use Rattle.protocol.specs.declared.Refusal.{Refusal}
-use Rattle.protocol.specs.declared.Refusal.the-variants.{Settings, Room, NotAuthentic, More, Counter}
+use Rattle.protocol.specs.declared.Refusal.the-variants.{Settings, Room, NotAuthentic, More, Counter, Empty}
 use Rattle.protocol.specs.Method.{keyLength}
-use Rattle.protocol.specs.Refusal.{refusalNumber}
-use Rattle.stream_pieces.specs.Pieces.{authenticAt, openAt, keyOf, lastCounter}
+use Rattle.protocol.specs.Refusal.{endsStream}
+use Rattle.stream_pieces.specs.Pieces.{isEmpty, authenticAt, openAt, keyOf, lastCounter}
 use Rattle.stream_pieces.proofs.LengthLaws.{length-openAt}
 use Rattle.stream_open.specs.declared.Turn.{Turn}
 use Rattle.stream_open.specs.declared.Turn.the-variants.{Length, Payload, Ended}
@@ -24,7 +24,7 @@ use Rattle.stream_open.specs.declared.Receiver.{Receiver}
 use Rattle.stream_open.specs.declared.Chunk.{Chunk}
 use Rattle.stream_open.specs.declared.Stepped.{Stepped}
 use Rattle.stream_open.specs.declared.Stepped.the-variants.{Opened, Refused}
-use Rattle.stream_open.specs.Chunks.{streamKey, pieceAnswer, lengthRead, turnAnswer, stepAnswer, writtenBy, payloadPiece, stepOut, turnAfter, ended, refusedNext, advances}
+use Rattle.stream_open.specs.Chunks.{streamKey, pieceAnswer, lengthRead, lengthAnswer, turnAnswer, stepAnswer, writtenBy, payloadPiece, stepOut, turnAfter, ended, refusedNext, advances}
 
 -- ---- one piece, by the four tests
 
@@ -62,6 +62,16 @@ module _ (st : Receiver) (n : ℕ) (s : List ℕ) (asked room : ℕ) (good : Ste
 
 -- ---- a length
 
+module _ (n : ℕ) where
+  answer-at : (b : Bool) → isEmpty n ≡ b → cond b (Refused Empty) (Opened (record { used = 18; length = n })) ≡ lengthAnswer n
+  answer-at b e = ap (λ (x : Bool). cond x (Refused Empty) (Opened (record { used = 18; length = n }))) (sym e)
+
+  pub length-empty : n ≡ 0 → Refused Empty ≡ lengthAnswer n
+  length-empty e = answer-at true (eq-eqb n 0 e)
+
+  pub length-some : (n ≡ 0 → ⊥) → Opened (record { used = 18; length = n }) ≡ lengthAnswer n
+  length-some h = answer-at false (ne-eqb n 0 h)
+
 module _ (st : Receiver) (s : List ℕ) (room : ℕ) where
   pub length-counter : st .counter ≡ lastCounter → Refused Counter ≡ turnAnswer Length st s room
   length-counter e = piece-counter st 2 s 0 room _ e
@@ -80,53 +90,69 @@ module _ (st : Receiver) (s : List ℕ) (room : ℕ) where
 
       -- two bytes fill the buffer that they are read from
       pub length-good : (z o : List ℕ) (r : ℕ) → length z ≡ 2 → o ≡ cond b (put z 0 (openAt (keyOf (st .subkey) k) (st .counter) (take 18 s))) z
-          → r ≡ be 2 o → b ≡ true → Opened (record { used = 18; length = r }) ≡ turnAnswer Length st s room
+          → r ≡ be 2 o → (a : Stepped) → a ≡ lengthAnswer r → b ≡ true → a ≡ turnAnswer Length st s room
       unfolding lengthRead
-      length-good z o r size eo er e =
+      length-good z o r size eo er a ea e =
           let plain = openAt (streamKey st) (st .counter) (take 18 s) in
           let m : length (take 18 s) ≡ 18 = length-take-le 18 s long in
           let l : length z ≤ length plain = omega (arith, size, m, length-openAt (streamKey st) (st .counter) (take 18 s)) in
           let whole = eo ∙ (λ i. cond (e i) (put z 0 (openAt (keyOf (st .subkey) (ek i)) (st .counter) (take 18 s))) z) ∙ put-whole z plain l in
-          ap (λ (x : ℕ). Opened (record { used = 18; length = x })) (er ∙ ap (be 2) whole)
-          ∙ piece-good st 2 s 0 room _ counts long (omega arith) b tag-of e
+          ea ∙ ap lengthAnswer (er ∙ ap (be 2) whole) ∙ piece-good st 2 s 0 room _ counts long (omega arith) b tag-of e
 
 -- ---- a payload
 
 module _ (st : Receiver) (n due : ℕ) (ed : due ≡ n) (s out : List ℕ) where
-  pub payload-counter : st .counter ≡ lastCounter → (Refused Counter ≡ turnAnswer (Payload n) st s (length out)) × (out ≡ out)
-  payload-counter e = (piece-counter st n s n (length out) _ e, refl)
+  payload-at : (b : Bool) → isEmpty n ≡ b
+      → cond b (Refused Settings) (pieceAnswer st n s n (length out) (Opened (record { used = n + 16; length = n })))
+      ≡ turnAnswer (Payload n) st s (length out)
+  payload-at b e =
+      ap (λ (x : Bool). cond x (Refused Settings) (pieceAnswer st n s n (length out) (Opened (record { used = n + 16; length = n })))) (sym e)
 
-  module _ (counts : st .counter ≡ lastCounter → ⊥) where
-    pub payload-more : length s < due + 16 → (Refused (More (due + 16)) ≡ turnAnswer (Payload n) st s (length out)) × (out ≡ out)
-    payload-more h =
-        (ap (λ (x : ℕ). Refused (More (x + 16))) ed ∙ piece-more st n s n (length out) _ counts (omega (arith, sym ed)), refl)
+  pub payload-empty : n ≡ 0 → (Refused Settings ≡ turnAnswer (Payload n) st s (length out)) × (out ≡ out)
+  payload-empty e = (payload-at true (eq-eqb n 0 e), refl)
 
-    module _ (long : due + 16 ≤ length s) where
-      pub payload-room : length out < due → (Refused Room ≡ turnAnswer (Payload n) st s (length out)) × (out ≡ out)
-      payload-room h = (piece-room st n s n (length out) _ counts (omega (arith, sym ed)) (omega (arith, sym ed)), refl)
+  module _ (some : n ≡ 0 → ⊥) where
+    as-piece : pieceAnswer st n s n (length out) (Opened (record { used = n + 16; length = n })) ≡ turnAnswer (Payload n) st s (length out)
+    as-piece = payload-at false (ne-eqb n 0 some)
 
-      module _ (fits : due ≤ length out) (k : ℕ) (b : Bool) (o : List ℕ) (ek : k ≡ keyLength (st .method))
-          (eb : b ≡ authenticAt (keyOf (st .subkey) k) (st .counter) (take (due + 16) s))
-          (eo : o ≡ cond b (put out 0 (openAt (keyOf (st .subkey) k) (st .counter) (take (due + 16) s))) out)
-        where
-          payload-tag : b ≡ authenticAt (streamKey st) (st .counter) (take (n + 16) s)
-          payload-tag = eb ∙ (λ i. authenticAt (keyOf (st .subkey) (ek i)) (st .counter) (take (ed i + 16) s))
+    pub payload-counter : st .counter ≡ lastCounter → (Refused Counter ≡ turnAnswer (Payload n) st s (length out)) × (out ≡ out)
+    payload-counter e = (piece-counter st n s n (length out) _ e ∙ as-piece, refl)
 
-          payload-left : (d : Bool) → b ≡ d → o ≡ cond d (put out 0 (openAt (streamKey st) (st .counter) (take (n + 16) s))) out
-          payload-left d e =
-              eo ∙ (λ i. cond (e i) (put out 0 (openAt (keyOf (st .subkey) (ek i)) (st .counter) (take (ed i + 16) s))) out)
+    module _ (counts : st .counter ≡ lastCounter → ⊥) where
+      pub payload-more : length s < due + 16 → (Refused (More (due + 16)) ≡ turnAnswer (Payload n) st s (length out)) × (out ≡ out)
+      payload-more h = (
+        ap (λ (x : ℕ). Refused (More (x + 16))) ed ∙ piece-more st n s n (length out) _ counts (omega (arith, sym ed)) ∙ as-piece,
+        refl,
+      )
 
-          pub payload-good : b ≡ true → (Opened (record { used = due + 16; length = n }) ≡ turnAnswer (Payload n) st s (length out))
-              × (o ≡ put out 0 (openAt (streamKey st) (st .counter) (take (n + 16) s)))
-          payload-good e = (
-            ap (λ (x : ℕ). Opened (record { used = x + 16; length = n })) ed
-                ∙ piece-good st n s n (length out) _ counts (omega (arith, sym ed)) (omega (arith, sym ed)) b payload-tag e,
-            payload-left true e,
-          )
+      module _ (long : due + 16 ≤ length s) where
+        pub payload-room : length out < due → (Refused Room ≡ turnAnswer (Payload n) st s (length out)) × (out ≡ out)
+        payload-room h = (piece-room st n s n (length out) _ counts (omega (arith, sym ed)) (omega (arith, sym ed)) ∙ as-piece, refl)
 
-          pub payload-forged : b ≡ false → (Refused NotAuthentic ≡ turnAnswer (Payload n) st s (length out)) × (o ≡ out)
-          payload-forged e =
-              (piece-forged st n s n (length out) _ counts (omega (arith, sym ed)) (omega (arith, sym ed)) b payload-tag e, payload-left false e)
+        module _ (fits : due ≤ length out) (k : ℕ) (b : Bool) (o : List ℕ) (ek : k ≡ keyLength (st .method))
+            (eb : b ≡ authenticAt (keyOf (st .subkey) k) (st .counter) (take (due + 16) s))
+            (eo : o ≡ cond b (put out 0 (openAt (keyOf (st .subkey) k) (st .counter) (take (due + 16) s))) out)
+          where
+            payload-tag : b ≡ authenticAt (streamKey st) (st .counter) (take (n + 16) s)
+            payload-tag = eb ∙ (λ i. authenticAt (keyOf (st .subkey) (ek i)) (st .counter) (take (ed i + 16) s))
+
+            payload-left : (d : Bool) → b ≡ d → o ≡ cond d (put out 0 (openAt (streamKey st) (st .counter) (take (n + 16) s))) out
+            payload-left d e =
+                eo ∙ (λ i. cond (e i) (put out 0 (openAt (keyOf (st .subkey) (ek i)) (st .counter) (take (ed i + 16) s))) out)
+
+            pub payload-good : b ≡ true → (Opened (record { used = due + 16; length = n }) ≡ turnAnswer (Payload n) st s (length out))
+                × (o ≡ put out 0 (openAt (streamKey st) (st .counter) (take (n + 16) s)))
+            payload-good e = (
+              ap (λ (x : ℕ). Opened (record { used = x + 16; length = n })) ed
+                  ∙ piece-good st n s n (length out) _ counts (omega (arith, sym ed)) (omega (arith, sym ed)) b payload-tag e ∙ as-piece,
+              payload-left true e,
+            )
+
+            pub payload-forged : b ≡ false → (Refused NotAuthentic ≡ turnAnswer (Payload n) st s (length out)) × (o ≡ out)
+            payload-forged e = (
+              piece-forged st n s n (length out) _ counts (omega (arith, sym ed)) (omega (arith, sym ed)) b payload-tag e ∙ as-piece,
+              payload-left false e,
+            )
 
 -- ---- the turn
 
@@ -179,15 +205,15 @@ pub advanced-law : (st : Receiver) (n : ℕ) (t : Turn) → t ≡ turnAfter (st 
     → record { method = st .method; turn = t; counter = st .counter + 1; subkey = st .subkey } ≡ advances st n
 advanced-law st n t e = λ i. record { method = st .method; turn = e i; counter = st .counter + 1; subkey = st .subkey }
 
-module _ (st : Receiver) (r : Refusal) (n : ℕ) (en : n ≡ refusalNumber r) where
-  next-at : (b : Bool) → eqb (refusalNumber r) 4 ≡ b → cond b (ended st) st ≡ refusedNext r st
-  next-at b e = ap (λ (x : Bool). cond x (ended st) st) (sym e)
+module _ (st : Receiver) (r : Refusal) (b : Bool) (eb : b ≡ endsStream r) where
+  next-at : (x : Bool) → b ≡ x → cond x (ended st) st ≡ refusedNext r st
+  next-at x e = ap (λ (y : Bool). cond y (ended st) st) (sym e ∙ eb)
 
-  pub next-ended : n ≡ 4 → ended st ≡ refusedNext r st
-  next-ended e = next-at true (eq-eqb _ _ (sym en ∙ e))
+  pub next-ended : b ≡ true → ended st ≡ refusedNext r st
+  next-ended e = next-at true e
 
-  pub next-kept : (n ≡ 4 → ⊥) → st ≡ refusedNext r st
-  next-kept h = next-at false (ne-eqb _ _ (λ e. h (en ∙ e)))
+  pub next-kept : b ≡ false → st ≡ refusedNext r st
+  next-kept e = next-at false e
 
 -- nothing is opened with the last counter
 abbrev openings : Stepped → ℕ
@@ -197,7 +223,11 @@ openings (Refused r) = 0
 module _ (st : Receiver) (s : List ℕ) (room : ℕ) where
   none-at-last : st .counter ≡ lastCounter → (t : Turn) → openings (turnAnswer t st s room) ≡ 0
   none-at-last e Length = ap openings (sym (length-counter st s room e))
-  none-at-last e (Payload n) = ap openings (sym (piece-counter st n s n room _ e))
+  none-at-last e (Payload n) = go (isEmpty n)
+    where
+      go : (b : Bool) → openings (cond b (Refused Settings) (pieceAnswer st n s n room (Opened (record { used = n + 16; length = n })))) ≡ 0
+      go true = refl
+      go false = ap openings (sym (piece-counter st n s n room _ e))
   none-at-last e Ended = refl
 
   pub opened-counts : (r : Stepped) (c : Chunk) → r ≡ stepAnswer st s room → r ≡ Opened c → st .counter ≡ lastCounter → ⊥

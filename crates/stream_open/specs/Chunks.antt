@@ -7,11 +7,11 @@ use lib.ListN.{length, take}
 use Rattle.octets.specs.Buffers.{put}
 use Rattle.octets.specs.Numbers.{be}
 use Rattle.protocol.specs.declared.Refusal.{Refusal}
-use Rattle.protocol.specs.declared.Refusal.the-variants.{Settings, Room, NotAuthentic, More, Counter}
+use Rattle.protocol.specs.declared.Refusal.the-variants.{Settings, Room, NotAuthentic, More, Counter, Empty}
 use Rattle.protocol.specs.Method.{keyLength}
-use Rattle.protocol.specs.Refusal.{refusalNumber}
+use Rattle.protocol.specs.Refusal.{endsStream}
 use Rattle.stream_pieces.specs.declared.Subkey.{Subkey}
-use Rattle.stream_pieces.specs.Pieces.{tagLength, lengthPiece, authenticAt, openAt, keyOf, lastCounter}
+use Rattle.stream_pieces.specs.Pieces.{tagLength, lengthPiece, isEmpty, authenticAt, openAt, keyOf, lastCounter}
 use Rattle.stream_open.specs.declared.Turn.{Turn}
 use Rattle.stream_open.specs.declared.Turn.the-variants.{Length, Payload, Ended}
 use Rattle.stream_open.specs.declared.Receiver.{Receiver}
@@ -40,9 +40,15 @@ pieceAnswer st n s asked room good =
 unfoldable pub lengthRead : Receiver → List ℕ → ℕ
 lengthRead st s = be 2 (openAt (streamKey st) (st .counter) (take lengthPiece s))
 
+-- 14 right behind the length's tag
+abbrev pub lengthAnswer : ℕ → Stepped
+lengthAnswer n = cond (isEmpty n) (Refused Empty) (Opened (record { used = lengthPiece; length = n }))
+
+-- no length was opened that an empty payload would follow, so a stream at one is none of ours
 abbrev pub turnAnswer : Turn → Receiver → List ℕ → ℕ → Stepped
-turnAnswer Length st s room = pieceAnswer st 2 s 0 room (Opened (record { used = lengthPiece; length = lengthRead st s }))
-turnAnswer (Payload n) st s room = pieceAnswer st n s n room (Opened (record { used = n + tagLength; length = n }))
+turnAnswer Length st s room = pieceAnswer st 2 s 0 room (lengthAnswer (lengthRead st s))
+turnAnswer (Payload n) st s room =
+    cond (isEmpty n) (Refused Settings) (pieceAnswer st n s n room (Opened (record { used = n + tagLength; length = n })))
 turnAnswer Ended st s room = Refused NotAuthentic
 
 -- 1, 4 of a stream that has ended, and the piece's
@@ -66,7 +72,7 @@ unfoldable pub stepOut : Receiver → List ℕ → List ℕ → List ℕ
 stepOut st s out =
     writtenBy (stepAnswer st s (length out)) (st .turn) (openAt (streamKey st) (st .counter) (payloadPiece (st .turn) s)) out
 
--- ---- the state behind a step: one counter further, at the other turn; refusal 4 ends the stream, and no other moves it
+-- ---- the state behind a step: one counter further, at the other turn; a refusal ends the stream or leaves it
 
 abbrev pub turnAfter : Turn → ℕ → Turn
 turnAfter Length n = Payload n
@@ -77,7 +83,7 @@ abbrev pub ended : Receiver → Receiver
 ended st = record { method = st .method; turn = Ended; counter = st .counter; subkey = st .subkey }
 
 abbrev pub refusedNext : Refusal → Receiver → Receiver
-refusedNext r st = cond (eqb (refusalNumber r) 4) (ended st) st
+refusedNext r st = cond (endsStream r) (ended st) st
 
 abbrev pub advances : Receiver → ℕ → Receiver
 advances st n = record { method = st .method; turn = turnAfter (st .turn) n; counter = st .counter + 1; subkey = st .subkey }

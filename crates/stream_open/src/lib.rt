@@ -13,7 +13,7 @@ ghost use Rattle.protocol.specs.Method.{keyLength};
 ghost use Rattle.stream_pieces.specs.Pieces.{tagLength, openAt};
 ghost use Rattle.stream_pieces.specs.Pieces.{lastCounter};
 ghost use Rattle.stream_open.specs.declared.Turn.the-variants.{Length, Payload};
-ghost use Rattle.stream_open.specs.Chunks.{streamKey, turnAnswer, writtenBy, stepAnswer, stepOut, turnAfter, advances, refusedNext, stepNext};
+ghost use Rattle.stream_open.specs.Chunks.{streamKey, lengthAnswer, turnAnswer, writtenBy, stepAnswer, stepOut, turnAfter, advances, refusedNext, stepNext};
 
 // What the receiving half of a stream opens next: a length, a payload of so many bytes, or nothing.
 pub enum Turn {
@@ -47,7 +47,20 @@ pub struct Step {
     pub stream: Receiver,
 }
 
-// A length: refusals 11, 10 and 4, in this order, or what it says. Nothing is written.
+// A length that was opened: refusal 14, or what it says.
+fn length_answer(n: u16) -> Stepped
+    ensures { λ r. ⌜ r ≡ lengthAnswer n ⌝ }
+{
+    if n == 0 {
+        return Stepped::Refused(Refusal::Empty);
+    }
+    Stepped::Opened(Chunk {
+        used: LENGTH_PIECE,
+        length: n,
+    })
+}
+
+// A length: refusals 11, 10, 4 and 14, in this order, or what it says. Nothing is written.
 fn open_length(stream: Receiver, k: usize, s: &[u8], room: usize) -> Stepped
     requires { ⌜ 0 < nkOf k ⌝ }
     requires { ⌜ k ≡ keyLength (stream .method) ⌝ }
@@ -62,15 +75,12 @@ fn open_length(stream: Receiver, k: usize, s: &[u8], room: usize) -> Stepped
     let mut text = [0u8; 2];
     let w = stream.subkey;
     if open_piece(w, k, stream.counter, &s[..LENGTH_PIECE], &mut text) {
-        return Stepped::Opened(Chunk {
-            used: LENGTH_PIECE,
-            length: octets::read_u16_be(&text, 0),
-        });
+        return length_answer(octets::read_u16_be(&text, 0));
     }
     Stepped::Refused(Refusal::NotAuthentic)
 }
 
-// A payload of n bytes: refusals 11, 10, 3 and 4, in this order, or it is in the buffer.
+// A payload of n bytes: refusals 1, 11, 10, 3 and 4, in this order, or it is in the buffer.
 fn open_payload(stream: Receiver, k: usize, n: u16, s: &[u8], out: &mut [u8]) -> Stepped
     requires { ⌜ 0 < nkOf k ⌝ }
     requires { ⌜ k ≡ keyLength (stream .method) ⌝ }
@@ -80,6 +90,9 @@ fn open_payload(stream: Receiver, k: usize, n: u16, s: &[u8], out: &mut [u8]) ->
         (now (out .entry)) ⌝ }
 {
     let due = n as usize;
+    if due == 0 {
+        return Stepped::Refused(Refusal::Settings);
+    }
     if stream.counter == LAST_COUNTER {
         return Stepped::Refused(Refusal::Counter);
     }
@@ -142,11 +155,11 @@ fn advanced(stream: Receiver, n: u16) -> Receiver
     }
 }
 
-// Refusal 4 ends a stream, and no other moves it.
+// A refusal ends a stream, or leaves it as it was.
 fn refused_next(stream: Receiver, refusal: Refusal) -> Receiver
     ensures { λ r. ⌜ r ≡ refusedNext refusal stream ⌝ }
 {
-    if refusal.number() == 4 {
+    if refusal.ends_stream() {
         let w = stream.subkey;
         return Receiver {
             method: stream.method,
@@ -159,7 +172,8 @@ fn refused_next(stream: Receiver, refusal: Refusal) -> Receiver
 }
 
 // Opens the next piece of a stream: a length, or a payload to the front of the lent buffer. Refusals 1, 4 (of a stream that
-// has ended), 11, 10, 3 and 4, in this order; they write nothing, and only 4 moves the stream: it ends it.
+// has ended), 11, 10, 3, 4 and 14 (a length of 0), in this order; they write nothing, and only 4 and 14 move the stream: they
+// end it.
 pub fn open_chunk(stream: Receiver, s: &[u8], out: &mut [u8]) -> Step
     ensures { λ r. ⌜ r .answer ≡ stepAnswer stream (now (s .entry)) (length (now (out .entry))) ⌝ }
     ensures { λ r. ⌜ r .stream ≡ stepNext stream (r .answer) ⌝ }

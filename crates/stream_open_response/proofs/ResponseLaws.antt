@@ -14,12 +14,12 @@ use Rattle.octets.specs.Buffers.{same}
 use Rattle.aes.specs.Keyed.{nkOf}
 use Rattle.aes.proofs.KeyedLaws.{key-most}
 use Rattle.protocol.specs.declared.Refusal.{Refusal}
-use Rattle.protocol.specs.declared.Refusal.the-variants.{Settings, NotAuthentic, More, Binding}
+use Rattle.protocol.specs.declared.Refusal.the-variants.{Settings, NotAuthentic, More, Binding, Empty}
 use Rattle.protocol.specs.Method.{keyFits, saltLength}
 use Rattle.protocol.specs.Subkey.{subkey}
 use Rattle.protocol.proofs.MethodLaws.{fits-sizes}
 use Rattle.stream_pieces.specs.declared.Subkey.{Subkey}
-use Rattle.stream_pieces.specs.Pieces.{authenticAt, openAt, subkeyWords, keyOf}
+use Rattle.stream_pieces.specs.Pieces.{isEmpty, authenticAt, openAt, subkeyWords, keyOf}
 use Rattle.stream_pieces.proofs.KeyLaws.{key-of-method, length-subkey, octets-subkey, subkey-back}
 use Rattle.stream_open.specs.declared.Turn.the-variants.{Payload}
 use Rattle.stream_heads.specs.declared.Fixed.{Fixed}
@@ -53,6 +53,9 @@ module _ (method : ℕ) (w : Subkey) (key : List ℕ) (clock n : ℕ) (salt s : 
             let good = read-authentic (authenticAt key 0 s) (readFixed 1 clock (openAt key 0 s)) f (sym er ∙ e) in
             eo ∙ ap (λ (d : Bool). cond d (openAt key 0 s) plain) good
 
+        abbrev accepted : ResponseOpened
+        accepted = Accepted (record { time = f .time; length = f .length; used = n + 27 + n }) (receiver method (Payload (f .length)) 1 w)
+
         bound-at : (d : Bool) → b ≡ d → boundAs method w (frontLength n n) d (Read f) ≡ boundOf method w key clock n salt s
         unfolding boundOf
         bound-at d ed =
@@ -60,10 +63,14 @@ module _ (method : ℕ) (w : Subkey) (key : List ℕ) (clock n : ℕ) (salt s : 
             let ours = sym ed ∙ eb ∙ (λ i. same (take (m i) (drop 9 (plain-read i))) salt) in
             λ i. boundAs method w (frontLength n n) (ours i) ((sym e ∙ er) i)
 
-        pub bound-ours : b ≡ true
-            → Accepted (record { time = f .time; length = f .length; used = n + 27 + n }) (receiver method (Payload (f .length)) 1 w)
-            ≡ boundOf method w key clock n salt s
-        bound-ours ed = bound-at true ed
+        ours-at : b ≡ true → (d : Bool) → isEmpty (f .length) ≡ d → cond d (Refused Empty) accepted ≡ boundOf method w key clock n salt s
+        ours-at ed d e = ap (λ (x : Bool). cond x (Refused Empty) accepted) (sym e) ∙ bound-at true ed
+
+        pub bound-empty : b ≡ true → f .length ≡ 0 → Refused Empty ≡ boundOf method w key clock n salt s
+        bound-empty ed e = ours-at ed true (eq-eqb _ _ e)
+
+        pub bound-ours : b ≡ true → (f .length ≡ 0 → ⊥) → accepted ≡ boundOf method w key clock n salt s
+        bound-ours ed h = ours-at ed false (ne-eqb _ _ h)
 
         pub bound-others : b ≡ false → Refused Binding ≡ boundOf method w key clock n salt s
         bound-others ed = bound-at false ed

@@ -5,11 +5,11 @@ use Prim.Native.Nat.{ℕ}
 use lib.Dec.{eqb, leb}
 use lib.ListN.{length, take, drop}
 use Rattle.octets.specs.Buffers.{same}
-use Rattle.protocol.specs.declared.Refusal.the-variants.{Settings, More, Binding}
+use Rattle.protocol.specs.declared.Refusal.the-variants.{Settings, More, Binding, Empty}
 use Rattle.protocol.specs.Method.{keyFits, saltLength}
 use Rattle.protocol.specs.Subkey.{subkey}
 use Rattle.stream_pieces.specs.declared.Subkey.{Subkey}
-use Rattle.stream_pieces.specs.Pieces.{openAt, subkeyWords}
+use Rattle.stream_pieces.specs.Pieces.{isEmpty, openAt, subkeyWords}
 use Rattle.stream_open.specs.declared.Turn.the-variants.{Payload}
 use Rattle.stream_heads.specs.declared.FixedRead.{FixedRead}
 use Rattle.stream_heads.specs.declared.FixedRead.the-variants.{Read, Refused as Unread}
@@ -18,17 +18,18 @@ use Rattle.stream_open_response.specs.declared.ResponseOpened.the-varian
 use Rattle.stream_heads.specs.Heads.{frontLength, fixedOf, openFixed}
 use Rattle.stream_open.specs.Chunks.{receiver}
 
--- ---- the response's head, in the order 1, 10, 4, 6, 7, 13
+-- ---- the response's head, in the order 1, 10, 4, 6, 7, 13, 14
 
 -- the request's salt, as the response has it
 abbrev pub bindingOf : ℕ → List ℕ → List ℕ
 bindingOf n plain = take n (drop 9 plain)
 
--- the payload is the next step's, with counter 1
+-- the payload is the next step's, with counter 1; it may not be empty
 abbrev pub boundAs : ℕ → Subkey → ℕ → Bool → FixedRead → ResponseOpened
 boundAs method w used ours (Read f) =
     cond ours
-    (Accepted (record { time = f .time; length = f .length; used = used }) (receiver method (Payload (f .length)) 1 w)) (Refused Binding)
+    (cond (isEmpty (f .length)) (Refused Empty)
+    (Accepted (record { time = f .time; length = f .length; used = used }) (receiver method (Payload (f .length)) 1 w))) (Refused Binding)
 boundAs method w used ours (Unread r) = Refused r
 
 -- the fixed header alone, under a key, which the stream's state has as words

@@ -29,8 +29,8 @@ pub enum ResponseOpened {
     Refused(Refusal),
 }
 
-// The fixed header of a response whose salt has n bytes, as the key has: refusals 4, 6, 7 and 13, in this order, or what it
-// says. Its plaintext fills the lent buffer.
+// The fixed header of a response whose salt has n bytes, as the key has: refusals 4, 6, 7, 13 and 14, in this order, or what
+// it says. Its plaintext fills the lent buffer.
 fn open_bound(
     method: u64,
     w: Subkey,
@@ -50,6 +50,9 @@ fn open_bound(
         FixedRead::Read(fixed) => {
             let binding = &plain[9..9 + n];
             if octets::equal(binding, request_salt) {
+                if fixed.length == 0 {
+                    return ResponseOpened::Refused(Refusal::Empty);
+                }
                 return ResponseOpened::Accepted(
                     Response {
                         time: fixed.time,
@@ -97,7 +100,7 @@ fn open_response_at(
 }
 
 // Opens the head of a response to the request that had this salt: the fixed header only, whose payload is the first step.
-// Refusals 1, 10, 4, 6, 7 and 13, in this order. Nothing is written.
+// Refusals 1, 10, 4, 6, 7, 13 and 14 (a payload of no bytes), in this order. Nothing is written.
 pub fn open_response(
     method: u64,
     key: &[u8],

@@ -3,6 +3,7 @@
 use mathlib.Core.Bool.{Bool}
 use mathlib.Core.List.{List, _++_}
 use Prim.Native.Nat.{ℕ, _+_, _-_, _^_}
+use lib.Dec.{eqb}
 use lib.ListN.{take, drop}
 use Rattle.octets.specs.Numbers.{be, toBe, toLe}
 use Rattle.gcm.specs.Gcm as gcm
@@ -30,6 +31,10 @@ fixedPiece = fixedLength + tagLength
 -- the longest plaintext of a piece with a length of its own
 abbrev pub maxChunk : ℕ
 maxChunk = 65535
+
+-- a payload of no bytes, which no chunk of this edition has
+abbrev pub isEmpty : ℕ → Bool
+isEmpty n = eqb n 0
 
 -- the counter that is never used
 abbrev pub lastCounter : ℕ

@@ -8,13 +8,13 @@ use lib.Dec.{eqb, leb, ltb}
 use borrow.Author.Tests.{eq-eqb, ne-eqb, le-leb, lt-leb, lt-ltb, le-ltb, leb-true, ltb-true, eqb-false}
 use Rattle.aes.specs.Keyed.{nkOf}
 use Rattle.protocol.specs.declared.Refusal.{Refusal}
-use Rattle.protocol.specs.declared.Refusal.the-variants.{Settings, Length, Room, Counter}
+use Rattle.protocol.specs.declared.Refusal.the-variants.{Settings, Length, Room, Counter, Empty}
 use Rattle.protocol.specs.Method.{keyLength}
 use Rattle.stream_pieces.specs.declared.Subkey.{Subkey}
 use Rattle.stream_seal.specs.declared.Sender.{Sender}
 use Rattle.stream_seal.specs.declared.Sealed.{Sealed}
 use Rattle.stream_seal.specs.declared.Sealed.the-variants.{Bytes, Refused}
-use Rattle.stream_pieces.specs.Pieces.{maxChunk, lastCounter}
+use Rattle.stream_pieces.specs.Pieces.{maxChunk, isEmpty, lastCounter}
 use Rattle.stream_seal.specs.Sealing.{moved, sizeAnswer, chunkAnswer}
 use Rattle.stream_pieces.proofs.KeyLaws.{key-of-length}
 
@@ -39,25 +39,34 @@ module _ (n before room : ℕ) (s : Sender) where
 -- ---- the answer to a chunk
 
 module _ (s : Sender) (payload room : ℕ) where
-  chunk-decided : (a b : Bool) → eqb (keyLength (s .method)) 0 ≡ a → ltb (s .counter) (lastCounter - 1) ≡ b
-      → cond a (Refused Settings) (cond b (sizeAnswer payload 18 room (moved s)) (Refused Counter)) ≡ chunkAnswer s payload room
+  chunk-decided : (a b c : Bool) → eqb (keyLength (s .method)) 0 ≡ a → isEmpty payload ≡ b → ltb (s .counter) (lastCounter - 1) ≡ c
+      → cond a (Refused Settings) (cond b (Refused Empty) (cond c (sizeAnswer payload 18 room (moved s)) (Refused Counter)))
+      ≡ chunkAnswer s payload room
   unfolding chunkAnswer
-  chunk-decided a b ea eb =
-      λ i. cond (sym ea i) (Refused Settings) (cond (sym eb i) (sizeAnswer payload 18 room (moved s)) (Refused Counter))
+  chunk-decided a b c ea eb ec =
+      λ i. cond (sym ea i) (Refused Settings)
+      (cond (sym eb i) (Refused Empty) (cond (sym ec i) (sizeAnswer payload 18 room (moved s)) (Refused Counter)))
 
   module _ (k : ℕ) (ek : k ≡ keyLength (s .method)) where
     pub chunk-unfit : k ≡ 0 → Refused Settings ≡ chunkAnswer s payload room
-    chunk-unfit z = chunk-decided true (ltb (s .counter) (lastCounter - 1)) (eq-eqb (keyLength (s .method)) 0 (sym ek ∙ z)) refl
+    chunk-unfit z = chunk-decided true _ _ (eq-eqb (keyLength (s .method)) 0 (sym ek ∙ z)) refl refl
 
-    pub chunk-used : (k ≡ 0 → ⊥) → lastCounter - 1 ≤ s .counter → Refused Counter ≡ chunkAnswer s payload room
-    chunk-used f h =
-        chunk-decided false false (ne-eqb (keyLength (s .method)) 0 (λ e. f (ek ∙ e))) (le-ltb (s .counter) (lastCounter - 1) h)
+    module _ (known : k ≡ 0 → ⊥) where
+      has-key : eqb (keyLength (s .method)) 0 ≡ false
+      has-key = ne-eqb (keyLength (s .method)) 0 (λ e. known (ek ∙ e))
 
-    pub chunk-sized : (k ≡ 0 → ⊥) → s .counter < lastCounter - 1 → (t : Sender) → t ≡ moved s → (r : Sealed) → r ≡ sizeAnswer payload 18 room t
-        → r ≡ chunkAnswer s payload room
-    chunk-sized f h t et r er =
-        er ∙ ap (sizeAnswer payload 18 room) et
-        ∙ chunk-decided false true (ne-eqb (keyLength (s .method)) 0 (λ e. f (ek ∙ e))) (lt-ltb (s .counter) (lastCounter - 1) h)
+      pub chunk-empty : payload ≡ 0 → Refused Empty ≡ chunkAnswer s payload room
+      chunk-empty e = chunk-decided false true _ has-key (eq-eqb payload 0 e) refl
+
+      module _ (some : payload ≡ 0 → ⊥) where
+        pub chunk-used : lastCounter - 1 ≤ s .counter → Refused Counter ≡ chunkAnswer s payload room
+        chunk-used h = chunk-decided false false false has-key (ne-eqb payload 0 some) (le-ltb (s .counter) (lastCounter - 1) h)
+
+        pub chunk-sized : s .counter < lastCounter - 1 → (t : Sender) → t ≡ moved s → (r : Sealed) → r ≡ sizeAnswer payload 18 room t
+            → r ≡ chunkAnswer s payload room
+        chunk-sized h t et r er =
+            er ∙ ap (sizeAnswer payload 18 room) et
+            ∙ chunk-decided false false true has-key (ne-eqb payload 0 some) (lt-ltb (s .counter) (lastCounter - 1) h)
 
 -- ---- what a length that was answered tells
 
@@ -80,7 +89,7 @@ pub passed : (b : Bool) (x : Sealed) (r : Refusal) (n : ℕ) (s : Sender) → co
 passed true x r n s e = (refl, e)
 passed false x r n s e = absurd (not-refused r n s e)
 
-escaped : (b : Bool) (x : Sealed) (r : Refusal) (n : ℕ) (s : Sender) → cond b (Refused r) x ≡ Bytes n s → (b ≡ false) × (x ≡ Bytes n s)
+pub escaped : (b : Bool) (x : Sealed) (r : Refusal) (n : ℕ) (s : Sender) → cond b (Refused r) x ≡ Bytes n s → (b ≡ false) × (x ≡ Bytes n s)
 escaped true x r n s e = absurd (not-refused r n s e)
 escaped false x r n s e = (refl, e)
 
@@ -121,7 +130,8 @@ pub chunk-sealable : (s : Sender) (payload room n : ℕ) (t : Sender) → chunkA
 unfolding chunkAnswer
 chunk-sealable s payload room n t e =
     let e₁ = escaped (eqb (keyLength (s .method)) 0) _ _ n t e in
-    let e₂ = passed (ltb (s .counter) (lastCounter - 1)) _ _ n t (e₁ .1) in
+    let e₃ = escaped (isEmpty payload) _ _ n t (e₁ .1) in
+    let e₂ = passed (ltb (s .counter) (lastCounter - 1)) _ _ n t (e₃ .1) in
     let z = sized payload 18 room (moved s) n t (e₂ .1) in
     record {
       good = key-of-length (s .method) (eqb-false (keyLength (s .method)) 0 (e₁ .0));

@@ -6,12 +6,12 @@ use lib.Dec.{eqb, leb, ltb}
 use lib.ListN.{length}
 use Rattle.octets.specs.Buffers.{put}
 use Rattle.octets.specs.Numbers.{toBe}
-use Rattle.protocol.specs.declared.Refusal.the-variants.{Settings, Length, Room, Counter}
+use Rattle.protocol.specs.declared.Refusal.the-variants.{Settings, Length, Room, Counter, Empty}
 use Rattle.protocol.specs.Method.{keyLength}
 use Rattle.stream_seal.specs.declared.Sender.{Sender}
 use Rattle.stream_seal.specs.declared.Sealed.{Sealed}
 use Rattle.stream_seal.specs.declared.Sealed.the-variants.{Bytes, Refused}
-use Rattle.stream_pieces.specs.Pieces.{tagLength, lengthPiece, sealAt, keyOf, maxChunk, lastCounter}
+use Rattle.stream_pieces.specs.Pieces.{tagLength, lengthPiece, sealAt, keyOf, maxChunk, isEmpty, lastCounter}
 
 -- ---- what is written
 
@@ -33,11 +33,12 @@ unfoldable pub sizeAnswer : (n before room : ℕ) → Sender → Sealed
 sizeAnswer n before room s =
     cond (leb n maxChunk) (cond (leb (before + n + tagLength) room) (Bytes (before + n + tagLength) s) (Refused Room)) (Refused Length)
 
--- 1, 11, 2, 3
+-- 1, 14, 11, 2, 3
 unfoldable pub chunkAnswer : Sender → ℕ → ℕ → Sealed
 chunkAnswer s payload room =
     cond (eqb (keyLength (s .method)) 0) (Refused Settings)
-    (cond (ltb (s .counter) (lastCounter - 1)) (sizeAnswer payload lengthPiece room (moved s)) (Refused Counter))
+    (cond (isEmpty payload) (Refused Empty)
+    (cond (ltb (s .counter) (lastCounter - 1)) (sizeAnswer payload lengthPiece room (moved s)) (Refused Counter)))
 
 -- what is written goes to the front of the buffer; a refusal writes nothing
 abbrev pub sealOut : Sealed → List ℕ → List ℕ → List ℕ

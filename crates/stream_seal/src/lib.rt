@@ -56,12 +56,15 @@ fn behind_chunk(stream: Sender) -> Sender
     }
 }
 
-// Refusals 1, 11, 2 and 3, in this order, or how many bytes are due.
+// Refusals 1, 14, 11, 2 and 3, in this order, or how many bytes are due.
 fn chunk_answer(stream: Sender, payload: usize, room: usize) -> Sealed
     ensures { λ r. ⌜ r ≡ chunkAnswer stream payload room ⌝ }
 {
     if protocol::key_length(stream.method) == 0 {
         return Sealed::Refused(Refusal::Settings);
+    }
+    if payload == 0 {
+        return Sealed::Refused(Refusal::Empty);
     }
     if stream.counter < LAST_COUNTER - 1 {
         return size_answer(payload, LENGTH_PIECE, room, behind_chunk(stream));
@@ -84,7 +87,8 @@ fn write_chunk(body: &mut [u8], w: Subkey, k: usize, counter: u64, payload: &[u8
     seal_pair(w, k, counter, LENGTH_PIECE, body);
 }
 
-// Seals a length with its payload to the front of the lent buffer. A refusal writes nothing, and the stream stays as it was.
+// Seals a length with its payload, which may not be empty, to the front of the lent buffer. A refusal writes nothing, and the
+// stream stays as it was.
 pub fn seal_chunk(stream: Sender, payload: &[u8], out: &mut [u8]) -> Sealed
     ensures { λ r. ⌜ r ≡ chunkAnswer stream (length (now (payload .entry))) (length (now (out .entry))) ⌝ }
     ensures { λ r. ⌜ now (out .exit)

@@ -12,7 +12,7 @@ use lib.ListN.{length}
 use borrow.Author.Tests.{ne-eqb, eq-eqb, le-leb, lt-leb, lt-ltb, eqb-true}
 use Rattle.aes.specs.Keyed.{nkOf}
 use Rattle.aes.proofs.KeyedLaws.{key-most}
-use Rattle.protocol.specs.declared.Refusal.the-variants.{Settings, Argument}
+use Rattle.protocol.specs.declared.Refusal.the-variants.{Settings, Argument, Empty}
 use Rattle.protocol.specs.Method.{keyFits, saltLength}
 use Rattle.protocol.specs.Subkey.{subkey}
 use Rattle.protocol.proofs.MethodLaws.{fits-sizes}
@@ -21,10 +21,10 @@ use Rattle.stream_pieces.specs.declared.Subkey.{Subkey}
 use Rattle.stream_seal.specs.declared.Sender.{Sender}
 use Rattle.stream_seal.specs.declared.Sealed.{Sealed}
 use Rattle.stream_seal.specs.declared.Sealed.the-variants.{Bytes, Refused}
-use Rattle.stream_pieces.specs.Pieces.{subkeyWords, keyOf, maxChunk}
+use Rattle.stream_pieces.specs.Pieces.{isEmpty, subkeyWords, keyOf, maxChunk}
 use Rattle.stream_seal.specs.Sealing.{sizeAnswer}
 use Rattle.stream_pieces.proofs.KeyLaws.{key-of-method, length-subkey, octets-subkey, subkey-back}
-use Rattle.stream_seal.proofs.SealAnswerLaws.{too-long, passed, sized}
+use Rattle.stream_seal.proofs.SealAnswerLaws.{too-long, passed, escaped, sized}
 use Rattle.stream_heads.specs.Heads.{maxPadding}
 use Rattle.stream_seal_heads.specs.HeadSealing.{variableLength, begun, sizesFit, paddingLawful, requestAnswer, responseAnswer}
 
@@ -138,24 +138,28 @@ module _ (method : ℕ) (key salt binding : List ℕ) (payload room : ℕ) where
   abbrev responseSizes : Sealed
   responseSizes = sizeAnswer payload (length salt + 27 + length binding) room (begun method key salt)
 
-  response-decided : (a b : Bool) → sizesFit method (length key) (length salt) ≡ a → eqb (length binding) (length salt) ≡ b
-      → cond (a && b) responseSizes (Refused Settings) ≡ responseAnswer method key salt binding payload room
+  response-decided : (a b c : Bool) → sizesFit method (length key) (length salt) ≡ a → eqb (length binding) (length salt) ≡ b → isEmpty payload ≡ c
+      → cond (a && b) (cond c (Refused Empty) responseSizes) (Refused Settings) ≡ responseAnswer method key salt binding payload room
   unfolding responseAnswer
-  response-decided a b ea eb = λ i. cond (sym ea i && sym eb i) responseSizes (Refused Settings)
+  response-decided a b c ea eb ec = λ i. cond (sym ea i && sym eb i) (cond (sym ec i) (Refused Empty) responseSizes) (Refused Settings)
 
   pub response-unfit : sizesFit method (length key) (length salt) ≡ false → Refused Settings ≡ responseAnswer method key salt binding payload room
-  response-unfit e = response-decided false (eqb (length binding) (length salt)) e refl
+  response-unfit e = response-decided false (eqb (length binding) (length salt)) _ e refl refl
 
-  pub response-unbound : sizesFit method (length key) (length salt) ≡ true → (length binding ≡ length salt → ⊥)
-      → Refused Settings ≡ responseAnswer method key salt binding payload room
-  response-unbound e f = response-decided true false e (ne-eqb (length binding) (length salt) f)
+  module _ (suits : sizesFit method (length key) (length salt) ≡ true) where
+    pub response-unbound : (length binding ≡ length salt → ⊥) → Refused Settings ≡ responseAnswer method key salt binding payload room
+    response-unbound f = response-decided true false _ suits (ne-eqb (length binding) (length salt) f) refl
 
-  pub response-sized : sizesFit method (length key) (length salt) ≡ true → length binding ≡ length salt → (s : Sender) → s ≡ begun method key salt
-      → (r : Sealed) → r ≡ sizeAnswer payload (length salt + 27 + length binding) room s
-      → r ≡ responseAnswer method key salt binding payload room
-  response-sized e f s es r er =
-      er ∙ ap (sizeAnswer payload (length salt + 27 + length binding) room) es
-      ∙ response-decided true true e (eq-eqb (length binding) (length salt) f)
+    module _ (bound : length binding ≡ length salt) where
+      pub response-empty : payload ≡ 0 → Refused Empty ≡ responseAnswer method key salt binding payload room
+      response-empty e = response-decided true true true suits (eq-eqb (length binding) (length salt) bound) (eq-eqb payload 0 e)
+
+      pub response-sized : (payload ≡ 0 → ⊥) → (s : Sender) → s ≡ begun method key salt
+          → (r : Sealed) → r ≡ sizeAnswer payload (length salt + 27 + length binding) room s
+          → r ≡ responseAnswer method key salt binding payload room
+      response-sized some s es r er =
+          er ∙ ap (sizeAnswer payload (length salt + 27 + length binding) room) es
+          ∙ response-decided true true false suits (eq-eqb (length binding) (length salt) bound) (ne-eqb payload 0 some)
 
 -- ---- what a length that was answered tells
 
@@ -212,7 +216,8 @@ response-sealable method key salt binding payload room n s e =
     let e₁ = passed (sizesFit method (length key) (length salt) && eqb (length binding) (length salt)) _ _ n s e in
     let p = and-eq-true-iff (sizesFit method (length key) (length salt)) (eqb (length binding) (length salt)) .0 (e₁ .0) in
     let fit = suited method (length key) (length salt) (p .0) in
-    let z = sized payload (length salt + 27 + length binding) room (begun method key salt) n s (e₁ .1) in
+    let e₂ = escaped (isEmpty payload) _ _ n s (e₁ .1) in
+    let z = sized payload (length salt + 27 + length binding) room (begun method key salt) n s (e₂ .1) in
     record {
       good = key-good method key salt fit;
       bound = eqb-true (length binding) (length salt) (p .1);

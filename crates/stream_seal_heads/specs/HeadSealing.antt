@@ -5,14 +5,14 @@ use Prim.Native.Nat.{ℕ, _+_}
 use lib.Dec.{eqb, leb, ltb}
 use lib.ListN.{length, replicate}
 use Rattle.octets.specs.Numbers.{toBe}
-use Rattle.protocol.specs.declared.Refusal.the-variants.{Settings, Argument}
+use Rattle.protocol.specs.declared.Refusal.the-variants.{Settings, Argument, Empty}
 use Rattle.protocol.specs.Method.{keyFits, saltLength}
 use Rattle.protocol.specs.Subkey.{subkey}
 use Rattle.socks5.specs.Address.{isAddress}
 use Rattle.stream_seal.specs.declared.Sender.{Sender}
 use Rattle.stream_seal.specs.declared.Sealed.{Sealed}
 use Rattle.stream_seal.specs.declared.Sealed.the-variants.{Refused}
-use Rattle.stream_pieces.specs.Pieces.{fixedPiece, sealAt, subkeyWords}
+use Rattle.stream_pieces.specs.Pieces.{fixedPiece, isEmpty, sealAt, subkeyWords}
 use Rattle.stream_seal.specs.Sealing.{sizeAnswer}
 use Rattle.stream_heads.specs.Heads.{maxPadding}
 
@@ -69,8 +69,9 @@ requestAnswer method key salt address padding payload room =
     (sizeAnswer (variableLength (length address) padding payload) (length salt + fixedPiece) room (begun method key salt)) (Refused Argument))
     (Refused Settings)
 
--- 1, 2, 3; the request's salt is as long as the response's
+-- 1, 14, 2, 3; the request's salt is as long as the response's
 unfoldable pub responseAnswer : ℕ → List ℕ → List ℕ → List ℕ → ℕ → ℕ → Sealed
 responseAnswer method key salt binding payload room =
     cond (sizesFit method (length key) (length salt) && eqb (length binding) (length salt))
-    (sizeAnswer payload (length salt + fixedPiece + length binding) room (begun method key salt)) (Refused Settings)
+    (cond (isEmpty payload) (Refused Empty)
+    (sizeAnswer payload (length salt + fixedPiece + length binding) room (begun method key salt))) (Refused Settings)

@@ -107,7 +107,7 @@ fn request_answer(
     Sealed::Refused(Refusal::Settings)
 }
 
-// Refusals 1, 2 and 3, in this order, or how many bytes are due.
+// Refusals 1, 14, 2 and 3, in this order, or how many bytes are due.
 fn response_answer(
     method: u64,
     key: &[u8],
@@ -120,6 +120,9 @@ fn response_answer(
 {
     if sizes_fit(method, key.len(), salt.len()) {
         if binding.len() == salt.len() {
+            if payload == 0 {
+                return Sealed::Refused(Refusal::Empty);
+            }
             let before = salt.len() + FIXED_PIECE + binding.len();
             return size_answer(payload, before, room, begin(method, key, salt));
         }
@@ -289,8 +292,8 @@ pub fn seal_request(
     }
 }
 
-// Seals the head of a response to the request with this salt, with the first payload, to the front of the lent buffer. A
-// refusal writes nothing.
+// Seals the head of a response to the request with this salt, with the first payload, which may not be empty, to the front of
+// the lent buffer. A refusal writes nothing.
 pub fn seal_response(
     method: u64,
     key: &[u8],

@@ -10,8 +10,8 @@ use crate::answer;
 /// Where several reasons would fit, the call gives the first one in the order
 /// that it names. No refusal changes a [`Table`](crate::Table), a
 /// [`Pool`](crate::Pool) or a [`SealSession`](crate::SealSession); of a stream
-/// only [`NotAuthentic`](Refusal::NotAuthentic) changes anything: it ends the half
-/// that opens.
+/// only [`NotAuthentic`](Refusal::NotAuthentic) and [`Empty`](Refusal::Empty) change
+/// anything: they end the half that opens.
 ///
 /// ```
 /// use relay::{Key, Method, Peer, Refusal, Table};
@@ -60,6 +60,8 @@ pub enum Refusal {
     /// Number 13: the datagram is meant for another client, or the response answers
     /// another request.
     Binding,
+    /// Number 14: a stream's payload has no bytes.
+    Empty,
 }
 
 impl Refusal {
@@ -86,11 +88,12 @@ impl Refusal {
             11 => Self::Counter,
             12 => Self::Argument,
             13 => Self::Binding,
+            14 => Self::Empty,
             _ => unreachable!("librelay.a returned {number}, which is no refusal of relay.h"),
         }
     }
 
-    /// The refusal's number, 1 to 13, as C callers get it.
+    /// The refusal's number, 1 to 14, as C callers get it.
     pub fn number(self) -> u64 {
         match self {
             Self::Settings => 1,
@@ -106,6 +109,7 @@ impl Refusal {
             Self::Counter => 11,
             Self::Argument => 12,
             Self::Binding => 13,
+            Self::Empty => 14,
         }
     }
 }
@@ -128,6 +132,7 @@ impl fmt::Display for Refusal {
             Self::Counter => "packet IDs or stream counter used up",
             Self::Argument => "address, padding or session IDs may not be sealed",
             Self::Binding => "meant for another client or request",
+            Self::Empty => "a stream's payload of no bytes",
         };
         f.write_str(words)
     }
@@ -141,7 +146,7 @@ mod tests {
 
     #[test]
     fn numbers_are_read_back() {
-        for number in 1..=13 {
+        for number in 1..=14 {
             assert_eq!(Refusal::from_library(number, 43).number(), number);
         }
     }
@@ -154,8 +159,8 @@ mod tests {
     }
 
     #[test]
-    #[should_panic(expected = "librelay.a returned 14")]
+    #[should_panic(expected = "librelay.a returned 15")]
     fn an_unknown_number_is_a_fault_of_the_library() {
-        Refusal::from_library(14, 0);
+        Refusal::from_library(15, 0);
     }
 }

@@ -110,8 +110,8 @@ impl<Direction, Half> Stream<Direction, Half> {
     /// The number of words that a stream is.
     pub const WORDS: usize = STREAM_WORDS;
 
-    /// Whether the stream has ended because a tag was wrong. It then refuses every
-    /// call with [`Refusal::NotAuthentic`].
+    /// Whether the stream has ended because a tag was wrong or a length was 0. It
+    /// then refuses every call with [`Refusal::NotAuthentic`].
     pub fn is_ended(&self) -> bool {
         self.words[TURN] == ENDED
     }
@@ -145,15 +145,15 @@ impl<Direction> Stream<Direction, Sealing> {
     /// Seals a chunk, a length with its payload, to the front of `out`, and gives
     /// the number of bytes written: 34 more than the payload has.
     ///
-    /// The payload has 0 to 65,535 bytes.
+    /// The payload has 1 to 65,535 bytes.
     ///
     /// # Errors
     ///
-    /// The first that applies: [`Settings`](Refusal::Settings) and
-    /// [`NotAuthentic`](Refusal::NotAuthentic) (words from elsewhere alone),
-    /// [`Counter`](Refusal::Counter), [`Length`](Refusal::Length),
-    /// [`Room`](Refusal::Room). A refusal writes nothing and leaves the stream as it
-    /// was.
+    /// The first that applies: [`Settings`](Refusal::Settings) (words from elsewhere
+    /// alone), [`Empty`](Refusal::Empty), [`NotAuthentic`](Refusal::NotAuthentic)
+    /// (words of a stream that has ended), [`Counter`](Refusal::Counter),
+    /// [`Length`](Refusal::Length), [`Room`](Refusal::Room). A refusal writes nothing
+    /// and leaves the stream as it was.
     pub fn seal_chunk(&mut self, payload: &[u8], out: &mut [u8]) -> Result<usize, Refusal> {
         ffi::stream_seal_chunk(&mut self.words, payload, out)
             .map(|answer| answer::length(answer[0]))
@@ -163,12 +163,10 @@ impl<Direction> Stream<Direction, Sealing> {
     ///
     /// # Errors
     ///
-    /// [`Refusal::Length`] if the payload is longer than 65,535 bytes.
+    /// [`Refusal::Empty`] if the payload has no bytes, [`Refusal::Length`] if it has
+    /// more than 65,535.
     pub fn sealed_chunk_len(payload_len: usize) -> Result<usize, Refusal> {
-        if payload_len > MAX_CHUNK {
-            return Err(Refusal::Length);
-        }
-        Ok(payload_len + CHUNK_OVERHEAD)
+        Ok(payload_fits(payload_len)? + CHUNK_OVERHEAD)
     }
 }
 
@@ -185,8 +183,9 @@ impl<Direction> Stream<Direction, Opening> {
     /// alone), [`NotAuthentic`](Refusal::NotAuthentic) (the stream has ended),
     /// [`Counter`](Refusal::Counter), [`More`](Refusal::More),
     /// [`Room`](Refusal::Room), [`NotAuthentic`](Refusal::NotAuthentic) (a tag is
-    /// wrong). None writes to `out`. The last one ends the stream; the others leave
-    /// it as it was, so that the call can be made again with more bytes or room.
+    /// wrong), [`Empty`](Refusal::Empty) (a length of 0). None writes to `out`. The
+    /// last two end the stream; the others leave it as it was, so that the call can be
+    /// made again with more bytes or room.
     pub fn open_chunk(&mut self, bytes: &[u8], out: &mut [u8]) -> Result<Step, Refusal> {
         let is_payload = self.words[TURN] == PAYLOAD_NEXT;
         let answer = ffi::stream_open_chunk(&mut self.words, bytes, out)?;
@@ -196,6 +195,15 @@ impl<Direction> Stream<Direction, Opening> {
         } else {
             Step::Length { used, length }
         })
+    }
+}
+
+/// The length of a payload, if one may have it.
+fn payload_fits(length: usize) -> Result<usize, Refusal> {
+    match length {
+        0 => Err(Refusal::Empty),
+        1..=MAX_CHUNK => Ok(length),
+        _ => Err(Refusal::Length),
     }
 }
 

@@ -5,7 +5,7 @@ use std::ops::AddAssign;
 use crate::receiver::Answer;
 
 /// The highest number of a refusal.
-const HIGHEST: usize = 13;
+const HIGHEST: usize = 14;
 
 #[derive(Clone, Copy, Debug, Default, PartialEq, Eq)]
 pub struct Tally {

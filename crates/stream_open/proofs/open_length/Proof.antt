@@ -25,11 +25,12 @@ open-piece-requires c κs =
 
 returns-3 : tie.Need-returns-3
 returns-3 c =
-    let t = c .before .before in
+    let r = c .before in
+    let t = r .before .before in
     let p = t .before .before in
     let e = p .before .before .before .before in
     length-good _ _ _ (e .before .if1 .left) (e .if2 .left) _ _ (e .before .before .before .before .pre .1) (p .open-piece .ensures .0) (0 ∷ 0 ∷ []) _ _ refl
-    (p .open-piece .ensures .1) (c .read-u16-be .ensures) (t .if3 .taken)
+    (p .open-piece .ensures .1) (r .read-u16-be .ensures) _ (c .length-answer .ensures) (t .if3 .taken)
 
 returns-4 : tie.Need-returns-4
 returns-4 c =
@@ -47,6 +48,7 @@ open-length-spec =
     (λ c. search needs)
     open-piece-requires
     (λ c. search needs)
+    (λ c κs. search needs)
     (λ c κs. search needs)
     returns-3
     returns-4)

@@ -1,7 +1,7 @@
 use native.Mathlib.Omega.{arith}
 use borrow.Author.Needs.{needs}
 use Rattle.aes.proofs.KeyedLaws.{key-most}
-use Rattle.stream_open_response.proofs.ResponseLaws.{bound-refused, bound-ours, bound-others}
+use Rattle.stream_open_response.proofs.ResponseLaws.{bound-refused, bound-empty, bound-ours, bound-others}
 use Rattle.stream_open_response.proofs.open_bound.Statement.{statement}
 use Rattle.stream_open_response.proofs.open_bound.Tie as tie
 
@@ -13,20 +13,31 @@ open-fixed-requires c κs =
 
 returns : tie.Need-returns
 returns c =
-    let q = c .before in
+    let e = c .before .before in
+    let q = e .before in
     let f = q .before .before .before .before in
     let o = f .before .before .before .before in
-    bound-ours _ _ _ _ _ _ _ _ (o .open-fixed .ensures .0) _ _ (o .open-fixed .ensures .1) _ (f .fixed .given .1) _ (q .equal .ensures) (c .if1 .taken)
+    bound-empty _ _ _ _ _ _ _ _ (o .open-fixed .ensures .0) _ _ (o .open-fixed .ensures .1) _ (f .fixed .given .1) _ (q .equal .ensures) (e .if1 .taken)
+    (c .if2 .taken)
 
 returns-2 : tie.Need-returns-2
 returns-2 c =
+    let e = c .before .before in
+    let q = e .before in
+    let f = q .before .before .before .before in
+    let o = f .before .before .before .before in
+    bound-ours _ _ _ _ _ _ _ _ (o .open-fixed .ensures .0) _ _ (o .open-fixed .ensures .1) _ (f .fixed .given .1) _ (q .equal .ensures) (e .if1 .taken)
+    (c .if2 .left)
+
+returns-3 : tie.Need-returns-3
+returns-3 c =
     let q = c .before in
     let f = q .before .before .before .before in
     let o = f .before .before .before .before in
     bound-others _ _ _ _ _ _ _ _ (o .open-fixed .ensures .0) _ _ (o .open-fixed .ensures .1) _ (f .fixed .given .1) _ (q .equal .ensures) (c .if1 .left)
 
-returns-3 : tie.Need-returns-3
-returns-3 c = let r = c .before in bound-refused _ _ _ _ _ _ _ _ (r .before .before .before .before .open-fixed .ensures .0) _ (r .r .given .1)
+returns-4 : tie.Need-returns-4
+returns-4 c = let r = c .before in bound-refused _ _ _ _ _ _ _ _ (r .before .before .before .before .open-fixed .ensures .0) _ (r .r .given .1)
 
 pub open-bound-spec : {M : Type 1} → statement M
 open-bound-spec =
@@ -40,11 +51,13 @@ open-bound-spec =
     (λ c. search needs)
     (λ c κs. search needs)
     (λ c. search needs)
-    (λ c. search needs)
-    (λ c. search needs)
     returns
+    (λ c. search needs)
     (λ c. search needs)
     (λ c. search needs)
     returns-2
     (λ c. search needs)
-    returns-3)
+    (λ c. search needs)
+    returns-3
+    (λ c. search needs)
+    returns-4)

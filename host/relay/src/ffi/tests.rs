@@ -111,7 +111,7 @@ fn the_version_is_the_headers() {
 fn methods_and_refusals_have_the_headers_numbers() {
     let (numbers, header) = (numbers(), header());
     let names: Vec<&str> = header.split("case RELAY_REFUSED_").skip(1).collect();
-    assert_eq!(names.len(), 13);
+    assert_eq!(names.len(), 14);
     assert_eq!(numbers["RELAY_AES_128_GCM"], Method::Aes128Gcm.number());
     assert_eq!(numbers["RELAY_AES_256_GCM"], Method::Aes256Gcm.number());
     for (name, refusal) in [
@@ -128,6 +128,7 @@ fn methods_and_refusals_have_the_headers_numbers() {
         ("COUNTER", Refusal::Counter),
         ("ARGUMENT", Refusal::Argument),
         ("BINDING", Refusal::Binding),
+        ("EMPTY", Refusal::Empty),
     ] {
         let number = refusal.number();
         assert_eq!(numbers[&format!("RELAY_REFUSED_{name}")], number);

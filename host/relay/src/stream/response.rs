@@ -1,7 +1,7 @@
 //! Heads of responses, which a server sends first.
 
-use super::{Opening, Response, Sealing, Stream, TAG};
-use crate::{answer, ffi, Key, Method, Refusal, MAX_CHUNK};
+use super::{payload_fits, Opening, Response, Sealing, Stream, TAG};
+use crate::{answer, ffi, Key, Method, Refusal};
 
 /// Type, timestamp and length; the request's salt comes on top.
 const FIXED_HEADER: usize = 1 + 8 + 2;
@@ -20,12 +20,12 @@ impl Stream<Response, Sealing> {
     /// them and their length.
     ///
     /// The salt is to be random and new for each stream; `request_salt` is the
-    /// request's. `clock` is in seconds since 1970. The payload may be empty.
+    /// request's. `clock` is in seconds since 1970. The payload has 1 to 65,535 bytes.
     ///
     /// # Errors
     ///
     /// The first that applies: [`Settings`](Refusal::Settings) (a salt's length),
-    /// [`Length`](Refusal::Length) (payload over 65,535 bytes),
+    /// [`Empty`](Refusal::Empty), [`Length`](Refusal::Length),
     /// [`Room`](Refusal::Room). A refusal writes nothing.
     pub fn seal(
         key: &Key,
@@ -44,12 +44,10 @@ impl Stream<Response, Sealing> {
     ///
     /// # Errors
     ///
-    /// [`Refusal::Length`] if the payload is longer than 65,535 bytes.
+    /// [`Refusal::Empty`] if the payload has no bytes, [`Refusal::Length`] if it has
+    /// more than 65,535.
     pub fn sealed_len(method: Method, payload_len: usize) -> Result<usize, Refusal> {
-        if payload_len > MAX_CHUNK {
-            return Err(Refusal::Length);
-        }
-        Ok(2 * method.salt_len() + FIXED_HEADER + TAG + payload_len + TAG)
+        Ok(2 * method.salt_len() + FIXED_HEADER + TAG + payload_fits(payload_len)? + TAG)
     }
 }
 
@@ -64,7 +62,8 @@ impl Stream<Response, Opening> {
     /// The first that applies: [`Settings`](Refusal::Settings) (the salt's length),
     /// [`More`](Refusal::More), [`NotAuthentic`](Refusal::NotAuthentic),
     /// [`Type`](Refusal::Type), [`Time`](Refusal::Time),
-    /// [`Binding`](Refusal::Binding) (it answers another request). Behind `More` the
+    /// [`Binding`](Refusal::Binding) (it answers another request),
+    /// [`Empty`](Refusal::Empty) (its first payload has no bytes). Behind `More` the
     /// call can be made again.
     pub fn open(
         key: &Key,

@@ -68,7 +68,7 @@ fn seal_request(salt: &[u8], padding: usize, text: &[u8], out: &mut [u8]) -> Opt
 fn open_response(request_salt: &[u8], clock: u64, forge: bool) -> Option<u64> {
     let mut out = [0; 256];
     let own_salt = &OTHER_SALT[..METHOD.salt_len()];
-    ResponseStream::seal(&key(METHOD), own_salt, salt(METHOD), CLOCK, b"", &mut out).unwrap();
+    ResponseStream::seal(&key(METHOD), own_salt, salt(METHOD), CLOCK, b"x", &mut out).unwrap();
     out[20] ^= u8::from(forge);
     number(ResponseStream::open(
         &key(METHOD),
@@ -163,7 +163,7 @@ fn number_3_room() {
     let sealed = session.seal(&key(METHOD), CLOCK, &short_address(), 0, b"", &mut [0; 47]);
     assert_eq!(number(sealed), Some(3));
     let (head, mut stream) = begun_request();
-    assert_eq!(number(stream.seal_chunk(b"", &mut [0; 33])), Some(3));
+    assert_eq!(number(stream.seal_chunk(b"x", &mut [0; 34])), Some(3));
     assert_eq!(seal_request(salt(METHOD), 1, b"", &mut [0; 66]), Some(3));
     let mut pool = Pool::new(METHOD);
     let opened = RequestStream::open(&key(METHOD), CLOCK, &head, &mut pool, &mut [0; 7]);
@@ -179,7 +179,7 @@ fn number_4_not_authentic() {
     let mut ended = RequestStream::<Opening>::from_words(&[0, 1, 0, 0, 0, 0, 0, 0]);
     assert_eq!(number(ended.open_chunk(&[], &mut [])), Some(4));
     let mut ended = RequestStream::<Sealing>::from_words(&[0, 1, 0, 0, 0, 0, 0, 0]);
-    assert_eq!(number(ended.seal_chunk(&[], &mut [])), Some(4));
+    assert_eq!(number(ended.seal_chunk(b"text", &mut [])), Some(4));
 }
 
 #[test]
@@ -326,7 +326,7 @@ fn number_11_counter() {
     assert_eq!(number(sealed), Some(11));
     for (counter, refused) in [(last - 2, None), (last - 1, Some(11)), (last, Some(11))] {
         let mut stream = RequestStream::<Sealing>::from_words(&[3, 1, counter, 0, 0, 0, 0, 0]);
-        assert_eq!(number(stream.seal_chunk(b"", &mut [0; 34])), refused);
+        assert_eq!(number(stream.seal_chunk(b"x", &mut [0; 35])), refused);
     }
     for (counter, refused) in [(last - 1, Some(10)), (last, Some(11))] {
         let mut stream = RequestStream::<Opening>::from_words(&[1, 1, counter, 0, 0, 0, 0, 0]);
@@ -364,4 +364,32 @@ fn number_13_binding() {
         let body = [&header, short_address().as_bytes()].concat();
         assert_eq!(open_reply(&body), Some(13));
     }
+}
+
+#[test]
+fn number_14_empty() {
+    // Behind the settings, and before a counter that is used up, a room that is
+    // too short and a stream that has ended.
+    for words in [[3, 1, 2], [3, 2, u64::MAX], [0, 1, 2]] {
+        let [turn, method, counter] = words;
+        let mut stream =
+            RequestStream::<Sealing>::from_words(&[turn, method, counter, 0, 0, 0, 0, 0]);
+        assert_eq!(number(stream.seal_chunk(b"", &mut [])), Some(14));
+    }
+    let mut none = RequestStream::<Sealing>::from_words(&[3, 0, 2, 0, 0, 0, 0, 0]);
+    assert_eq!(number(none.seal_chunk(b"", &mut [])), Some(1));
+    let salts = (salt(METHOD), &OTHER_SALT[..METHOD.salt_len()]);
+    let sealed = ResponseStream::seal(&key(METHOD), salts.0, salts.1, CLOCK, b"", &mut []);
+    assert_eq!(number(sealed), Some(14));
+    assert_eq!(
+        ResponseStream::<Sealing>::sealed_len(METHOD, 0),
+        Err(Refusal::Empty)
+    );
+    assert_eq!(
+        RequestStream::<Sealing>::sealed_chunk_len(0),
+        Err(Refusal::Empty)
+    );
+    // A lent stream at a payload of 0 bytes is none that was ever written.
+    let mut lent = RequestStream::<Opening>::from_words(&[2, 1, 2, 0, 0, 0, 0, 0]);
+    assert_eq!(number(lent.open_chunk(&[0; 16], &mut [])), Some(1));
 }

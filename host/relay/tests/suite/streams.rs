@@ -9,7 +9,7 @@ use crate::common::*;
 use crate::plain;
 
 /// Payloads of chunks.
-const CHUNKS: [usize; 7] = [0, 1, 15, 16, 1_400, 16_384, MAX_CHUNK];
+const CHUNKS: [usize; 7] = [1, 2, 15, 16, 1_400, 16_384, MAX_CHUNK];
 
 fn seal_request(
     method: Method,
@@ -135,14 +135,14 @@ fn sealed_streams_are_sip022s_byte_for_byte() {
         let address = Address::name(b"example.com", 443).unwrap();
         let (mut stream, mut wire) = seal_request(method, &address, 3, b"first");
         let mut out = [0; 64];
-        for text in [&b""[..], b"second"] {
+        for text in [&b"\0"[..], b"second"] {
             let length = stream.seal_chunk(text, &mut out).unwrap();
             wire.extend(&out[..length]);
         }
         let variable = [address.as_bytes(), &[0, 3, 0, 0, 0], b"first"].concat();
         let fixed = plain::fixed_header(0, CLOCK, variable.len());
         let mut expected = plain::request_head(key, salt, &fixed, &variable);
-        expected.extend([piece(2, &[0, 0]), piece(3, b"")].concat());
+        expected.extend([piece(2, &[0, 1]), piece(3, b"\0")].concat());
         expected.extend([piece(4, &[0, 6]), piece(5, b"second")].concat());
         assert_eq!(wire, expected);
 
@@ -301,4 +301,43 @@ fn the_longest_request_is_sealed_and_opened() {
     let length =
         RequestStream::<Sealing>::sealed_len(method, &short_address(), usize::MAX, usize::MAX);
     assert_eq!(length, Err(Refusal::Length));
+}
+
+/// Whoever knows the key may send a length of 0: it ends the stream, and so does a response's.
+#[test]
+fn an_empty_chunk_ends_the_stream() {
+    for method in Method::ALL {
+        let (key_bytes, salt) = (key_bytes(method), salt(method));
+        let (_, wire) = seal_request(method, &short_address(), 1, b"");
+        let (mut receiver, _, _) = open_request(method, &wire).unwrap();
+        let empty = plain::piece(key_bytes, salt, 2, &[0, 0]);
+        let mut forged = empty.clone();
+        forged[17] ^= 1;
+        let mut out = [FILL; 8];
+        let mut other = RequestStream::from_words(receiver.words());
+        assert_eq!(
+            other.open_chunk(&forged, &mut out),
+            Err(Refusal::NotAuthentic)
+        );
+        assert_eq!(
+            receiver.open_chunk(&empty[..17], &mut out),
+            Err(Refusal::More { wanted: 18 })
+        );
+        assert_eq!(receiver.open_chunk(&empty, &mut out), Err(Refusal::Empty));
+        assert!(receiver.is_ended());
+        assert_eq!(
+            receiver.open_chunk(&empty, &mut out),
+            Err(Refusal::NotAuthentic)
+        );
+        assert_eq!(out, [FILL; 8]);
+
+        let own_salt = &OTHER_SALT[..method.salt_len()];
+        let mut fixed = plain::fixed_header(1, CLOCK, 0);
+        fixed.splice(9..9, salt.iter().copied());
+        let head = [own_salt, &plain::piece(key_bytes, own_salt, 0, &fixed)].concat();
+        let opened = ResponseStream::open(&key(method), CLOCK, salt, &head);
+        assert_eq!(opened.unwrap_err(), Refusal::Empty);
+        let opened = ResponseStream::open(&key(method), CLOCK, own_salt, &head);
+        assert_eq!(opened.unwrap_err(), Refusal::Binding);
+    }
 }
