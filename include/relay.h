@@ -31,7 +31,9 @@
  *   then.
  *
  * WHAT A REFUSAL WRITES
- *   No refusal changes a table, a pool or a sending session. A refusal before
+ *   No refusal changes a pool or a sending session. Of a table a datagram's
+ *   RELAY_REFUSED_REPLAY changes one word, the repeats of the datagram's own
+ *   session, and no other refusal changes any. A refusal before
  *   the payload's tag is found good leaves `out` as it was; one after it
  *   sets the bytes that the plaintext would have filled to zero. Bytes of
  *   `out` behind those due are never written.
@@ -70,7 +72,7 @@ extern "C" {
 
 /* ---- sizes, in words but for the last two */
 
-#define RELAY_TABLE_WORDS 705    /* a session table: 64 sessions */
+#define RELAY_TABLE_WORDS 833    /* a session table: 64 sessions */
 #define RELAY_POOL_WORDS 1537    /* a salt pool: 256 salts */
 #define RELAY_SESSION_WORDS 4    /* a sending session */
 #define RELAY_STREAM_WORDS 8     /* one direction of a stream */
@@ -170,10 +172,10 @@ static inline const char *relay_refusal_name(uint64_t number)
 /* RELAY_REFUSED_MORE */
 #define RELAY_AT_WANTED 0 /* bytes wanted in all, from the first one of the call */
 
-/* ---- words of a session table: the retention, then 64 records of 11 words */
+/* ---- words of a session table: the retention, then 64 records of 13 words */
 
 #define RELAY_RECORDS 64
-#define RELAY_RECORD_WORDS 11  /* record i begins at word 1 + 11 * i */
+#define RELAY_RECORD_WORDS 13  /* record i begins at word 1 + 13 * i */
 #define RELAY_RECORD_USED 0    /* not 0: in use */
 #define RELAY_RECORD_ID 1
 #define RELAY_RECORD_HIGHEST 2 /* highest packet ID accepted */
@@ -182,6 +184,9 @@ static inline const char *relay_refusal_name(uint64_t number)
 #define RELAY_RECORD_FIRST 8   /* where the last accepted datagram came from: send replies there */
 #define RELAY_RECORD_SECOND 9
 #define RELAY_RECORD_PORT 10   /* its low 16 bits */
+/* since the session began; both stop at 2^64 - 1 */
+#define RELAY_RECORD_ACCEPTED 11 /* datagrams accepted, the first one included */
+#define RELAY_RECORD_REPEATS 12  /* datagrams refused with RELAY_REFUSED_REPLAY, too late ones included */
 
 /* ---- words of a sending session */
 
@@ -283,7 +288,8 @@ uint64_t relay_datagram_seal(uint64_t method, const uint8_t *key, size_t key_len
  * first, second, port    the caller's address, as the host numbers it; kept in
  *                        the session for replies (words 8 to 10 of its record)
  * datagram               32 to 65,507 bytes
- * table                  a session table; changed only by an accepted datagram
+ * table                  a session table; changed by an accepted datagram, and by 8
+ *                        in one word: its session's RELAY_RECORD_REPEATS goes one up
  * out                    room for the datagram's length less 32: the plaintext
  * answer                 RELAY_AT_KIND to RELAY_AT_PAYLOAD
  *

@@ -124,7 +124,7 @@ def datagram_opened(call: sessions.Call, table: Words, answer: Words) -> Left:
         return refused(SETTINGS)
     given, table = sessions.open(call, table)
     if given.number:
-        return Left(given.number, {"out": given.output})
+        return Left(given.number, {"table": table, "out": given.output})
     target, *rest = given.header
     return accepted(table=table, out=given.output, answer=(*target_words(target), *rest))
 
@@ -365,9 +365,9 @@ NAME = datagram.NAME
 def datagram_examples():
     _, wrote = table_new(60, (9,) * TABLE_WORDS)
     table = wrote["table"]
-    yield "table", table == (60,) + (0,) * 704
+    yield "table", table == (60,) + (0,) * 832
     _, wrote = table_new(0, (9,) * TABLE_WORDS)
-    yield "table of 0", wrote["table"] == (300,) + (0,) * 704
+    yield "table of 0", wrote["table"] == (300,) + (0,) * 832
     session = session_begin_client(7, (9,) * 4).wrote["session"]
     yield "session", session == (0, 7, 0, 0)
     yield "equal IDs", session_begin_server(7, 7, (9,) * 4) == refused(12)
@@ -379,10 +379,11 @@ def datagram_examples():
     lent = {"datagram": sealed, "out": FILLED, "answer": ANSWER}
     number, wrote = datagram_open_server(1, KEY, 1_000, 1, 2, 3, table=table, **lent)
     yield "opened", (number, wrote["answer"]) == (0, (3, 13, 1, 80, 7, 0, 1_000, 0, 16))
-    record = (1, 7, 0, 1_000, 1, 0, 0, 0, 1, 2, 3)
-    yield "record", wrote["table"] == (60, *record) + (0,) * 693
+    record = (1, 7, 0, 1_000, 1, 0, 0, 0, 1, 2, 3, 1, 0)
+    yield "record", wrote["table"] == (60, *record) + (0,) * 819
     again = datagram_open_server(1, KEY, 1_000, 1, 2, 3, table=wrote["table"], **lent)
-    yield "again", again == Left(8, {"out": bytes(16) + FILLED[16:]})
+    repeated = (60, *record[:-1], 1) + (0,) * 819
+    yield "again", again == Left(8, {"table": repeated, "out": bytes(16) + FILLED[16:]})
     odd = (2, 7, 0, 0)
     yield "no side", datagram_seal(1, KEY, odd, answer=ANSWER, **call) == refused(1)
 

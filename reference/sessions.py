@@ -1,6 +1,6 @@
 """The session table, its book, and opening datagrams, written from the scope over datagram.py.
 
-An independent reference for the proved code: the table as its 705 words, the book
+An independent reference for the proved code: the table as its 833 words, the book
 as pages, and both sides' opening over either. Plain and slow.
 
 The client of a call is None where a server opens a client's datagram; where a
@@ -23,24 +23,27 @@ from datagram import CLIENT_PACKET, KEY_LENGTHS, LENGTH, MAX_LENGTH, ROOM  # noq
 from datagram import SEPARATE_LENGTH, SERVER_PACKET, SETTINGS, u16, u64  # noqa: E402
 
 SESSIONS = 64
-RECORD_WORDS = 11
+RECORD_WORDS = 13
 TABLE_WORDS = 1 + SESSIONS * RECORD_WORDS
 WINDOW = 256
 RETENTIONS = range(60, 3_601)
 DEFAULT_RETENTION = 300
 TIME_LIMIT = 30
 MIN_LENGTH = SEPARATE_LENGTH + gcm.TAG_LENGTH
+MOST_COUNTED = 2**64 - 1
 
 # The numbers of the other refusals.
 NOT_AUTHENTIC, MALFORMED, TYPE, TIME, REPLAY, FULL, BINDING = 4, 5, 6, 7, 8, 9, 13
 
 Peer = collections.namedtuple("Peer", "first second port")
 
-# The meaning of a record: its marks are the distances from the highest packet ID down.
-Session = collections.namedtuple("Session", "used id high last marks peer")
+# The meaning of a record: its marks are the distances from the highest packet ID down, and
+# its counts are of datagrams accepted and of repeats since the session began.
+FIELDS = "used id high last marks peer accepted repeats"
+Session = collections.namedtuple("Session", FIELDS, defaults=(1, 0))
 
-# A page of the book, under its ID.
-Page = collections.namedtuple("Page", "high accepted last peer")
+# A page of the book, under its ID: `accepted` are packet IDs, and the counts stand behind.
+Page = collections.namedtuple("Page", "high accepted last peer taken repeats")
 
 # What an opened datagram says. Its target: (1, number), (4, number, number) or (3, place, length).
 Header = collections.namedtuple("Header", "target port session packet time padding payload")
@@ -61,6 +64,10 @@ def alive(last, retention, clock):
 
 def time_valid(time, clock):
     return abs(time - clock) <= TIME_LIMIT
+
+
+def one_more(count):
+    return min(count + 1, MOST_COUNTED)
 
 
 # The table. A table is a tuple of words; what changes it gives another.
@@ -89,15 +96,23 @@ def with_words(table, record, words):
     return table[:start] + tuple(words) + table[start + RECORD_WORDS :]
 
 
+def with_repeat(table, record):
+    """The table with one repeat more in a record: no other word changes."""
+    place = 1 + record * RECORD_WORDS + 12
+    return table[:place] + (one_more(table[place]),) + table[place + 1 :]
+
+
 def session_of(words):
-    used, id, high, last, *marks, first, second, port = words
-    distances = (d for d in range(WINDOW) if marks[d // 64] >> d % 64 & 1)
-    return Session(used, id, high, last, frozenset(distances), Peer(first, second, port % 2**16))
+    used, id, high, last, *marks, first, second, port, accepted, repeats = words
+    distances = frozenset(d for d in range(WINDOW) if marks[d // 64] >> d % 64 & 1)
+    peer = Peer(first, second, port % 2**16)
+    return Session(used, id, high, last, distances, peer, accepted, repeats)
 
 
 def words_from(session):
     marks = [sum(1 << d % 64 for d in session.marks if d // 64 == k) for k in range(4)]
-    return (session.used, session.id, session.high, session.last, *marks, *session.peer)
+    counts = session.accepted, session.repeats
+    return (session.used, session.id, session.high, session.last, *marks, *session.peer, *counts)
 
 
 def alive_records(table, clock):
@@ -118,11 +133,12 @@ def accepted(session, packet, clock, peer):
     high = session.high + up
     marks = {distance + up for distance in session.marks} | {high - packet}
     marks = frozenset(distance for distance in marks if distance < WINDOW)
-    return Session(session.used, session.id, high, max(session.last, clock), marks, peer)
+    last, count = max(session.last, clock), one_more(session.accepted)
+    return session._replace(high=high, last=last, marks=marks, peer=peer, accepted=count)
 
 
 def begun(id, packet, clock, peer):
-    return Session(1, id, packet, clock, frozenset({0}), peer)
+    return Session(1, id, packet, clock, frozenset({0}), peer, 1, 0)
 
 
 def admit(table, clock, id, packet, peer):
@@ -132,7 +148,7 @@ def admit(table, clock, id, packet, peer):
         session = session_of(words_of(table, record))
         if session.id == id:
             if not fresh(session, packet):
-                return REPLAY, table
+                return REPLAY, with_repeat(table, record)
             session = accepted(session, packet, clock, peer)
             return 0, with_words(table, record, words_from(session))
     for record in range(SESSIONS):
@@ -145,7 +161,7 @@ def admit(table, clock, id, packet, peer):
 def table_sessions(table, clock):
     """What the table says of its sessions alive: by ID, without record numbers."""
     sessions = (session_of(words_of(table, record)) for record in alive_records(table, clock))
-    return sorted((s.id, s.high, sorted(s.marks), s.last, s.peer) for s in sessions)
+    return sorted((s.id, s.high, sorted(s.marks), s.last, s.peer, s.accepted, s.repeats) for s in sessions)
 
 
 # The book: pages by ID.
@@ -158,13 +174,14 @@ def enter(pages, retention, clock, id, packet, peer):
         page = pages[id]
         close = page.high - packet < 256 and packet not in page.accepted
         if not (packet > page.high or close):
-            return REPLAY, pages
+            return REPLAY, pages | {id: page._replace(repeats=min(page.repeats + 1, 2**64 - 1))}
     elif len(living) == 64:
         return FULL, pages
     else:
-        page = Page(packet, frozenset(), clock, peer)
-    high = max(page.high, packet)
-    return 0, pages | {id: Page(high, page.accepted | {packet}, clock, peer)}
+        page = Page(packet, frozenset(), clock, peer, 0, 0)
+    high, taken = max(page.high, packet), min(page.taken + 1, 2**64 - 1)
+    page = Page(high, page.accepted | {packet}, clock, peer, taken, page.repeats)
+    return 0, pages | {id: page}
 
 
 def book_sessions(pages, retention, clock):
@@ -173,7 +190,7 @@ def book_sessions(pages, retention, clock):
     for id, page in pages.items():
         if alive(page.last, retention, clock):
             marks = sorted(page.high - p for p in page.accepted if page.high - p < 256)
-            sessions.append((id, page.high, marks, page.last, page.peer))
+            sessions.append((id, page.high, marks, page.last, page.peer, page.taken, page.repeats))
     return sorted(sessions)
 
 
@@ -308,6 +325,25 @@ def run_book(retention, calls):
         given, pages = open_by_book(call, pages, retention)
         answers.append(given)
     return answers, book_sessions(pages, retention, calls[-1].clock) if calls else []
+
+
+def counted(retention, calls, answers):
+    """By ID of the sessions alive at the last clock, how many of its calls since it began were
+    accepted and how many answered 8: from the answers alone."""
+    retention = retention or DEFAULT_RETENTION
+    counts = {}
+    for call, given in zip(calls, answers):
+        id = belongs(call)
+        if given.number == REPLAY:
+            last, taken, repeats = counts[id]
+            counts[id] = last, taken, repeats + 1
+        elif given.number == 0:
+            last, taken, repeats = counts.get(id, (None, 0, 0))
+            if last is None or not alive(last, retention, call.clock):
+                taken, repeats = 0, 0
+            counts[id] = call.clock, taken + 1, repeats
+    living = (id for id in counts if alive(counts[id][0], retention, calls[-1].clock))
+    return {id: counts[id][1:] for id in living}
 
 
 def belongs(call):
@@ -495,10 +531,11 @@ def worked_example():
     given, table = opened(text, room=20)
     header = Header((3, 13, 1), 80, ID, 5, 1_000, 0, 16)
     yield "worked example", given == Answer(0, header, text + b"\xa5" * 4)
-    record = (1, ID, 5, 1_000, 1, 0, 0, 0, *PEER)
-    yield "its record", table == (60, *record) + (0,) * (TABLE_WORDS - 12)
+    record = (1, ID, 5, 1_000, 1, 0, 0, 0, *PEER, 1, 0)
+    yield "its record", table == (60, *record) + (0,) * (TABLE_WORDS - 14)
     again, after = opened(text, table=table)
-    yield "the same again", again == Answer(REPLAY, None, bytes(16)) and after == table
+    repeated = (60, *record[:-1], 1) + (0,) * (TABLE_WORDS - 14)
+    yield "the same again", again == Answer(REPLAY, None, bytes(16)) and after == repeated
     given, after = opened(b"", table=table)
     yield "a datagram of 32 bytes", given == Answer(MALFORMED, None, b"") and after == table
     given, after = opened(text, table=table, room=15)
@@ -530,20 +567,27 @@ def table_examples():
     for retention in (1, 59, 3_601, 2**64 - 1):
         table = (9,) * TABLE_WORDS
         yield f"making, {retention}", make(retention, table) == (SETTINGS, table)
-    for count in (0, 704, 706):
+    for count in (0, 705, 832, 834):
         yield f"making, {count} words", make(60, (9,) * count) == (SETTINGS, (9,) * count)
     full = table_with(60, *(begun(n, 0, 1_000 + n, PEER) for n in range(64)))
     yield "full", admit(full, 1_060, 64, 0, PEER) == (FULL, full)
     number, table = admit(full, 1_060, 63, 1, OTHER_PEER)
-    known = Session(1, 63, 1, 1_063, frozenset({0, 1}), OTHER_PEER)
+    known = Session(1, 63, 1, 1_063, frozenset({0, 1}), OTHER_PEER, 2, 0)
     yield "known in a full table", number == 0 and table == with_words(full, 63, words_from(known))
     number, table = admit(full, 1_062, 64, 9, OTHER_PEER)
     new = begun(64, 9, 1_062, OTHER_PEER)
     yield "lowest forgotten", number == 0 and table == with_words(full, 0, words_from(new))
     odd = begun(ID, 20, 2**64 - 1, PEER)._replace(used=7, marks=frozenset({3, 30}))
     number, table = admit(table_with(60, odd), 0, ID, 21, PEER)
-    expected = odd._replace(high=21, marks=frozenset({0, 4, 31}))
+    expected = odd._replace(high=21, marks=frozenset({0, 4, 31}), accepted=2)
     yield "words of a host", number == 0 and table == table_with(60, expected)
+    most = table_with(60, begun(ID, 20, 1_000, PEER)._replace(accepted=2**64 - 1, repeats=2**64 - 2))
+    most = most[:11] + (2**63 + 80,) + most[12:]  # junk in the port's word
+    number, table = admit(most, 1_010, ID, 20, OTHER_PEER)
+    yield "a repeat writes one word", (number, table) == (REPLAY, most[:13] + (2**64 - 1,) + most[14:])
+    yield "repeats stop", admit(table, 1_010, ID, 20, OTHER_PEER) == (REPLAY, table)
+    _, table = admit(table, 1_010, ID, 21, OTHER_PEER)
+    yield "accepted stops", words_of(table, 0)[10:] == (3, 2**64 - 1, 2**64 - 1)
     early = plaintext(None, 1_030, datagram.NAME)
     _, table = opened(early)
     again, _ = opened(early, clock=1_060, table=table)
@@ -570,6 +614,9 @@ def book_runs():
         answers, sessions = run_table(retention, calls)
         seen.update(given.number for given in answers)
         yield f"list {number} by the book", (answers, sessions) == run_book(retention, calls)
+        counts = {id: (taken, repeats) for id, *_, taken, repeats in sessions}
+        seen.update("repeats" for _, repeats in counts.values() if repeats > 1)
+        yield f"list {number}, calls counted", not calls or counts == counted(retention, calls, answers)
         if FULL in (given.number for given in answers):
             continue
         for turn in range(3):
@@ -578,7 +625,8 @@ def book_runs():
             same = other == ([answers[place] for place in order], sessions)
             yield f"list {number} rearranged", same and sorted(order) == list(range(len(calls)))
     every = {0, LENGTH, ROOM, NOT_AUTHENTIC, MALFORMED, TYPE, TIME, REPLAY, FULL, BINDING}
-    yield "every answer in the lists", set(seen) == every
+    yield "every answer in the lists", set(seen) - {"repeats"} == every
+    yield "sessions with repeats", seen["repeats"] > 3
 
 
 def selftest():

@@ -130,7 +130,8 @@ class Datagrams(Scenario):
             marks = [self.dice.getrandbits(64) for _ in range(4)]
             last = (self.clock - gap) % 2**64
             high = self.dice.choice((0, 5, 300, LAST))
-            words += [self.dice.choice((1, 1, 7)), id, high, last, *marks, *marks[:2], 2**20]
+            counts = self.dice.choices((0, 1, LAST - 1, LAST, marks[0]), k=2)
+            words += [self.dice.choice((1, 1, 7)), id, high, last, *marks, *marks[:2], 2**20, *counts]
         assert len(words) == SESSIONS * RECORD_WORDS
         return words
 

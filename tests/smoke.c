@@ -98,7 +98,7 @@ static void check_header(const uint64_t *answer, const uint8_t *out, size_t due,
           "the payload");
 }
 
-/* What is refused changes no table, and shows nothing of a plaintext. */
+/* What is refused before 8 changes no table, and shows nothing of a plaintext. */
 static void refused_datagrams(uint8_t *datagram, size_t len, uint64_t *table)
 {
     uint64_t before[RELAY_TABLE_WORDS];
@@ -131,6 +131,7 @@ static void client_to_server(void)
 {
     uint64_t session[RELAY_SESSION_WORDS];
     uint64_t table[RELAY_TABLE_WORDS];
+    uint64_t before[RELAY_TABLE_WORDS];
     uint64_t answer[RELAY_ANSWER_WORDS];
     uint8_t datagram[200];
     uint8_t out[200];
@@ -145,8 +146,15 @@ static void client_to_server(void)
     check_number(open_server(CLOCK, datagram, len, table, out, len - 32, answer), RELAY_OK,
                  "opening a client's datagram");
     check_header(answer, out, len - 32, CLIENT_ID, "ping");
+    memcpy(before, table, sizeof before);
     check_number(open_server(CLOCK, datagram, len, table, out, len - 32, answer),
                  RELAY_REFUSED_REPLAY, "the same datagram again");
+
+    /* One word of the table counts the repeat. */
+    check(table[1 + RELAY_RECORD_ACCEPTED] == 1 && table[1 + RELAY_RECORD_REPEATS] == 1,
+          "one datagram accepted and one repeat");
+    before[1 + RELAY_RECORD_REPEATS]++;
+    check(memcmp(before, table, sizeof before) == 0, "a repeat changes no other word");
     printf("client to server: %zu bytes opened; forged, late and replayed ones refused\n", len);
 }
 

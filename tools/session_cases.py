@@ -10,7 +10,7 @@ import sessions  # noqa: E402
 from datagram import KEY_LENGTHS, LENGTH, LONG_NAME, MAX_LENGTH, NAME, ROOM  # noqa: E402
 from datagram import SETTINGS, V4, V6, u16  # noqa: E402
 from sessions import BINDING, CLIENT, FULL, ID, MALFORMED, MIN_LENGTH, NOT_AUTHENTIC  # noqa: E402
-from sessions import PEER, REPLAY, TABLE_WORDS, TIME, TYPE, Dice, Host  # noqa: E402
+from sessions import PEER, RECORD_WORDS, REPLAY, TABLE_WORDS, TIME, TYPE, Dice, Host  # noqa: E402
 from sessions import Peer, Session, begun, table_with  # noqa: E402
 
 METHODS = {128: 1, 256: 2}
@@ -352,7 +352,7 @@ def settings_groups():
 
     calls = Calls(60)
     for each in PAIRS.values():
-        for words in (0, 1, 704, 706):
+        for words in (0, 1, 705, 832, 834):
             calls.open(SETTINGS, words=words, **each)
             calls.open(SETTINGS, words=words, length=3, room=0, **each)
     calls.open(0)
@@ -367,7 +367,7 @@ def settings_groups():
 
 # What brings each refusal about, in the order of opening.
 FAULTS = {
-    SETTINGS: {"words": 704},
+    SETTINGS: {"words": 705},
     LENGTH: {"length": 31},
     ROOM: {"room": 0},
     NOT_AUTHENTIC: {"flip": (40, 1)},
@@ -595,7 +595,7 @@ def odd_group():
     for used, last in itertools.product((0, 1, 2, 7, 2**32, 2**63, LAST), (1_000, LAST)):
         odd = Session(used, ID, 300, last, frozenset({0, 9}), PEER)
         table = list(table_with(60, begun(1, 1, 1_000, PEER), odd))
-        table[1 + 2 * 11 - 1] = LAST - 65_535 + 17  # the port's word
+        table[1 + 13 + 10] = LAST - 65_535 + 17  # the port's word
         calls.begin(table)
         for packet in (300, 290, 310):
             calls.open(None, packet=packet, peer=Peer(5, 6, 7))
@@ -607,17 +607,36 @@ def odd_group():
     return "odd words", calls
 
 
+def counts_group():
+    """Repeats and acceptances, both counts up to their end, with junk in the port's word."""
+    calls = Calls()
+    ends = (0, 1, 2**32 - 1, 2**63, LAST - 2, LAST - 1, LAST)
+    for place, (accepted, repeats) in zip(itertools.cycle((0, 5, 63)), itertools.product(ends, ends)):
+        known = Session(1, ID, 300, 1_000, frozenset({0, 9}), PEER, accepted, repeats)
+        records = [begun(n, 1, 1_000, PEER) for n in range(place)] + [known, known]
+        table = list(table_with(60, *records[:64]))
+        table[1 + RECORD_WORDS * place + 10] = LAST - 65_535 + 17
+        calls.begin(table)
+        # marked, below the window, marked at a later clock; accepted; and again
+        for packet, clock, answer in (
+            *((300, 1_000, REPLAY), (44, 1_000, REPLAY), (291, 1_030, REPLAY)),
+            *((299, 1_030, 0), (299, 1_030, REPLAY)),
+        ):
+            calls.open(answer, packet=packet, clock=clock, time=clock, peer=Peer(5, 6, 7))
+    return "counts", calls
+
+
 def random_table(dice, retention):
     """Words of no meaning, with about half the sessions alive at clock 2^63."""
     words = [dice.below(2**64) for _ in range(TABLE_WORDS)]
     words[0] = retention
-    for start in range(1, TABLE_WORDS, 11):
+    for start in range(1, TABLE_WORDS, RECORD_WORDS):
         used, _, high, last = words[start : start + 4]
         words[start] = dice.pick((0, 1, 7, used, used))
         words[start + 2] = dice.pick((high, dice.below(300), LAST))
         words[start + 3] = dice.pick((last, 2**63 - 60, 2**63 - 61, 2**63 - 3_601, 0))
         if start > 1 and dice.often(10):
-            words[start + 1] = words[dice.below(start // 11) * 11 + 2]
+            words[start + 1] = words[dice.below(start // RECORD_WORDS) * RECORD_WORDS + 2]
     return words
 
 
@@ -628,7 +647,7 @@ def random_groups():
         table = random_table(dice, retention)
         calls.begin(table)
         for _ in range(75):
-            start = 1 + 11 * dice.below(64)
+            start = 1 + RECORD_WORDS * dice.below(64)
             session, high = table[start + 1 : start + 3]
             if dice.often(10):
                 session = dice.below(2**64)
@@ -649,7 +668,7 @@ def making_group():
     for retention in (0, 1, 59, 60, 61, 3_600, 3_601, 2**32 + 60, LAST):
         answer = 0 if retention in (0, 60, 61, 3_600) else SETTINGS
         calls.begin((LAST,) * WORD_LIMIT)
-        for words in (0, 1, 60, 704, 706):
+        for words in (0, 1, 60, 705, 832, 834):
             calls.make(retention, SETTINGS, words)
         calls.make(retention, answer)
         calls.make(60, 0)
@@ -716,6 +735,7 @@ def make_groups():
         clock_group(),
         *full_groups(),
         odd_group(),
+        counts_group(),
         *random_groups(),
         making_group(),
         *list_groups(),

@@ -139,7 +139,7 @@ void fill_step(const struct step *step)
 {
     int pool = step->who & 2;
     uint64_t *words = pool ? host.pool : host.tables[step->who & 1];
-    size_t record = pool ? 6 : 11, len = pool ? RELAY_POOL_WORDS : RELAY_TABLE_WORDS;
+    size_t record = pool ? 6 : 13, len = pool ? RELAY_POOL_WORDS : RELAY_TABLE_WORDS;
     for (size_t at = 1; at < len; at += record) {
         words[at] = 1;
         words[at + 1] = pool ? host.clock : step->value + at;

@@ -11,7 +11,9 @@ enum {
     TIME_LIMIT = 30,
     MIN_RETENTION = 60,
     MAX_RETENTION = 3600,
-    RECORD_WORDS = 11,
+    RECORD_WORDS = 13,
+    AT_ACCEPTED = 11, /* the counts of a record */
+    AT_REPEATS = 12,
     SALT_WORDS = 6,
     WINDOW = 256,
     KEPT = 60,
@@ -367,6 +369,12 @@ static void accept_packet(uint64_t *next, const uint64_t *record, uint64_t packe
     next[4 + distance / 64] |= 1ull << distance % 64;
 }
 
+/* A count, which stops at the last number. */
+static uint64_t one_more(uint64_t count)
+{
+    return count == UINT64_MAX ? count : count + 1;
+}
+
 static uint64_t expect_admitted(const struct call *c, struct expectation *e)
 {
     uint64_t id = e->words[RELAY_AT_SESSION_ID], packet = e->words[RELAY_AT_PACKET_ID];
@@ -376,12 +384,17 @@ static uint64_t expect_admitted(const struct call *c, struct expectation *e)
     e->record_at = 1 + RECORD_WORDS * (size_t)place;
     const uint64_t *record = words_of(c, TABLE) + e->record_at;
     uint64_t empty[RECORD_WORDS] = {1, id, packet, c->clock};
-    if (known && !fresh(record, packet))
+    if (known && !fresh(record, packet)) {
+        e->record_at += AT_REPEATS;
+        e->record[0] = one_more(record[AT_REPEATS]);
+        e->record_len = 1;
         return RELAY_REFUSED_REPLAY;
+    }
     accept_packet(e->record, known ? record : empty, packet, c->clock);
     e->record[8] = c->first;
     e->record[9] = c->second;
     e->record[10] = c->port;
+    e->record[AT_ACCEPTED] = one_more(e->record[AT_ACCEPTED]);
     e->record_len = RECORD_WORDS;
     return RELAY_OK;
 }

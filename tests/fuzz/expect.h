@@ -7,7 +7,7 @@
 
 #include "calls.h"
 
-enum { RECORD_WORDS_MAX = 11 };
+enum { RECORD_WORDS_MAX = 13 };
 
 struct expectation {
     uint64_t number;

@@ -189,7 +189,7 @@ def several():
     for record in (1, 2):
         yield begun() + [
             step("FILL", value=1_000),
-            step("SET_WORD", place=1 + 11 * record + 3, value=BEFORE | 61),
+            step("SET_WORD", place=1 + 13 * record + 3, value=BEFORE | 61),
             step("DATAGRAM_SEAL"),
             step("OPEN_SERVER"),
             step("FILL", who=2),
@@ -197,6 +197,17 @@ def several():
             step("SEAL_REQUEST", length=1),
             step("OPEN_REQUEST"),
         ]
+
+
+def repeats():
+    """A session's counts near their end, junk in its port, and repeats of marked and of late packets."""
+    steps = [*begun(), step("DATAGRAM_SEAL"), step("OPEN_SERVER")]
+    steps += [step("SET_WORD", place=1 + word, value=FROM_END | 1) for word in (10, 11, 12)]
+    for packet in (0, 300, 0, 300, 44, 45):
+        steps.append(step("SET_WORD", who=8, place=3, value=packet))
+        steps.append(step("CRAFT_DATAGRAM"))
+        steps += [step("OPEN_SERVER")] * 2
+    yield steps
 
 
 def requests():
@@ -323,6 +334,7 @@ GROUPS = (
     refused_datagrams,
     windows,
     several,
+    repeats,
     requests,
     refused_requests,
     responses,

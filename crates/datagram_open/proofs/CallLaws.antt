@@ -61,7 +61,7 @@ met : (h : Header) (c : Call) (due : ℕ) (plain : List ℕ) → length plain �
     → (answerOf (admittedAs h (admitted e)) ≡ report e c h plain .answer)
     × (settled (admittedAs h (admitted e)) due (put (c .output) 0 plain) ≡ report e c h plain .output)
 met h c due plain l room (stores i r) = (refl, onto-put (c .output) plain)
-met h c due plain l room replay = (refl, onto-cleared (c .output) plain due l room)
+met h c due plain l room (replay i) = (refl, onto-cleared (c .output) plain due l room)
 met h c due plain l room full = (refl, onto-cleared (c .output) plain due l room)
 
 module _ (method : ℕ) (key : List ℕ) (side : Side) (clock : ℕ) (peer : Peer) (s t out : List ℕ) where

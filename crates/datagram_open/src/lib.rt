@@ -26,7 +26,8 @@ fn admitted_as(header: Header, met: Admitted) -> Opened
     }
 }
 
-// Takes a header that was read to its session. Refusals 8 and 9 clear the plaintext and leave the table as it was.
+// Takes a header that was read to its session. Refusals 8 and 9 clear the plaintext; 8 counts a repeat in its session, and 9
+// leaves the table as it was.
 fn take_to_session(
     header: Header,
     clock: u64,
@@ -86,8 +87,8 @@ fn open(
 }
 
 // Opens a client's datagram, for a server, into the lent buffer: its header, or a refusal in the order 1, 2, 3, 4, 5, 6, 7, 5,
-// 8, 9. Nothing is written before the tag is good, and a refusal after that clears what the plaintext has filled. No
-// refusal changes the table.
+// 8, 9. Nothing is written before the tag is good, and a refusal after that clears what the plaintext has filled. Of the
+// table, refusal 8 changes its session's count of repeats, and no other refusal anything.
 pub fn open_server(
     method: u64,
     key: &[u8],

@@ -1,6 +1,7 @@
 -- Demands 1 and 2 for opened datagrams.
 -- Assumes nothing.
 use mathlib.Core.Path.{_≡_, refl, sym, ap, ap₂, _∙_, subst}
+use mathlib.Core.Logic.{_≢_}
 use mathlib.Core.Bool.{Bool, true, false, cond, _&&_, and-false, true≢false}
 use mathlib.Core.List.{List}
 use mathlib.Core.Option.{Option, none, some}
@@ -17,8 +18,9 @@ use Rattle.session_record.specs.declared.Peer.{Peer}
 use Rattle.session_table.specs.Table.{retention, lawful, Entry, stores, replay, full, meet, keep}
 use Rattle.session_book.specs.Call.{Answer, Decision, early as decided, reaches, refused, opened}
 use Rattle.session_book.specs.Runs.{tableNextBy}
-use Rattle.session_book.proofs.Words.{retention-store}
+use Rattle.session_book.proofs.Words.{retention-store, retention-repeated}
 use Rattle.protocol.specs.Method.{keyFits}
+use Rattle.protocol.specs.declared.Refusal.{Refusal}
 use Rattle.protocol.specs.declared.Refusal.the-variants.{Settings, Malformed}
 use Rattle.protocol.specs.Refusal.{refusalNumber}
 use Rattle.protocol.specs.Time.{timeValid}
@@ -33,12 +35,12 @@ use Rattle.datagram_read.specs.declared.Header.{Header}
 use Rattle.datagram_read.specs.declared.Opened.the-variants.{Datagram, Refused}
 use Rattle.datagram_read.specs.Opening.{sessionOf, packetOf, timeOf, paddingOf, meant, headerWith, readAddress, lengthLawful, readAnswer, readOut}
 use Rattle.datagram_open.specs.Deciding.{expected, openerOf, plainOf, decide, callOf, openAnswer, openOut, openTable}
-use Rattle.demands.specs.Datagrams.{Answered, accepts, refuses, tagGood, Lawful, BeforeTag, unlawful-table, other-key, too-short, too-long, no-room, forged, Stage, before, after, Keeps, OpenersKeep, ValidHeader, Enters, ForUs, Acceptable, AcceptedExactlyWhen, SealedAccepted, Demand2}
+use Rattle.demands.specs.Datagrams.{Answered, accepts, refuses, tagGood, Lawful, BeforeTag, unlawful-table, other-key, too-short, too-long, no-room, forged, Stage, before, after, RepeatCounted, Keeps, OpenersKeep, ValidHeader, Enters, ForUs, Acceptable, AcceptedExactlyWhen, SealedAccepted, Demand2}
 use Rattle.demands.proofs.DatagramReadBack.{payload-back}
 use Rattle.demands.proofs.DatagramSealing.{one-target, sealed-opens}
 use Rattle.datagram_read.proofs.ReadLaws.{Reads, Opens, answer-given, opened-out, length-plain, unlawful-out, forged-out, cleared-out}
 use Rattle.datagram_open.proofs.CallLaws.{expected-opener}
-use Rattle.demands.proofs.DatagramWays.{opened-same, not-both, read-same, not-read, among, among-answer, Way, unlawful, early, late, taken, way as way-of}
+use Rattle.demands.proofs.DatagramWays.{opened-same, refused-same, not-both, read-same, not-read, ofReader, reader-opener, early-not-eight, among, among-answer, TableLeft, kept, counted, Way, unlawful, early, late, taken, way as way-of}
 
 -- ---- the tests of the arguments
 
@@ -137,23 +139,48 @@ module _ (method : ℕ) (key : List ℕ) (client : Option ℕ) (clock : ℕ) (pe
   not-stopped h d (by-settings e) = true≢false (sym (λ i. d .fits i && (d .size i && d .room i)) ∙ e)
   not-stopped h d (by-tag e) = true≢false (sym (d .authentic) ∙ e)
 
+  -- a refusal that the arguments decide is one before 8
+  of-reader : (r : Refusal) → readAnswer method key side clock s out ≡ Refused r → ofReader r ≡ true
+  of-reader r er = ap among (sym er) ∙ among-answer method key side clock s out
+
   answered : Answered answer
   answered = go way
     where
       go : Ways → Answered answer
       go (unlawful l ea eb et) = refuses Settings refl ea
-      go (early l r er ea eb et) = refuses r (ap among (sym er) ∙ among-answer method key side clock s out) ea
+      go (early l r er ea eb et) = refuses r (reader-opener r (of-reader r er)) ea
       go (late l h d n r o ea eb et) = refuses r o ea
       go (taken l h d n ea eb) = accepts h ea
 
-  refused-keeps-table : (n : ℕ) → answer ≡ refused n → table ≡ t
-  refused-keeps-table n e = go way
+  refused-keeps-table : (n : ℕ) → n ≢ 8 → answer ≡ refused n → table ≡ t
+  refused-keeps-table n not8 e = go way
     where
+      left-by : (r : Refusal) → answer ≡ refused (refusalNumber r) → TableLeft method key client clock peer s t out (refusalNumber r) → table ≡ t
+      left-by r ea (kept n et) = et
+      left-by r ea (counted m et) = absurd (not8 (refused-same n (refusalNumber r) (sym e ∙ ea) ∙ m))
+
       go : Ways → table ≡ t
       go (unlawful l ea eb et) = et
       go (early l r er ea eb et) = et
-      go (late l h d x r o ea eb et) = et
+      go (late l h d x r o ea eb et) = left-by r ea et
       go (taken l h d x ea eb) = absurd (not-both n h answer e ea)
+
+  repeat-counted : answer ≡ refused 8 → RepeatCounted clock (sessionOf key s) t table
+  repeat-counted e = go way
+    where
+      eight : (n : ℕ) → answer ≡ refused n → n ≡ 8
+      eight n ea = refused-same n 8 (sym ea ∙ e)
+
+      left-by : (r : Refusal) → answer ≡ refused (refusalNumber r) → TableLeft method key client clock peer s t out (refusalNumber r)
+          → RepeatCounted clock (sessionOf key s) t table
+      left-by r ea (kept n et) = absurd (n (eight (refusalNumber r) ea))
+      left-by r ea (counted m et) = et
+
+      go : Ways → RepeatCounted clock (sessionOf key s) t table
+      go (unlawful l ea eb et) = absurd (let z = eight 1 ea in omega arith)
+      go (early l r er ea eb et) = absurd (early-not-eight r (of-reader r er) (eight (refusalNumber r) ea))
+      go (late l h d x r o ea eb et) = left-by r ea et
+      go (taken l h d x ea eb) = absurd (not-both 8 h answer e ea)
 
   retention-kept : retention table ≡ retention t
   unfolding openTable
@@ -161,7 +188,7 @@ module _ (method : ℕ) (key : List ℕ) (client : Option ℕ) (clock : ℕ) (pe
     where
       kept-by : (e : Entry) → retention (keep e t) ≡ retention t
       kept-by (stores i r) = retention-store t i r
-      kept-by replay = refl
+      kept-by (replay i) = retention-repeated t i
       kept-by full = refl
 
       go : (b : Bool) (d : Decision Header) → retention (cond b (tableNextBy d t (callOf clock peer s out client)) t) ≡ retention t
@@ -243,6 +270,7 @@ module _ (method : ℕ) (key : List ℕ) (client : Option ℕ) (clock : ℕ) (pe
         answered = answered;
         stage = stage method key s t out;
         refused-keeps-table = refused-keeps-table;
+        repeat-counted = repeat-counted;
         retention-kept = retention-kept;
         untouched-before-tag = untouched-before-tag;
         refused-before-tag = refused-before-tag;

@@ -1,21 +1,23 @@
 -- The ways out of a call that opens a datagram, and what each leaves; and which refusals there are.
 -- Assumes nothing.
 use mathlib.Core.Path.{_≡_, refl, sym, ap, ap₂, _∙_}
-use mathlib.Core.Bool.{Bool, true, false, cond}
+use mathlib.Core.Logic.{_≢_}
+use mathlib.Core.Bool.{Bool, true, false, cond, false≢true}
 use mathlib.Core.List.{List}
 use mathlib.Core.Option.{Option, none, some}
-use Prim.Native.Nat.{ℕ, _+_, _-_}
+use Prim.Native.Nat.{ℕ, _+_, _-_, _*_, _^_, min}
 use native.Mathlib.Omega.{arith}
 use lib.Dec.{eqb, leb}
-use lib.ListN.{length, getD, replicate, length-replicate}
+use lib.ListN.{length, getD, set, replicate, length-replicate}
 use Rattle.octets.specs.Buffers.{put}
 use Rattle.octets.proofs.BufferLaws.{put-again}
 use Rattle.session_record.specs.declared.Peer.{Peer}
-use Rattle.session_table.specs.Table.{recordAt, lawful, freshIn, acceptIn, sessionPlace, freePlace, Entry, stores, replay, full, meetBy, meet, keep, admitted}
+use Rattle.session_record.specs.Record.{oneMore}
+use Rattle.session_table.specs.Table.{start, recordAt, repeated, lawful, freshIn, acceptIn, sessionPlace, freePlace, Entry, stores, replay, full, meetBy, meet, keep, admitted}
 use Rattle.session_book.specs.Call.{Answer, refused, opened}
 use Rattle.protocol.specs.Method.{keyFits}
 use Rattle.protocol.specs.declared.Refusal.{Refusal}
-use Rattle.protocol.specs.declared.Refusal.the-variants.{Settings, Length, Room, NotAuthentic, Malformed, WrongType, WrongTime, Replay, Full, Binding}
+use Rattle.protocol.specs.declared.Refusal.the-variants.{Settings, Length, Room, NotAuthentic, Malformed, WrongType, WrongTime, Replay, Full, More, Counter, Argument, Binding}
 use Rattle.protocol.specs.Refusal.{refusalNumber}
 use Rattle.protocol.specs.Time.{timeValid}
 use Rattle.socks5.specs.declared.Parsed.{Parsed}
@@ -28,8 +30,8 @@ use Rattle.datagram_read.specs.declared.Opened.{Opened}
 use Rattle.datagram_read.specs.declared.Opened.the-variants.{Datagram, Refused}
 use Rattle.datagram_read.specs.Opening.{sessionOf, packetOf, timeOf, paddingOf, meant, headerWith, readAddress, readMain, lengthLawful, readBody, readAnswer, settled, readOut}
 use Rattle.datagram_open.specs.Deciding.{expected, openerOf, plainOf, answerOf, admittedAs, entered, openAnswer, openOut, openTable}
-use Rattle.demands.specs.Datagrams.{ofOpener, tagGood, Enters, fresh, begins}
-use Rattle.datagram_read.proofs.ReadLaws.{Opens, answer-tells, opens-room, opened-out, length-plain}
+use Rattle.demands.specs.Datagrams.{ofOpener, tagGood, RepeatCounted, Enters, fresh, begins}
+use Rattle.datagram_read.proofs.ReadLaws.{Opens, answer-tells, opens-room, opened-out, length-plain, header-session}
 use Rattle.datagram_open.proofs.CallLaws.{unlawful-call, refused-call, entered-call}
 
 -- ---- telling answers apart
@@ -44,6 +46,13 @@ isOpened (refused n) = 0
 
 pub opened-same : (g h : Header) → opened g ≡ opened h → g ≡ h
 opened-same g h e = ap (λ (a : Answer Header). headerIn a g) e
+
+abbrev numberIn : Answer Header → ℕ
+numberIn (opened h) = 0
+numberIn (refused n) = n
+
+pub refused-same : (m n : ℕ) → _≡_ {A = Answer Header} (refused m) (refused n) → m ≡ n
+refused-same m n e = ap numberIn e
 
 pub not-both : (n : ℕ) (h : Header) (a : Answer Header) → a ≡ refused n → a ≡ opened h → ⊥
 not-both n h a e f = let z : _≡_ {A = ℕ} 0 1 = ap isOpened (sym e ∙ f) in omega arith
@@ -64,11 +73,57 @@ not-read r h o e f = let z : _≡_ {A = ℕ} 0 1 = ap isRead (sym e ∙ f) in om
 
 -- ---- which refusals are given
 
+-- those before 8: what the arguments alone decide
+abbrev pub ofReader : Refusal → Bool
+ofReader Settings = true
+ofReader Length = true
+ofReader Room = true
+ofReader NotAuthentic = true
+ofReader Malformed = true
+ofReader WrongType = true
+ofReader WrongTime = true
+ofReader Replay = false
+ofReader Full = false
+ofReader (More wanted) = false
+ofReader Counter = false
+ofReader Argument = false
+ofReader Binding = true
+
+pub reader-opener : (r : Refusal) → ofReader r ≡ true → ofOpener r ≡ true
+reader-opener Settings e = refl
+reader-opener Length e = refl
+reader-opener Room e = refl
+reader-opener NotAuthentic e = refl
+reader-opener Malformed e = refl
+reader-opener WrongType e = refl
+reader-opener WrongTime e = refl
+reader-opener Replay e = refl
+reader-opener Full e = refl
+reader-opener (More wanted) e = e
+reader-opener Counter e = e
+reader-opener Argument e = e
+reader-opener Binding e = refl
+
+pub early-not-eight : (r : Refusal) → ofReader r ≡ true → refusalNumber r ≢ 8
+early-not-eight Settings e f = omega arith
+early-not-eight Length e f = omega arith
+early-not-eight Room e f = omega arith
+early-not-eight NotAuthentic e f = omega arith
+early-not-eight Malformed e f = omega arith
+early-not-eight WrongType e f = omega arith
+early-not-eight WrongTime e f = omega arith
+early-not-eight Replay e f = false≢true e
+early-not-eight Full e f = omega arith
+early-not-eight (More wanted) e f = omega arith
+early-not-eight Counter e f = omega arith
+early-not-eight Argument e f = omega arith
+early-not-eight Binding e f = omega arith
+
 abbrev pub among : Opened → Bool
 among (Datagram h) = true
-among (Refused r) = ofOpener r
+among (Refused r) = ofReader r
 
-among-pick : (b : Bool) (x : Opened) (r : Refusal) → among x ≡ true → ofOpener r ≡ true → among (cond b x (Refused r)) ≡ true
+among-pick : (b : Bool) (x : Opened) (r : Refusal) → among x ≡ true → ofReader r ≡ true → among (cond b x (Refused r)) ≡ true
 among-pick true x r e f = e
 among-pick false x r e f = f
 
@@ -99,15 +154,25 @@ among-answer method key side clock s out =
 
 abbrev isStored : Entry → ℕ
 isStored (stores i r) = 1
-isStored replay = 0
+isStored (replay i) = 0
 isStored full = 0
+
+abbrev isFull : Entry → ℕ
+isFull (stores i r) = 0
+isFull (replay i) = 0
+isFull full = 1
+
+abbrev replayPlace : ℕ → Entry → ℕ
+replayPlace other (stores i r) = other
+replayPlace other (replay i) = i
+replayPlace other full = other
 
 module _ (t : List ℕ) (clock : ℕ) (peer : Peer) (id p : ℕ) where
   enters-stored : Enters t clock id p → isStored (meet t clock peer id p) ≡ 1
   unfolding meet
   enters-stored (fresh i e f) =
       ap (λ (x : Option ℕ). isStored (meetBy x (freePlace t clock) t clock peer id p)) e
-      ∙ ap (λ (b : Bool). isStored (cond b (stores i (acceptIn clock peer p (recordAt t i))) replay)) f
+      ∙ ap (λ (b : Bool). isStored (cond b (stores i (acceptIn clock peer p (recordAt t i))) (replay i))) f
   enters-stored (begins i e f) = ap₂ (λ (x y : Option ℕ). isStored (meetBy x y t clock peer id p)) e f
 
   stored-enters : isStored (meet t clock peer id p) ≡ 1 → Enters t clock id p
@@ -115,7 +180,7 @@ module _ (t : List ℕ) (clock : ℕ) (peer : Peer) (id p : ℕ) where
   stored-enters e = go (sessionPlace t clock id) (freePlace t clock) refl refl e
     where
       alive : (i : ℕ) (b : Bool) → sessionPlace t clock id ≡ some i → freshIn (recordAt t i) p ≡ b
-          → isStored (cond b (stores i (acceptIn clock peer p (recordAt t i))) replay) ≡ 1 → Enters t clock id p
+          → isStored (cond b (stores i (acceptIn clock peer p (recordAt t i))) (replay i)) ≡ 1 → Enters t clock id p
       alive i true ex eb m = fresh i ex eb
       alive i false ex eb m = absurd (omega (arith, m))
 
@@ -123,6 +188,27 @@ module _ (t : List ℕ) (clock : ℕ) (peer : Peer) (id p : ℕ) where
       go (some i) y ex ey m = alive i (freshIn (recordAt t i) p) ex refl m
       go none (some i) ex ey m = begins i ex ey
       go none none ex ey m = absurd (omega (arith, m))
+
+  -- a repeat is one in the session's own record
+  replays-there : (i : ℕ) → meet t clock peer id p ≡ replay i → sessionPlace t clock id ≡ some i
+  unfolding meet
+  replays-there i e = go (sessionPlace t clock id) (freePlace t clock) refl e
+    where
+      alive : (j : ℕ) (b : Bool) → cond b (stores j (acceptIn clock peer p (recordAt t j))) (replay j) ≡ replay i → j ≡ i
+      alive j true m = absurd (let z : _≡_ {A = ℕ} 1 0 = ap isStored m in omega arith)
+      alive j false m = ap (replayPlace j) m
+
+      go : (x y : Option ℕ) → sessionPlace t clock id ≡ x → meetBy x y t clock peer id p ≡ replay i → sessionPlace t clock id ≡ some i
+      go (some j) y ex m = ex ∙ ap some (alive j (freshIn (recordAt t j) p) m)
+      go none (some j) ex m = absurd (let z : _≡_ {A = ℕ} 1 0 = ap isStored m in omega arith)
+      go none none ex m = absurd (let z : _≡_ {A = ℕ} 1 0 = ap isFull m in omega arith)
+
+-- what a repeat writes, with its numbers written out
+repeated-word : (t : List ℕ) (i : ℕ) → repeated t i ≡ set t (1 + 13 * i + 12) (min (getD t (1 + 13 * i + 12) 0 + 1) (2 ^ 64 - 1))
+unfolding oneMore
+repeated-word t i =
+    let e : start i + 12 ≡ 1 + 13 * i + 12 = omega arith in
+    ap (λ (k : ℕ). set t k (min (getD t k 0 + 1) (2 ^ 64 - 1))) e
 
 -- ---- the ways out of a call: the table is not lawful; refused by its arguments; refused by the table; accepted
 
@@ -146,12 +232,17 @@ module _ (method : ℕ) (key : List ℕ) (client : Option ℕ) (clock : ℕ) (pe
   abbrev zeros : List ℕ
   zeros = replicate (length s - 32) 0
 
+  -- the table that a refusal by the table leaves
+  pub data TableLeft (n : ℕ) : Type 0 where
+    kept : n ≢ 8 → table ≡ t → TableLeft n
+    counted : n ≡ 8 → RepeatCounted clock (sessionOf key s) t table → TableLeft n
+
   pub data Way : Type 0 where
     unlawful : lawful t ≡ false → answer ≡ refused 1 → buffer ≡ out → table ≡ t → Way
     early : lawful t ≡ true → (r : Refusal) → readAnswer method key side clock s out ≡ Refused r → answer ≡ refused (refusalNumber r)
         → buffer ≡ readOut method key side clock s out → table ≡ t → Way
     late : lawful t ≡ true → (h : Header) → Opens method key side clock s out h → (Enters t clock (h .session) (h .packet) → ⊥)
-        → (r : Refusal) → ofOpener r ≡ true → answer ≡ refused (refusalNumber r) → buffer ≡ put out 0 zeros → table ≡ t → Way
+        → (r : Refusal) → ofOpener r ≡ true → answer ≡ refused (refusalNumber r) → buffer ≡ put out 0 zeros → TableLeft (refusalNumber r) → Way
     taken : lawful t ≡ true → (h : Header) → Opens method key side clock s out h → Enters t clock (h .session) (h .packet)
         → answer ≡ opened h → buffer ≡ put out 0 (plainOf key s) → Way
 
@@ -205,10 +296,19 @@ module _ (method : ℕ) (key : List ℕ) (client : Option ℕ) (clock : ℕ) (pe
     by-meeting : (e : Entry) → meet t clock peer (h .session) (h .packet) ≡ e → Way
     by-meeting (stores i r) em =
         let m = met (stores i r) em in taken l h facts (goes-in (stores i r) em refl) (m .0) (m .1 .0)
-    by-meeting replay em =
-        let m = met replay em in late l h facts (stays-out replay em refl) Replay refl (m .0) (m .1 .0 ∙ cleared) (m .1 .1)
+    by-meeting (replay i) em =
+        let m = met (replay i) em in
+        late l h facts (stays-out (replay i) em refl) Replay refl (m .0) (m .1 .0 ∙ cleared)
+        (counted refl
+        (record {
+          place = i;
+          its-own = ap (sessionPlace t clock) (sym (header-session method key side clock s out h facts))
+              ∙ replays-there t clock peer (h .session) (h .packet) i em;
+          one-word = m .1 .1 ∙ repeated-word t i;
+        }))
     by-meeting full em =
-        let m = met full em in late l h facts (stays-out full em refl) Full refl (m .0) (m .1 .0 ∙ cleared) (m .1 .1)
+        let m = met full em in
+        late l h facts (stays-out full em refl) Full refl (m .0) (m .1 .0 ∙ cleared) (kept (omega arith) (m .1 .1))
 
   by-answer : lawful t ≡ true → (o : Opened) → readAnswer method key side clock s out ≡ o → Way
   by-answer l (Datagram h) eo = by-meeting l h eo (meet t clock peer (h .session) (h .packet)) refl

@@ -72,7 +72,7 @@ module _ (t : List ℕ) (c : Call) (id p : ℕ) (h : Header) (text : List ℕ) w
   meets = go (sessionPlace t (c .clock) id) (freePlace t (c .clock))
     where
       fresh : (i : ℕ) (b : Bool) (r : Record)
-          → saidOpened (report (cond b (stores i r) replay) c h text .answer)
+          → saidOpened (report (cond b (stores i r) (replay i)) c h text .answer)
           ≡ first (rule 8 (not b) ∷ rule 9 false ∷ []) h
       fresh i true r = refl
       fresh i false r = refl

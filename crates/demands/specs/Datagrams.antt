@@ -2,11 +2,12 @@
 -- datagram that was sealed here. For both methods and both sides; a server's call has no client session ID.
 -- Assumes nothing.
 use mathlib.Core.Path.{_≡_}
+use mathlib.Core.Logic.{_≢_}
 use mathlib.Core.Bool.{Bool, true, false}
 use mathlib.Core.List.{List}
 use mathlib.Core.Option.{Option, none, some}
-use Prim.Native.Nat.{ℕ, _+_, _-_, _^_, _≤_, _<_}
-use lib.ListN.{length, getD, drop, replicate}
+use Prim.Native.Nat.{ℕ, _+_, _-_, _*_, _^_, _≤_, _<_, min}
+use lib.ListN.{length, getD, set, drop, replicate}
 use Rattle.octets.specs.Buffers.{Octets, put}
 use Rattle.octets.specs.Numbers.{be}
 use Rattle.session_record.specs.declared.Peer.{Peer}
@@ -85,12 +86,22 @@ pub data Stage (method : ℕ) (key s t out : List ℕ) : Type 0 where
 
 -- ---- demand 1, of one call
 
+-- A repeat is counted, and nothing else is written: the record is the lowest one that is alive with the datagram's session ID, and
+-- of the whole table only its last word becomes another, one more than it was, up to 2^64 - 1.
+pub record RepeatCounted (clock id : ℕ) (t t′ : List ℕ) : Type 0 where
+  pub place : ℕ
+  pub its-own : sessionPlace t clock id ≡ some place
+  pub one-word : t′ ≡ set t (1 + 13 * place + 12) (min (getD t (1 + 13 * place + 12) 0 + 1) (2 ^ 64 - 1))
+
 pub record Keeps (method : ℕ) (key : List ℕ) (client : Option ℕ) (clock : ℕ) (peer : Peer) (s t out : List ℕ) : Type 0 where
   pub answered : Answered (openAnswer method key client clock peer s t out)
   pub stage : Stage method key s t out
-  -- no refusal changes the table
-  pub refused-keeps-table : (n : ℕ) → openAnswer method key client clock peer s t out ≡ refused n → openTable method key client clock peer s t out ≡ t
-  -- nor does any call change how long the table remembers
+  -- no refusal but 8 changes the table
+  pub refused-keeps-table : (n : ℕ) → n ≢ 8 → openAnswer method key client clock peer s t out ≡ refused n → openTable method key client clock peer s t out ≡ t
+  -- 8 counts a repeat in its own session
+  pub repeat-counted : openAnswer method key client clock peer s t out ≡ refused 8
+      → RepeatCounted clock (sessionOf key s) t (openTable method key client clock peer s t out)
+  -- no call changes how long the table remembers
   pub retention-kept : retention (openTable method key client clock peer s t out) ≡ retention t
   -- one given before the tag is good leaves the buffer
   pub untouched-before-tag : BeforeTag method key s t out → openOut method key client clock peer s t out ≡ out

@@ -1,5 +1,6 @@
--- Demand 3 for the openers: every list of their calls, from a new table, follows the plain book, and calls of equal clock may be
--- rearranged, each session's own in order. One claim about the whole list, for one method and key.
+-- Demand 3 for the openers: every list of their calls, from a new table, follows the plain book; calls of equal clock may be
+-- rearranged, each session's own in order; and a session's counts are those of its calls since it began. One claim about the whole
+-- list, for one method and key.
 -- Assumes nothing.
 use mathlib.Core.Path.{_≡_}
 use mathlib.Core.Bool.{true, false}
@@ -12,6 +13,7 @@ use Rattle.aes.specs.Keyed.{nkOf}
 use Rattle.aes_inverse.specs.InvCipher.{invAes}
 use Rattle.session_book.specs.Call.{Call}
 use Rattle.session_book.specs.Demand3.{FollowsBook, Rearrangement}
+use Rattle.session_book.specs.Counts.{CallsCounted}
 use Rattle.protocol.specs.Method.{keyFits}
 use Rattle.datagram_open.specs.Deciding.{decide, belongs}
 
@@ -28,4 +30,6 @@ pub record Demand3 (method : ℕ) (key : List ℕ) : Type 0 where
   pub follows-book : FollowsBook (decide method key)
   -- and the same after every rearrangement
   pub rearranges : Rearrangement (decide method key) (belongs method key)
+  -- the counts of a session alive are those of its calls since it began
+  pub counts : CallsCounted (decide method key) (belongs method key)
   pub membership : Membership method key

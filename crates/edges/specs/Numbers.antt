@@ -28,7 +28,7 @@ use Rattle.socks5.specs.declared.Parsed.the-variants.{Found, Malformed as NoAdd
 use Rattle.socks5.specs.Address.{parseAt, isAddress}
 use Rattle.session_window.specs.Window.{window, join4}
 use Rattle.session_table.specs.Sizes.{capacity}
-use Rattle.session_table.specs.Table.{Record, acceptIn, newRecord, recordWords, tableWords, start, retention, lawful, newTable, makeLawful, made, recordAt, wordsOf, store, live}
+use Rattle.session_table.specs.Table.{Record, acceptIn, newRecord, recordWords, tableWords, start, retention, lawful, newTable, makeLawful, made, recordAt, wordsOf, store, repeated, live}
 use Rattle.salt_pool.specs.Pool as pool
 use Rattle.session_book.specs.Call.{refused}
 use Rattle.session_book.specs.Demand3.{viewOfRecord}
@@ -107,16 +107,26 @@ methodFacts =
 
 -- ---- the session table
 
--- 11 words in the order of a record: in use, ID, h, last time, marks (4), address (2), port
+-- 13 words in the order of a record: in use, ID, h, last time, marks (4), address (2), port, accepted, repeats
 abbrev pub ones : List ℕ
-ones = 1 ∷ 2 ∷ 3 ∷ 4 ∷ 5 ∷ 6 ∷ 7 ∷ 8 ∷ 9 ∷ 10 ∷ 11 ∷ []
+ones = 1 ∷ 2 ∷ 3 ∷ 4 ∷ 5 ∷ 6 ∷ 7 ∷ 8 ∷ 9 ∷ 10 ∷ 11 ∷ 12 ∷ 13 ∷ []
 
 abbrev pub onesRecord : Record
 onesRecord =
-    record { used = 1; id = 2; h = 3; last = 4; marks = join4 5 6 7 8; peer = record { first = 9; second = 10; port = 11 } }
+    record {
+      used = 1;
+      id = 2;
+      h = 3;
+      last = 4;
+      marks = join4 5 6 7 8;
+      peer = record { first = 9; second = 10; port = 11 };
+      accepted = 12;
+      repeats = 13;
+    }
 
 abbrev pub fieldsOf : Record → List ℕ
-fieldsOf r = r .used ∷ r .id ∷ r .h ∷ r .last ∷ r .marks ∷ r .peer .first ∷ r .peer .second ∷ r .peer .port ∷ []
+fieldsOf r =
+    r .used ∷ r .id ∷ r .h ∷ r .last ∷ r .marks ∷ r .peer .first ∷ r .peer .second ∷ r .peer .port ∷ r .accepted ∷ r .repeats ∷ []
 
 -- a lent table of so many words, with this R
 abbrev pub lent : (words R : ℕ) → List ℕ
@@ -129,33 +139,37 @@ marked = recordAt (60 ∷ 1 ∷ 7 ∷ 300 ∷ 1000 ∷ 1 ∷ 8 ∷ 0 ∷ 2 ^ 63 
 abbrev pub record300 : Record
 record300 = newRecord 1000 home 7 300
 
+-- the words of `ones` with junk in the port word's high bits and these counts
+abbrev pub junk : (accepted repeats : ℕ) → List ℕ
+junk accepted repeats = 60 ∷ 1 ∷ 2 ∷ 3 ∷ 4 ∷ 5 ∷ 6 ∷ 7 ∷ 8 ∷ 9 ∷ 10 ∷ (2 ^ 63 + 80) ∷ accepted ∷ repeats ∷ []
+
 unfoldable pub tableFacts : List Fact
 tableFacts =
-    fact (capacity ∷ recordWords ∷ tableWords ∷ window ∷ []) (64 ∷ 11 ∷ 705 ∷ 256 ∷ [])
-    ∷ number (length (newTable 60)) 705
+    fact (capacity ∷ recordWords ∷ tableWords ∷ window ∷ []) (64 ∷ 13 ∷ 833 ∷ 256 ∷ [])
+    ∷ number (length (newTable 60)) 833
     ∷ fact (take 3 (newTable 60)) (60 ∷ 0 ∷ 0 ∷ [])
-    ∷ fact (start 0 ∷ start 1 ∷ start 63 ∷ []) (1 ∷ 12 ∷ 694 ∷ [])
-    -- R of 60 to 3,600 in a lent table of 705 words
-    ∷ fact (bits (lawful (lent 705 0) ∷ lawful (lent 705 59) ∷ lawful (lent 705 60) ∷ lawful (lent 705 3600) ∷ lawful (lent 705 3601) ∷ []))
+    ∷ fact (start 0 ∷ start 1 ∷ start 63 ∷ []) (1 ∷ 14 ∷ 820 ∷ [])
+    -- R of 60 to 3,600 in a lent table of 833 words
+    ∷ fact (bits (lawful (lent 833 0) ∷ lawful (lent 833 59) ∷ lawful (lent 833 60) ∷ lawful (lent 833 3600) ∷ lawful (lent 833 3601) ∷ []))
     (0 ∷ 0 ∷ 1 ∷ 1 ∷ 0 ∷ [])
-    ∷ fact (bits (lawful (lent 704 60) ∷ lawful (lent 706 60) ∷ [])) (0 ∷ 0 ∷ [])
+    ∷ fact (bits (lawful (lent 832 60) ∷ lawful (lent 834 60) ∷ lawful (lent 705 60) ∷ [])) (0 ∷ 0 ∷ 0 ∷ [])
     -- making: 0 stands for 300
     ∷ fact
-    (bits (makeLawful 0 (lent 705 7) ∷ makeLawful 1 (lent 705 7) ∷ makeLawful 59 (lent 705 7) ∷ makeLawful 60 (lent 705 7)
-    ∷ makeLawful 3600 (lent 705 7) ∷ makeLawful 3601 (lent 705 7) ∷ makeLawful 60 (lent 704 7) ∷ []))
-    (1 ∷ 0 ∷ 0 ∷ 1 ∷ 1 ∷ 0 ∷ 0 ∷ [])
+    (bits (makeLawful 0 (lent 833 7) ∷ makeLawful 1 (lent 833 7) ∷ makeLawful 59 (lent 833 7) ∷ makeLawful 60 (lent 833 7)
+    ∷ makeLawful 3600 (lent 833 7) ∷ makeLawful 3601 (lent 833 7) ∷ makeLawful 60 (lent 832 7) ∷ makeLawful 60 (lent 705 7) ∷ []))
+    (1 ∷ 0 ∷ 0 ∷ 1 ∷ 1 ∷ 0 ∷ 0 ∷ 0 ∷ [])
     ∷ fact
-    (retention (made 0 (lent 705 7)) ∷ retention (made 60 (lent 705 7)) ∷ retention (made 3600 (lent 705 7)) ∷ retention (made 59 (lent 705 7)) ∷ [])
+    (retention (made 0 (lent 833 7)) ∷ retention (made 60 (lent 833 7)) ∷ retention (made 3600 (lent 833 7)) ∷ retention (made 59 (lent 833 7)) ∷ [])
     (300 ∷ 60 ∷ 3600 ∷ 7 ∷ [])
     -- last time 1,000: a table made with 0 has it alive at 1,300 and not at 1,301, one made with 60 at 1,060 and not at 1,061
     ∷ fact
-    (bits (live (retention (made 0 (lent 705 7))) 1300 record300 ∷ live (retention (made 0 (lent 705 7))) 1301 record300
-    ∷ live (retention (made 60 (lent 705 7))) 1060 record300 ∷ live (retention (made 60 (lent 705 7))) 1061 record300 ∷ []))
+    (bits (live (retention (made 0 (lent 833 7))) 1300 record300 ∷ live (retention (made 0 (lent 833 7))) 1301 record300
+    ∷ live (retention (made 60 (lent 833 7))) 1060 record300 ∷ live (retention (made 60 (lent 833 7))) 1061 record300 ∷ []))
     (1 ∷ 0 ∷ 1 ∷ 0 ∷ [])
     -- the words of a record, written and read, and where the second record stands
     ∷ fact (wordsOf onesRecord) ones
-    ∷ fact (take 13 (drop 11 (store (newTable 60) 1 onesRecord))) (0 ∷ ones ++ (0 ∷ []))
-    ∷ fact (fieldsOf (recordAt (60 ∷ ones) 0)) (1 ∷ 2 ∷ 3 ∷ 4 ∷ (5 + 2 ^ 64 * (6 + 2 ^ 64 * (7 + 2 ^ 64 * 8))) ∷ 9 ∷ 10 ∷ 11 ∷ [])
+    ∷ fact (take 15 (drop 13 (store (newTable 60) 1 onesRecord))) (0 ∷ ones ++ (0 ∷ []))
+    ∷ fact (fieldsOf (recordAt (60 ∷ ones) 0)) (1 ∷ 2 ∷ 3 ∷ 4 ∷ (5 + 2 ^ 64 * (6 + 2 ^ 64 * (7 + 2 ^ 64 * 8))) ∷ 9 ∷ 10 ∷ 11 ∷ 12 ∷ 13 ∷ [])
     -- a port is the low 16 bits of its word
     ∷ number (recordAt (60 ∷ 1 ∷ 2 ∷ 3 ∷ 4 ∷ 5 ∷ 6 ∷ 7 ∷ 8 ∷ 9 ∷ 10 ∷ 65616 ∷ []) 0 .peer .port) 80
     -- a record is in use where its word is not 0
@@ -164,11 +178,21 @@ tableFacts =
     ∷ fact
     (bits (viewOfRecord marked .marked 300 ∷ viewOfRecord marked .marked 299 ∷ viewOfRecord marked .marked 233 ∷ viewOfRecord marked .marked 45 ∷ viewOfRecord marked .marked 46 ∷ []))
     (1 ∷ 0 ∷ 1 ∷ 1 ∷ 0 ∷ [])
-    -- a new session: in use is 1, h is the packet ID, which alone is marked
-    ∷ fact (wordsOf (newRecord 1000 (callerOf 8 9 80) 7 300)) (1 ∷ 7 ∷ 300 ∷ 1000 ∷ 1 ∷ 0 ∷ 0 ∷ 0 ∷ 8 ∷ 9 ∷ 80 ∷ [])
-    -- acceptance: the larger of the old time and the clock, where that goes back and where it goes on, and the caller's address
-    ∷ fact (wordsOf (acceptIn 990 (callerOf 8 9 80) 301 record300)) (1 ∷ 7 ∷ 301 ∷ 1000 ∷ 3 ∷ 0 ∷ 0 ∷ 0 ∷ 8 ∷ 9 ∷ 80 ∷ [])
-    ∷ fact (wordsOf (acceptIn 1010 (callerOf 8 9 80) 299 record300)) (1 ∷ 7 ∷ 300 ∷ 1010 ∷ 3 ∷ 0 ∷ 0 ∷ 0 ∷ 8 ∷ 9 ∷ 80 ∷ [])
+    -- a new session: in use is 1, h is the packet ID, which alone is marked; it accepted one datagram, and there is no repeat
+    ∷ fact (wordsOf (newRecord 1000 (callerOf 8 9 80) 7 300)) (1 ∷ 7 ∷ 300 ∷ 1000 ∷ 1 ∷ 0 ∷ 0 ∷ 0 ∷ 8 ∷ 9 ∷ 80 ∷ 1 ∷ 0 ∷ [])
+    -- acceptance: the larger of the old time and the clock, where that goes back and where it goes on, the caller's address, and one
+    -- more accepted
+    ∷ fact (wordsOf (acceptIn 990 (callerOf 8 9 80) 301 record300)) (1 ∷ 7 ∷ 301 ∷ 1000 ∷ 3 ∷ 0 ∷ 0 ∷ 0 ∷ 8 ∷ 9 ∷ 80 ∷ 2 ∷ 0 ∷ [])
+    ∷ fact (wordsOf (acceptIn 1010 (callerOf 8 9 80) 299 record300)) (1 ∷ 7 ∷ 300 ∷ 1010 ∷ 3 ∷ 0 ∷ 0 ∷ 0 ∷ 8 ∷ 9 ∷ 80 ∷ 2 ∷ 0 ∷ [])
+    -- a repeat: its count and no other word, and that of its own record
+    ∷ fact (repeated (junk 12 13) 0) (junk 12 14)
+    ∷ fact (take 28 (repeated (junk 12 13 ++ ones) 1)) (junk 12 13 ++ (1 ∷ 2 ∷ 3 ∷ 4 ∷ 5 ∷ 6 ∷ 7 ∷ 8 ∷ 9 ∷ 10 ∷ 11 ∷ 12 ∷ 14 ∷ []))
+    -- both counts stop at 2^64 - 1
+    ∷ fact (repeated (junk 12 (2 ^ 64 - 2)) 0) (junk 12 (2 ^ 64 - 1))
+    ∷ fact (repeated (junk 12 (2 ^ 64 - 1)) 0) (junk 12 (2 ^ 64 - 1))
+    ∷ fact
+    (acceptIn 1000 home 300 (recordAt (junk (2 ^ 64 - 2) 13) 0) .accepted ∷ acceptIn 1000 home 300 (recordAt (junk (2 ^ 64 - 1) 13) 0) .accepted ∷ [])
+    ((2 ^ 64 - 1) ∷ (2 ^ 64 - 1) ∷ [])
     ∷ []
 
 -- ---- the salt pool

@@ -22,7 +22,7 @@ ghost use Rattle.words.specs.Answers.{answerWords};
 ghost use Rattle.relay.specs.Datagrams.{settingsNumber, begins, sealsDatagram, openedNumber, openedWords, opensDatagram};
 ghost use Rattle.relay.specs.Datagrams.{callerOf};
 
-// Makes a session table of 705 words, with a retention of 60 to 3,600 seconds; 0 stands for 60.
+// Makes a session table of 833 words, with a retention of 60 to 3,600 seconds; 0 stands for 300.
 #[no_mangle]
 pub extern "C" fn relay_table_new(retention: u64, table: &mut [u64]) -> u64
     ensures { λ r. ⌜ r ≡ settingsNumber (makeLawful retention (now (table .entry))) ⌝ }

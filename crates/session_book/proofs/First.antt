@@ -66,7 +66,7 @@ run {H} decide R lo hi (c ∷ cs) u t b s ports forward =
 -- ---- the sessions alive
 
 session-same : (r : Record) (q : Page) → Match r q → viewOfRecord r ≡ viewOfPage q
-session-same r q m = λ k. record { h = m .h k; marked = marked k; last = m .last k; peer = m .peer k }
+session-same r q m = λ k. record { h = m .h k; marked = marked k; last = m .last k; peer = m .peer k; accepted = accepted k; repeats = repeats k }
   where
     at : (p : ℕ) (x : Bool) → leb p (q .h) ≡ x → (y : Bool) → ltb (q .h - p) window ≡ y
         → x && (y && bit (r .marks) (q .h - p)) ≡ y && member p (q .accepted)
@@ -81,12 +81,18 @@ session-same r q m = λ k. record { h = m .h k; marked = marked k; last = m .las
         pick false g = g
     at p false e false f = refl
 
+    accepted : viewOfRecord r .accepted ≡ viewOfPage q .accepted
+    accepted = search (m .accepted)
+
+    repeats : viewOfRecord r .repeats ≡ viewOfPage q .repeats
+    repeats = search (m .repeats)
+
     marked : viewOfRecord r .marked ≡ viewOfPage q .marked
     marked =
         fun-ext (λ p. ap (λ (n : ℕ). leb p n && (ltb (n - p) window && bit (r .marks) (n - p))) (m .h)
         ∙ at p (leb p (q .h)) refl (ltb (q .h - p) window) refl)
 
-sessions : (R u : ℕ) (t : List ℕ) (b : List Page) → State R u t b → (id : ℕ) → tableSession t u id ≡ bookSession R b u id
+pub sessions : (R u : ℕ) (t : List ℕ) (b : List Page) → State R u t b → (id : ℕ) → tableSession t u id ≡ bookSession R b u id
 unfolding sessionPlace
 sessions R u t b s id =
     subst (λ (r : ℕ). Option·map (λ i. viewOfRecord (recordAt t i)) (lowest (λ i. holds r u id (recordAt t i))) ≡ bookSession R b u id) (sym (s .retains))

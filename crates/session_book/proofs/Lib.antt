@@ -10,4 +10,5 @@ pub mod Words
 pub mod Refine
 pub mod Step
 pub mod First
+pub mod Counts
 pub mod Demand3

@@ -69,7 +69,7 @@ livingOf-some-later R t u id (x ∷ b) q h d e = go (livingOf-some-later R t u i
     go ih false z f k g = omega (arith, ih (omega arith) g)
 
 -- with one page for an ID, the one found later was found before
-page-earlier : (R t u id : ℕ) (b : List Page) (q : Page) → t ≤ u → held id b ≤ 1 → page R u id b ≡ some q → page R t id b ≡ some q
+pub page-earlier : (R t u id : ℕ) (b : List Page) (q : Page) → t ≤ u → held id b ≤ 1 → page R u id b ≡ some q → page R t id b ≡ some q
 page-earlier R t u id b q h d e = go (page R t id b) refl
   where
     counted : livingOf R u id b ≡ one (pageAlive R u q)

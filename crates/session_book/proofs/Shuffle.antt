@@ -17,10 +17,10 @@ use Rattle.session_book.proofs.Swap.{outcome-same, next-same, distinct-
 
 -- ---- lists
 
-cons-head : {A : Type 0} {x y : A} {l m : List A} → x ∷ l ≡ y ∷ m → x ≡ y
+pub cons-head : {A : Type 0} {x y : A} {l m : List A} → x ∷ l ≡ y ∷ m → x ≡ y
 cons-head {A} {x} e = cc
 
-cons-tail : {A : Type 0} {x y : A} {l m : List A} → x ∷ l ≡ y ∷ m → l ≡ m
+pub cons-tail : {A : Type 0} {x y : A} {l m : List A} → x ∷ l ≡ y ∷ m → l ≡ m
 cons-tail e = cc
 
 -- y is in the list

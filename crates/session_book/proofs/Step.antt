@@ -11,9 +11,9 @@ use lib.ListN.{length}
 use Rattle.records.proofs.SearchLaws.{lowest-found, lowest-none}
 use Rattle.session_record.specs.declared.Peer.{Peer}
 use Rattle.session_table.specs.Sizes.{capacity}
-use Rattle.session_table.specs.Table.{Record, tableWords, retention, recordAt, store, acceptIn, newRecord, lowest, live, holds, sessionPlace, freePlace, Entry, stores, meetBy, meet, keep}
+use Rattle.session_table.specs.Table.{Record, tableWords, retention, recordAt, store, repeated, acceptIn, newRecord, lowest, live, holds, sessionPlace, freePlace, Entry, stores, meetBy, meet, keep}
 use Rattle.session_book.specs.Call.{Call, Decision, early, reaches}
-use Rattle.session_book.specs.Book.{Page, one, pageAlive, page, living, most, crowded, without, fresh, accept, newPage, BookEntry, enters, judge, judgeBy, turn, tell, outcomeBy, nextBy}
+use Rattle.session_book.specs.Book.{Page, one, pageAlive, page, living, most, crowded, without, fresh, accept, refuse, newPage, BookEntry, enters, judge, judgeBy, turn, tell, outcomeBy, nextBy}
 use Rattle.session_book.specs.Runs.{report, tableOutcomeBy, tableNextBy}
 use Rattle.session_book.specs.Book as B
 use Rattle.session_table.specs.Table as W
@@ -21,8 +21,8 @@ use borrow.Author.Tests.{le-leb, lt-leb, not-true}
 use Rattle.session_book.proofs.Pages.{livingOf, page-alive}
 use Rattle.session_book.proofs.Swap.{accept-alive, new-alive}
 use Rattle.session_book.proofs.Search.{tally-all, tally-some}
-use Rattle.session_book.proofs.Window.{Match, fresh-same, match-accept, match-new}
-use Rattle.session_book.proofs.Words.{record-other, record-same, retention-store, length-store}
+use Rattle.session_book.proofs.Window.{Match, fresh-same, match-accept, match-new, match-repeat}
+use Rattle.session_book.proofs.Words.{record-other, record-same, retention-store, length-store, repeatIn, repeated-other, repeated-same, retention-repeated, length-repeated}
 use Rattle.session_book.proofs.Refine.{Found, Rel, inUse, alive-same, later, put, holds-live, holds-id, live-after, livingOf-none-later, livingOf-some-later}
 
 module _ (R u : ℕ) (t : List ℕ) (b : List Page) (rel : Rel R u (recordAt t) b) (len : length t ≡ tableWords) (a : Peer) (port : a .port < 2 ^ 16) (id p : ℕ) where
@@ -56,7 +56,8 @@ module _ (R u : ℕ) (t : List ℕ) (b : List Page) (rel : Rel R u (recordAt t) 
       → Agree (meetBy (some i) free t u a id p) (judge R b u a id p)
   known i l h free =
       subst (λ (o : Option Page). Agree (meetBy (some i) free t u a id p) (judgeBy o (crowded R u b) u a id p)) (sym isPage)
-      (subst (λ (x : Bool). Agree (cond x (stores i (acceptIn u a p (recordAt t i))) W.replay) (cond (fresh (f .it) p) (enters (accept u a id p (f .it))) B.replay))
+      (subst (λ (x : Bool). Agree (cond x (stores i (acceptIn u a p (recordAt t i))) (W.replay i))
+      (cond (fresh (f .it) p) (enters (accept u a id p (f .it))) (B.replay (refuse id p (f .it)))))
       (sym (fresh-same (recordAt t i) (f .it) (f .matches) p)) (go (fresh (f .it) p) refl))
     where
       f : Found R u (recordAt t i) b
@@ -83,11 +84,20 @@ module _ (R u : ℕ) (t : List ℕ) (b : List Page) (rel : Rel R u (recordAt t) 
           livingOf-some-later R u w id b (f .it) g (rel .distinct id) isPage
           ∙ sym (ap₂ (λ (x y : Bool). one (x && y)) used (alive-same R w (recordAt t i) (f .it) (f .matches)))
 
-      go : (x : Bool) → fresh (f .it) p ≡ x → Agree (cond x (stores i (acceptIn u a p (recordAt t i))) W.replay) (cond x (enters (accept u a id p (f .it))) B.replay)
+      go : (x : Bool) → fresh (f .it) p ≡ x
+          → Agree (cond x (stores i (acceptIn u a p (recordAt t i))) (W.replay i)) (cond x (enters (accept u a id p (f .it))) (B.replay (refuse id p (f .it))))
       go true e =
           stored i l (acceptIn u a p (recordAt t i)) (accept u a id p (f .it)) (match-accept (recordAt t i) (f .it) (f .matches) u a id p isId (f .past) e)
           used (accept-alive R u a id p (f .it) (page-alive R u id b (f .it) isPage)) (le-refl u) refl refl alone (λ _. isId) counted
-      go false e = record { says = λ c hd pl. refl; leaves = rel; sameLength = refl; sameRetention = refl }
+      go false e =
+          record {
+            says = λ c hd pl. refl;
+            leaves = put R u (recordAt t) (recordAt (repeated t i)) b rel i l (repeatIn (recordAt t i)) (refuse id p (f .it))
+                (match-repeat (recordAt t i) (f .it) (f .matches) id p isId) used (page-alive R u id b (f .it) isPage) (f .past)
+                (repeated-same t i len l) (λ j _ n. repeated-other t i j n) alone (λ _. isId) counted;
+            sameLength = length-repeated t i;
+            sameRetention = retention-repeated t i;
+          }
 
   -- the book has no room exactly where no record is free
   room : (i : ℕ) → lowest (λ i. not (live R u (recordAt t i))) ≡ some i → crowded R u b ≡ false

@@ -9,7 +9,7 @@ use Prim.Native.Nat.{ℕ, _+_, _≤_}
 use native.Mathlib.Omega.{arith}
 use Rattle.session_record.specs.declared.Peer.{Peer}
 use Rattle.session_book.specs.Call.{Call, refused, Decision, early, reaches}
-use Rattle.session_book.specs.Book.{Page, page, living, without, until, pageAlive, most, crowded, fresh, accept, newPage, BookEntry, enters, replay, full, judge, judgeBy, turn, tell, outcomeBy, nextBy}
+use Rattle.session_book.specs.Book.{Page, page, living, without, until, pageAlive, most, crowded, fresh, accept, refuse, newPage, BookEntry, enters, replay, full, judge, judgeBy, turn, tell, outcomeBy, nextBy}
 use borrow.Author.Tests.{leb-true, leb-false, le-leb, lt-leb}
 use Rattle.session_book.proofs.Pages.{Distinct, distinct-put, page-put, living-put-new, living-put-old, Same, skip, same-refl, page-same, living-same, page-alive, without-same, put-put}
 
@@ -23,7 +23,7 @@ judge-same R t id p a {b} {b′} s = ap₂ (λ o x. judgeBy o x t a id p) (page-
 
 turn-same : (e : BookEntry) (id : ℕ) {b b′ : List Page} → Same b b′ → Same (turn e id b) (turn e id b′)
 turn-same (enters q) id s = skip (without-same id s)
-turn-same replay id s = s
+turn-same (replay q) id s = skip (without-same id s)
 turn-same full id s = s
 
 pub outcome-same : {H : Type 0} (d : Decision H) (R : ℕ) (c : Call) {b b′ : List Page} → Same b b′ → outcomeBy d R b c ≡ outcomeBy d R b′ c
@@ -36,19 +36,19 @@ next-same (reaches id p hd pl) R c {b} {b′} s =
     subst (λ (e : BookEntry). Same (turn (judge R b (c .clock) (c .peer) id p) id b) (turn e id b′)) (judge-same R (c .clock) id p (c .peer) s)
     (turn-same (judge R b (c .clock) (c .peer) id p) id s)
 
--- ---- what an entry is: the page that enters has the ID of its call
+-- ---- what an entry is: its page has the ID of its call
 
 abbrev pub Made : (id : ℕ) → BookEntry → Type 0
 Made id (enters q) = q .id ≡ id
-Made id replay = Unit {0}
+Made id (replay q) = q .id ≡ id
 Made id full = Unit {0}
 
 made-by : (o : Option Page) (noRoom : Bool) (t : ℕ) (a : Peer) (id p : ℕ) → Made id (judgeBy o noRoom t a id p)
 made-by (some q) noRoom t a id p = go (fresh q p)
   where
-    go : (x : Bool) → Made id (cond x (enters (accept t a id p q)) replay)
+    go : (x : Bool) → Made id (cond x (enters (accept t a id p q)) (replay (refuse id p q)))
     go true = refl
-    go false = tt
+    go false = refl
 made-by none true t a id p = tt
 made-by none false t a id p = refl
 
@@ -64,7 +64,7 @@ new-alive R t a i p = le-leb t (until R (newPage t a i p)) (omega arith)
 
 distinct-turn : (id : ℕ) (e : BookEntry) → Made id e → (b : List Page) → Distinct b → Distinct (turn e id b)
 distinct-turn id (enters q) m b d = subst (λ (i : ℕ). Distinct (q ∷ without i b)) m (distinct-put q b d)
-distinct-turn id replay m b d = d
+distinct-turn id (replay q) m b d = subst (λ (i : ℕ). Distinct (q ∷ without i b)) m (distinct-put q b d)
 distinct-turn id full m b d = d
 
 pub distinct-next : {H : Type 0} (d : Decision H) (R : ℕ) (c : Call) (b : List Page) → Distinct b → Distinct (nextBy d R b c)
@@ -73,10 +73,11 @@ distinct-next (reaches id p hd pl) R c b h =
     distinct-turn id (judge R b (c .clock) (c .peer) id p) (made R b (c .clock) (c .peer) id p) b h
 
 -- an entry of one session leaves the page of another
-page-turn : (R t i j : ℕ) (e : BookEntry) → Made i e → (b : List Page) → i ≢ j → page R t j (turn e i b) ≡ page R t j b
+pub page-turn : (R t i j : ℕ) (e : BookEntry) → Made i e → (b : List Page) → i ≢ j → page R t j (turn e i b) ≡ page R t j b
 page-turn R t i j (enters q) m b n =
     subst (λ (k : ℕ). page R t j (q ∷ without k b) ≡ page R t j b) m (page-put R t j q b (λ h. n (sym m ∙ h)))
-page-turn R t i j replay m b n = refl
+page-turn R t i j (replay q) m b n =
+    subst (λ (k : ℕ). page R t j (q ∷ without k b) ≡ page R t j b) m (page-put R t j q b (λ h. n (sym m ∙ h)))
 page-turn R t i j full m b n = refl
 
 -- how many more are alive after an entry
@@ -89,9 +90,9 @@ living-turn : (R t i p : ℕ) (a : Peer) (b : List Page) → Distinct b
     → living R t (turn (judge R b t a i p) i b) ≡ living R t b + gain (page R t i b) (crowded R t b)
 living-turn R t i p a b d = go (page R t i b) (crowded R t b) refl
   where
-    inner : (q : Page) → page R t i b ≡ some q → (y : Bool) → living R t (turn (cond y (enters (accept t a i p q)) replay) i b) ≡ living R t b + 0
+    inner : (q : Page) → page R t i b ≡ some q → (y : Bool) → living R t (turn (cond y (enters (accept t a i p q)) (replay (refuse i p q))) i b) ≡ living R t b + 0
     inner q e true = omega (arith, living-put-old R t (accept t a i p q) q b d (accept-alive R t a i p q (page-alive R t i b q e)) e)
-    inner q e false = omega arith
+    inner q e false = omega (arith, living-put-old R t (refuse i p q) q b d (page-alive R t i b q e) e)
 
     go : (o : Option Page) (x : Bool) → page R t i b ≡ o → living R t (turn (judgeBy o x t a i p) i b) ≡ living R t b + gain o x
     go (some q) x e = inner q e (fresh q p)
@@ -175,17 +176,20 @@ module _ (R t i j px py : ℕ) (ax ay : Peer) (b : List Page) (d : Distinct b) (
         ap (λ o. judgeBy o (crowded R t b₂) t ax i px) same₂
         ∙ judge-room (page R t i b) (crowded R t b) (crowded R t b₂) t ax i px nx room
 
-  turns : (e f : BookEntry) → Made i e → Made j f → Same (turn f j (turn e i b)) (turn e i (turn f j b))
-  turns (enters q) (enters r) m k =
+  puts : (q r : Page) → q .id ≡ i → r .id ≡ j → Same (r ∷ without j (q ∷ without i b)) (q ∷ without i (r ∷ without j b))
+  puts q r m k =
       subst₂ (λ (x y : ℕ). Same (r ∷ without y (q ∷ without x b)) (q ∷ without x (r ∷ without y b))) m k
       (put-put r q b (λ e. n (sym m ∙ sym e ∙ k)))
-  turns (enters q) replay m k = same-refl _
+
+  turns : (e f : BookEntry) → Made i e → Made j f → Same (turn f j (turn e i b)) (turn e i (turn f j b))
+  turns (enters q) (enters r) m k = puts q r m k
+  turns (enters q) (replay r) m k = puts q r m k
   turns (enters q) full m k = same-refl _
-  turns replay (enters r) m k = same-refl _
-  turns replay replay m k = same-refl _
-  turns replay full m k = same-refl _
+  turns (replay q) (enters r) m k = puts q r m k
+  turns (replay q) (replay r) m k = puts q r m k
+  turns (replay q) full m k = same-refl _
   turns full (enters r) m k = same-refl _
-  turns full replay m k = same-refl _
+  turns full (replay r) m k = same-refl _
   turns full full m k = same-refl _
 
 -- ---- the same of two calls

@@ -10,9 +10,11 @@ use lib.Dec.{ltb, eqb, lit<}
 use lib.Pow.{pow-pos}
 use Rattle.session_record.specs.declared.Peer.{Peer}
 use Rattle.session_window.specs.Window.{window, bit}
+use Rattle.session_record.specs.Record.{oneMore}
 use Rattle.session_table.specs.Table.{Record, freshIn, markedWith, acceptIn, newRecord}
-use Rattle.session_book.specs.Book.{Page, member, fresh, accept, newPage}
+use Rattle.session_book.specs.Book.{Page, member, fresh, counted, accept, refuse, newPage}
 use borrow.Author.Tests.{ltb-true, ltb-false, eqb-true, eqb-false, eq-eqb, ne-eqb, not-true}
+use Rattle.session_book.proofs.Words.{repeatIn}
 use Rattle.session_book.proofs.Bits.{bit-zero, bit-suc, moved-zero, moved-low, moved-high, bit-cut, set-same, set-other, set-fits}
 
 -- the record of a page
@@ -21,6 +23,8 @@ pub record Match (r : Record) (q : Page) : Type 0 where
   pub h : r .h ≡ q .h
   pub last : r .last ≡ q .last
   pub peer : r .peer ≡ q .peer
+  pub accepted : r .accepted ≡ q .acceptances
+  pub repeats : r .repeats ≡ q .repeats
   pub marks : (d : ℕ) → d < window → d ≤ q .h → bit (r .marks) d ≡ member (q .h - d) (q .accepted)
   pub fits : r .marks < 2 ^ window
   pub below : (p : ℕ) → member p (q .accepted) ≡ true → p ≤ q .h
@@ -85,6 +89,11 @@ below-more p q b j e = go (eqb p j) refl e
     go true f g = omega (arith, eqb-true p j f)
     go false f g = omega (arith, b j g)
 
+-- both count alike
+one-more : (m n : ℕ) → m ≡ n → oneMore m ≡ counted n
+unfolding oneMore
+one-more m n e = ap counted e
+
 pub match-accept : (r : Record) (q : Page) → Match r q → (t : ℕ) (a : Peer) (i p : ℕ) → r .id ≡ i → q .last ≤ t → fresh q p ≡ true
     → Match (acceptIn t a p r) (accept t a i p q)
 match-accept r q m t a i p isId l f =
@@ -93,6 +102,8 @@ match-accept r q m t a i p isId l f =
       h = ap (λ (x : ℕ). max x p) (m .h);
       last = ap (λ (x : ℕ). max x t) (m .last) ∙ max-eq-right l;
       peer = refl;
+      accepted = one-more (r .accepted) (q .acceptances) (m .accepted);
+      repeats = m .repeats;
       marks = λ d w k. marks d w k (ltb (q .h) p) refl;
       fits = subst (λ (x : ℕ). markedWith (r .marks) x p < 2 ^ window) (sym (m .h)) (fits (ltb (q .h) p) refl);
       below = below-more p q (m .below);
@@ -159,6 +170,8 @@ match-new t a i p =
       h = refl;
       last = refl;
       peer = refl;
+      accepted = refl;
+      repeats = refl;
       marks = λ d w k. marks d k;
       fits = lit< tt;
       below = λ j e. below j (eqb p j) refl e;
@@ -171,3 +184,19 @@ match-new t a i p =
     below : (j : ℕ) (x : Bool) → eqb p j ≡ x → (eqb p j || false) ≡ true → j ≤ p
     below j true e f = omega (arith, eqb-true p j e)
     below j false e f = absurd (false≢true (sym e ∙ sym (or-false (eqb p j)) ∙ f))
+
+-- ---- a repeat
+
+pub match-repeat : (r : Record) (q : Page) → Match r q → (i p : ℕ) → r .id ≡ i → Match (repeatIn r) (refuse i p q)
+match-repeat r q m i p isId =
+    record {
+      id = isId;
+      h = m .h;
+      last = m .last;
+      peer = m .peer;
+      accepted = m .accepted;
+      repeats = one-more (r .repeats) (q .repeats) (m .repeats);
+      marks = m .marks;
+      fits = m .fits;
+      below = m .below;
+    }

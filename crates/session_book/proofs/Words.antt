@@ -8,14 +8,15 @@ use native.Mathlib.Nat.{mod-eq-of-lt, add-zero}
 use native.Mathlib.Numerals.{one-add}
 use native.Mathlib.Omega.{arith}
 use lib.Dec.{ltb}
-use lib.ListN.{length, getD}
-use lib.Seq.{length-sets}
+use lib.ListN.{length, getD, length-set}
+use lib.Seq.{length-sets, getD-set-same, getD-set-other}
 use lib.Pow.{shr-lt}
 use Rattle.octets.proofs.BufferLaws.{getD-zeros}
 use Rattle.records.proofs.WordLaws.{sets-before, sets-after, sets-in}
 use Rattle.session_window.specs.Window.{window, join4}
 use Rattle.session_table.specs.Sizes.{capacity}
-use Rattle.session_table.specs.Table.{Record, recordWords, tableWords, start, retention, newTable, recordAt, wordsOf, store, lawful}
+use Rattle.session_record.specs.Record.{oneMore}
+use Rattle.session_table.specs.Table.{Record, recordWords, tableWords, start, retention, newTable, recordAt, wordsOf, store, repeated, lawful}
 use borrow.Author.Tests.{ltb-true, ltb-false, eq-eqb, le-leb}
 
 -- ---- the other records
@@ -35,6 +36,8 @@ same-words t t′ j w = λ k.
         second = w (start j + 9) (omega arith) (omega arith) k;
         port = w (start j + 10) (omega arith) (omega arith) k % 2 ^ 16;
       };
+      accepted = w (start j + 11) (omega arith) (omega arith) k;
+      repeats = w (start j + 12) (omega arith) (omega arith) k;
     }
 
 word-other : (t : List ℕ) (i j : ℕ) (r : Record) (x : ℕ) → j ≢ i → start j ≤ x → x < start j + recordWords → getD (store t i r) x 0 ≡ getD t x 0
@@ -71,6 +74,8 @@ record-same t i r e l f p = λ k.
       last = w 3 (omega arith) k;
       marks = marks k;
       peer = record { first = w 8 (omega arith) k; second = w 9 (omega arith) k; port = port k };
+      accepted = w 11 (omega arith) k;
+      repeats = w 12 (omega arith) k;
     }
   where
     w : (n : ℕ) → n < recordWords → getD (store t i r) (start i + n) 0 ≡ getD (wordsOf r) n 0
@@ -91,6 +96,51 @@ retention-store t i r = sets-before (wordsOf r) t (start i) 0 (omega arith)
 
 pub length-store : (t : List ℕ) (i : ℕ) (r : Record) → length (store t i r) ≡ length t
 length-store t i r = length-sets t (start i) (wordsOf r)
+
+-- ---- the count of repeats alone
+
+-- the record with one repeat more
+abbrev pub repeatIn : Record → Record
+repeatIn r =
+    record {
+      used = r .used;
+      id = r .id;
+      h = r .h;
+      last = r .last;
+      marks = r .marks;
+      peer = r .peer;
+      accepted = r .accepted;
+      repeats = oneMore (r .repeats);
+    }
+
+pub repeated-other : (t : List ℕ) (i j : ℕ) → j ≢ i → recordAt (repeated t i) j ≡ recordAt t j
+repeated-other t i j n = same-words t (repeated t i) j (λ x l u. getD-set-other t (start i + 12) x _ 0 (omega arith))
+
+pub repeated-same : (t : List ℕ) (i : ℕ) → length t ≡ tableWords → i < capacity → recordAt (repeated t i) i ≡ repeatIn (recordAt t i)
+repeated-same t i e l = λ k.
+    record {
+      used = w (start i) (omega arith) k;
+      id = w (start i + 1) (omega arith) k;
+      h = w (start i + 2) (omega arith) k;
+      last = w (start i + 3) (omega arith) k;
+      marks = join4 (w (start i + 4) (omega arith) k) (w (start i + 5) (omega arith) k) (w (start i + 6) (omega arith) k) (w (start i + 7) (omega arith) k);
+      peer = record {
+        first = w (start i + 8) (omega arith) k;
+        second = w (start i + 9) (omega arith) k;
+        port = w (start i + 10) (omega arith) k % 2 ^ 16;
+      };
+      accepted = w (start i + 11) (omega arith) k;
+      repeats = getD-set-same t (start i + 12) (oneMore (recordAt t i .repeats)) 0 (omega (arith, e)) k;
+    }
+  where
+    w : (x : ℕ) → x < start i + 12 → getD (repeated t i) x 0 ≡ getD t x 0
+    w x u = getD-set-other t (start i + 12) x _ 0 (omega arith)
+
+pub retention-repeated : (t : List ℕ) (i : ℕ) → retention (repeated t i) ≡ retention t
+retention-repeated t i = getD-set-other t (start i + 12) 0 _ 0 (omega arith)
+
+pub length-repeated : (t : List ℕ) (i : ℕ) → length (repeated t i) ≡ length t
+length-repeated t i = length-set t (start i + 12) _
 
 -- ---- a table just made
 

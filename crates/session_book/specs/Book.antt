@@ -1,6 +1,6 @@
 -- The plain book of demand 3: a page for each session, with every packet ID that it accepted. Its numbers are its own, and it
 -- shares nothing with the table but the type of a caller's address. Assumes nothing.
-use Prim.Native.Nat.{ℕ, _+_, _-_, max}
+use Prim.Native.Nat.{ℕ, _+_, _-_, _^_, max, min}
 use mathlib.Core.Bool.{Bool, false, cond, not, _&&_, _||_}
 use mathlib.Core.List.{List, [], _∷_}
 use mathlib.Core.Option.{Option, none, some}
@@ -8,12 +8,15 @@ use lib.Dec.{leb, ltb, eqb}
 use Rattle.session_record.specs.declared.Peer.{Peer}
 use Rattle.session_book.specs.Call.{Call, Outcome, refused, Decision, early, reaches, openedOutcome, refusedOutcome}
 
+-- `accepted` are packet IDs; the two counts behind are of the datagrams accepted and of the repeats refused since the session began
 pub record Page : Type 0 where
   pub id : ℕ
   pub h : ℕ
   pub accepted : List ℕ
   pub last : ℕ
   pub peer : Peer
+  pub acceptances : ℕ
+  pub repeats : ℕ
 
 -- 1 where a test passes
 abbrev pub one : Bool → ℕ
@@ -56,35 +59,61 @@ without id (q ∷ b) = cond (eqb (q .id) id) (without id b) (q ∷ without id b)
 abbrev pub fresh : Page → ℕ → Bool
 fresh q p = ltb (q .h) p || ltb (q .h - p) 256 && not (member p (q .accepted))
 
+-- one more, up to 2^64 - 1
+abbrev pub counted : ℕ → ℕ
+counted n = min (n + 1) (2 ^ 64 - 1)
+
 -- the page that accepts p
 abbrev pub accept : (clock : ℕ) → Peer → (id p : ℕ) → Page → Page
-accept clock a id p q = record { id = id; h = max (q .h) p; accepted = p ∷ q .accepted; last = clock; peer = a }
+accept clock a id p q =
+    record {
+      id = id;
+      h = max (q .h) p;
+      accepted = p ∷ q .accepted;
+      last = clock;
+      peer = a;
+      acceptances = counted (q .acceptances);
+      repeats = q .repeats;
+    }
+
+-- the page that refuses p, which it accepted before or which is too late: nothing but its count of repeats changes
+abbrev pub refuse : (id p : ℕ) → Page → Page
+refuse id p q =
+    record {
+      id = id;
+      h = q .h;
+      accepted = q .accepted;
+      last = q .last;
+      peer = q .peer;
+      acceptances = q .acceptances;
+      repeats = counted (q .repeats);
+    }
 
 abbrev pub newPage : (clock : ℕ) → Peer → (id p : ℕ) → Page
-newPage clock a id p = record { id = id; h = p; accepted = p ∷ []; last = clock; peer = a }
+newPage clock a id p = record { id = id; h = p; accepted = p ∷ []; last = clock; peer = a; acceptances = 1; repeats = 0 }
 
--- what a packet ID meets: its page as it then stands, refusal 8, or refusal 9
+-- what a packet ID meets: its page as it then stands, accepted or refused with 8, or refusal 9
 pub data BookEntry : Type 0 where
   enters : Page → BookEntry
-  replay : BookEntry
+  replay : Page → BookEntry
   full : BookEntry
 
 abbrev pub judgeBy : Option Page → (noRoom : Bool) → (clock : ℕ) → Peer → (id p : ℕ) → BookEntry
-judgeBy (some q) noRoom clock a id p = cond (fresh q p) (enters (accept clock a id p q)) replay
+judgeBy (some q) noRoom clock a id p = cond (fresh q p) (enters (accept clock a id p q)) (replay (refuse id p q))
 judgeBy none noRoom clock a id p = cond noRoom full (enters (newPage clock a id p))
 
 abbrev pub judge : (R : ℕ) → List Page → (clock : ℕ) → Peer → (id p : ℕ) → BookEntry
 judge R b clock a id p = judgeBy (page R clock id b) (crowded R clock b) clock a id p
 
--- a page that accepts replaces any old one of its ID; a refusal changes no page
+-- the page as it then stands replaces any old one of its ID; refusal 9 changes no page
 abbrev pub turn : BookEntry → ℕ → List Page → List Page
 turn (enters q) id b = q ∷ without id b
-turn replay id b = b
+turn (replay q) id b = q ∷ without id b
 turn full id b = b
 
 abbrev pub tell : {H : Type 0} → BookEntry → Call → H → List ℕ → Outcome H
 tell (enters q) c header plaintext = openedOutcome c header plaintext
-tell replay c header plaintext = refusedOutcome c 8 plaintext
+tell (replay q) c header plaintext = refusedOutcome c 8 plaintext
 tell full c header plaintext = refusedOutcome c 9 plaintext
 
 -- ---- one step, for what the arguments decided

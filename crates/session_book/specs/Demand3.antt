@@ -59,21 +59,38 @@ callAt cs i = getD cs i noCall
 
 -- ---- the sessions alive
 
--- what is compared of a session: highest packet ID, marked packet IDs, last time, address
+-- what is compared of a session: highest packet ID, marked packet IDs, last time, address, and how many datagrams it accepted
+-- and how many repeats it refused
 pub record View : Type 0 where
   pub h : ℕ
   pub marked : ℕ → Bool
   pub last : ℕ
   pub peer : Peer
+  pub accepted : ℕ
+  pub repeats : ℕ
 
 -- the marks of a page are its accepted p with h - p under 256
 abbrev pub viewOfPage : Page → View
 viewOfPage q =
-    record { h = q .h; marked = λ p. ltb (q .h - p) 256 && member p (q .accepted); last = q .last; peer = q .peer }
+    record {
+      h = q .h;
+      marked = λ p. ltb (q .h - p) 256 && member p (q .accepted);
+      last = q .last;
+      peer = q .peer;
+      accepted = q .acceptances;
+      repeats = q .repeats;
+    }
 
 abbrev pub viewOfRecord : Record → View
 viewOfRecord r =
-    record { h = r .h; marked = λ p. leb p (r .h) && (ltb (r .h - p) 256 && bit (r .marks) (r .h - p)); last = r .last; peer = r .peer }
+    record {
+      h = r .h;
+      marked = λ p. leb p (r .h) && (ltb (r .h - p) 256 && bit (r .marks) (r .h - p));
+      last = r .last;
+      peer = r .peer;
+      accepted = r .accepted;
+      repeats = r .repeats;
+    }
 
 -- the session of an ID that is alive at a clock reading, in the book and in the table
 abbrev pub bookSession : (R : ℕ) → List Page → (clock id : ℕ) → Option View

@@ -8,7 +8,7 @@ use Rattle.session_book.specs.Call.{Call, Outcome, refused, Decision, ea
 
 abbrev pub report : {H : Type 0} → Entry → Call → H → List ℕ → Outcome H
 report (stores i r) c header plaintext = openedOutcome c header plaintext
-report replay c header plaintext = refusedOutcome c 8 plaintext
+report (replay i) c header plaintext = refusedOutcome c 8 plaintext
 report full c header plaintext = refusedOutcome c 9 plaintext
 
 abbrev pub tableOutcomeBy : {H : Type 0} → Decision H → List ℕ → Call → Outcome H

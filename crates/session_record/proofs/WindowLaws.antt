@@ -3,11 +3,12 @@
 use Prim.Native.Nat.{ℕ, _+_, _-_, _*_, _%_, _^_, _<_, _≤_, max}
 use mathlib.Core.Bool.{Bool, true, false, not, _&&_, _||_, cond}
 use mathlib.Core.Path.{_≡_, refl, sym, ap, _∙_}
+use native.Mathlib.Omega.{arith}
 use lib.Dec.{ltb}
 use borrow.Author.Tests.{lt-ltb, le-ltb, ltb-true}
 use Rattle.session_record.specs.declared.Peer.{Peer}
 use Rattle.session_window.specs.Window.{window, bit}
-use Rattle.session_record.specs.Record.{Record, freshIn, markedWith, acceptIn}
+use Rattle.session_record.specs.Record.{Record, freshIn, markedWith, oneMore, acceptIn}
 
 both : (a b : Bool) → (a && not b) ≡ true → (a ≡ true) × (b ≡ false)
 both true false e = (refl, refl)
@@ -41,8 +42,21 @@ module _ (marks h p : ℕ) where
   pub marked-below : p ≤ h → markedWith marks h p ≡ marks + 2 ^ (h - p)
   marked-below l = ap (λ (b : Bool). cond b ((marks * 2 ^ (p - h) + 1) % 2 ^ window) (marks + 2 ^ (h - p))) (le-ltb h p l)
 
--- a record is the one that accepts p where the three fields that change are right
-pub accepts : (r : Record) (clock p : ℕ) (a : Peer) (h l m : ℕ) → h ≡ max (r .h) p → l ≡ max (r .last) clock → m ≡ markedWith (r .marks) (r .h) p
-    → _≡_ {A = Record} (record { used = r .used; id = r .id; h = h; last = l; marks = m; peer = a }) (acceptIn clock a p r)
-accepts r clock p a h l m eh el em =
-    λ i. record { used = r .used; id = r .id; h = eh i; last = el i; marks = em i; peer = a }
+-- a record is the one that accepts p where the four fields that change are right
+pub accepts : (r : Record) (clock p : ℕ) (a : Peer) (h l m n : ℕ) → h ≡ max (r .h) p → l ≡ max (r .last) clock → m ≡ markedWith (r .marks) (r .h) p
+    → n ≡ oneMore (r .accepted)
+    → _≡_ {A = Record}
+    (record { used = r .used; id = r .id; h = h; last = l; marks = m; peer = a; accepted = n; repeats = r .repeats })
+    (acceptIn clock a p r)
+accepts r clock p a h l m n eh el em en =
+    λ i. record { used = r .used; id = r .id; h = eh i; last = el i; marks = em i; peer = a; accepted = en i; repeats = r .repeats }
+
+-- ---- a count
+
+pub counted : (n : ℕ) → n < 2 ^ 64 - 1 → n + 1 ≡ oneMore n
+unfolding oneMore
+counted n l = omega arith
+
+pub counted-out : (n : ℕ) → 2 ^ 64 - 1 ≤ n → 2 ^ 64 - 1 ≡ oneMore n
+unfolding oneMore
+counted-out n l = omega arith

@@ -1,5 +1,5 @@
 -- One session of the table: what is fresh in its window, and the record that accepts a packet ID.
-use Prim.Native.Nat.{ℕ, _+_, _-_, _*_, _%_, _^_, max}
+use Prim.Native.Nat.{ℕ, _+_, _-_, _*_, _%_, _^_, max, min}
 use mathlib.Core.Bool.{Bool, cond, not, _&&_, _||_}
 use lib.Dec.{ltb}
 use lib.ListN.{getD}
@@ -15,6 +15,8 @@ pub record Record : Type 0 where
   pub last : ℕ
   pub marks : ℕ
   pub peer : Peer
+  pub accepted : ℕ
+  pub repeats : ℕ
 
 -- a session by value, as the code has it, with its marks in four words
 abbrev pub recordOf : Session → Record
@@ -26,6 +28,8 @@ recordOf s =
       last = s .last;
       marks = join4 (getD (s .marks) 0 0) (getD (s .marks) 1 0) (getD (s .marks) 2 0) (getD (s .marks) 3 0);
       peer = s .peer;
+      accepted = s .accepted;
+      repeats = s .repeats;
     }
 
 -- ---- the window
@@ -37,10 +41,28 @@ freshIn r p = ltb (r .h) p || ltb (r .h - p) window && not (bit (r .marks) (r .h
 abbrev pub markedWith : (marks h p : ℕ) → ℕ
 markedWith marks h p = cond (ltb h p) ((marks * 2 ^ (p - h) + 1) % 2 ^ window) (marks + 2 ^ (h - p))
 
--- the record that accepts p: the word in use and the ID stay
+-- ---- the counts: datagrams accepted and repeats refused since the session began
+
+-- one more, up to the largest number of a word
+unfoldable pub oneMore : ℕ → ℕ
+oneMore n = min (n + 1) (2 ^ 64 - 1)
+
+-- ---- the session that accepts a packet ID, and the one that begins with it
+
+-- the record that accepts p: the word in use, the ID and the repeats stay
 abbrev pub acceptIn : (clock : ℕ) → Peer → (p : ℕ) → Record → Record
 acceptIn clock a p r =
-    record { used = r .used; id = r .id; h = max (r .h) p; last = max (r .last) clock; marks = markedWith (r .marks) (r .h) p; peer = a }
+    record {
+      used = r .used;
+      id = r .id;
+      h = max (r .h) p;
+      last = max (r .last) clock;
+      marks = markedWith (r .marks) (r .h) p;
+      peer = a;
+      accepted = oneMore (r .accepted);
+      repeats = r .repeats;
+    }
 
 abbrev pub newRecord : (clock : ℕ) → Peer → (id p : ℕ) → Record
-newRecord clock a id p = record { used = 1; id = id; h = p; last = clock; marks = 1; peer = a }
+newRecord clock a id p =
+    record { used = 1; id = id; h = p; last = clock; marks = 1; peer = a; accepted = 1; repeats = 0 }

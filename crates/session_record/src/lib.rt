@@ -6,7 +6,7 @@ use session_window::with_mark;
 ghost use mathlib.Core.Path.{_≡_};
 ghost use mathlib.Core.Bool.{true};
 ghost use Prim.Native.Nat.{max};
-ghost use Rattle.session_record.specs.Record.{recordOf, freshIn, acceptIn, newRecord};
+ghost use Rattle.session_record.specs.Record.{recordOf, freshIn, oneMore, acceptIn, newRecord};
 
 // A caller's address: two numbers and a port.
 pub struct Peer {
@@ -15,7 +15,7 @@ pub struct Peer {
     pub port: u16,
 }
 
-// One record. Bit i of marks[k] marks packet ID high - 64 k - i.
+// One record. Bit i of marks[k] marks packet ID high - 64 k - i. The counts are those since the session began.
 pub struct Session {
     pub used: u64,
     pub id: u64,
@@ -23,7 +23,12 @@ pub struct Session {
     pub last: u64,
     pub marks: [u64; 4],
     pub peer: Peer,
+    pub accepted: u64,
+    pub repeats: u64,
 }
+
+// The largest count.
+const MOST: u64 = 18446744073709551615;
 
 // Whether p is above the window, or in it and not marked.
 pub fn is_fresh(s: Session, p: u64) -> bool
@@ -46,6 +51,16 @@ fn larger(x: u64, y: u64) -> u64
     if x < y { y } else { x }
 }
 
+// One more, up to the largest count.
+pub fn one_more(n: u64) -> u64
+    ensures { λ r. ⌜ r ≡ oneMore n ⌝ }
+{
+    if n < MOST {
+        return n + 1;
+    }
+    MOST
+}
+
 // The session after it accepted p.
 pub fn accept(s: Session, p: u64, clock: u64, peer: Peer) -> Session
     requires { ⌜ freshIn (recordOf s) p ≡ true ⌝ }
@@ -54,6 +69,7 @@ pub fn accept(s: Session, p: u64, clock: u64, peer: Peer) -> Session
     let h = s.high;
     let m = s.marks;
     let last = larger(s.last, clock);
+    let accepted = one_more(s.accepted);
     if h < p {
         let up = shifted(m, p - h);
         return Session {
@@ -63,6 +79,8 @@ pub fn accept(s: Session, p: u64, clock: u64, peer: Peer) -> Session
             last,
             marks: up,
             peer,
+            accepted,
+            repeats: s.repeats,
         };
     }
     let same = with_mark(m, h - p);
@@ -73,6 +91,8 @@ pub fn accept(s: Session, p: u64, clock: u64, peer: Peer) -> Session
         last,
         marks: same,
         peer,
+        accepted,
+        repeats: s.repeats,
     }
 }
 
@@ -87,5 +107,7 @@ pub fn begin(id: u64, p: u64, clock: u64, peer: Peer) -> Session
         last: clock,
         marks: [1, 0, 0, 0],
         peer,
+        accepted: 1,
+        repeats: 0,
     }
 }

@@ -9,9 +9,10 @@ use lib.Dec.{leb, eqb}
 use lib.ListN.{length, set, replicate, length-replicate}
 use borrow.Author.Tests.{eq-eqb, ne-eqb, le-leb, lt-leb}
 use Rattle.session_record.specs.declared.Peer.{Peer}
+use Rattle.session_table.specs.declared.Admitted.the-variants.{Replay}
 use Rattle.session_table.specs.Sizes.{capacity, leastRetention, greatestRetention, defaultRetention}
 use Rattle.session_record.specs.Record.{freshIn, acceptIn, newRecord}
-use Rattle.session_table.specs.Table.{tableWords, recordWords, inRange, newTable, madeRetention, makeLawful, made, recordAt, sessionPlace, freePlace, stores, replay, full, meetBy, meet}
+use Rattle.session_table.specs.Table.{tableWords, recordWords, inRange, newTable, madeRetention, makeLawful, made, recordAt, repeated, sessionPlace, freePlace, Entry, stores, replay, full, meetBy, meet, keep, admitted}
 
 -- ---- a length n and an R
 
@@ -81,10 +82,14 @@ module _ (R : ℕ) (t : List ℕ) where
 module _ (t : List ℕ) (clock : ℕ) (a : Peer) (p : ℕ) where
   module _ (i : ℕ) where
     pub is-fresh : freshIn (recordAt t i) p ≡ true → meetBy (some i) none t clock a 0 p ≡ stores i (acceptIn clock a p (recordAt t i))
-    is-fresh e = ap (λ (b : Bool). cond b (stores i (acceptIn clock a p (recordAt t i))) replay) e
+    is-fresh e = ap (λ (b : Bool). cond b (stores i (acceptIn clock a p (recordAt t i))) (replay i)) e
 
-    pub is-replay : freshIn (recordAt t i) p ≡ false → meetBy (some i) none t clock a 0 p ≡ replay
-    is-replay e = ap (λ (b : Bool). cond b (stores i (acceptIn clock a p (recordAt t i))) replay) e
+    is-replay : freshIn (recordAt t i) p ≡ false → meetBy (some i) none t clock a 0 p ≡ replay i
+    is-replay e = ap (λ (b : Bool). cond b (stores i (acceptIn clock a p (recordAt t i))) (replay i)) e
+
+    pub replayed : freshIn (recordAt t i) p ≡ false → (u : List ℕ) → u ≡ repeated t i
+        → (Replay ≡ admitted (meetBy (some i) none t clock a 0 p)) × (u ≡ keep (meetBy (some i) none t clock a 0 p) t)
+    replayed e u eu = (sym (ap admitted (is-replay e)), eu ∙ sym (ap (λ (x : Entry). keep x t) (is-replay e)))
 
   module _ (id : ℕ) where
     pub is-new : (i : ℕ) → freePlace t clock ≡ some i → meetBy none (freePlace t clock) t clock a id p ≡ stores i (newRecord clock a id p)

@@ -4,7 +4,7 @@ use mathlib.Core.Bool.{Bool, cond, not, _&&_}
 use mathlib.Core.List.{List, [], _∷_}
 use mathlib.Core.Option.{Option, none, some}
 use lib.Dec.{leb, eqb}
-use lib.ListN.{length, getD, replicate}
+use lib.ListN.{length, getD, set, replicate}
 use lib.Seq.{sets}
 use Rattle.records.specs.Records.{current, lowestFrom}
 use Rattle.session_window.specs.Window.{join4}
@@ -12,12 +12,13 @@ use Rattle.session_record.specs.declared.Peer.{Peer}
 use Rattle.session_table.specs.declared.Admitted.{Admitted}
 use Rattle.session_table.specs.declared.Admitted.the-variants.{Accepted, Replay, Full}
 use Rattle.session_table.specs.Sizes.{capacity, leastRetention, greatestRetention, defaultRetention}
+use Rattle.session_record.specs.Record.{oneMore}
 pub use Rattle.session_record.specs.Record.{Record, freshIn, markedWith, acceptIn, newRecord}
 
 -- ---- the layout: R, then a record of `recordWords` words for each session
 
 abbrev pub recordWords : ℕ
-recordWords = 11
+recordWords = 13
 
 abbrev pub tableWords : ℕ
 tableWords = 1 + capacity * recordWords
@@ -61,17 +62,23 @@ recordAt t i =
       last = getD t (start i + 3) 0;
       marks = join4 (getD t (start i + 4) 0) (getD t (start i + 5) 0) (getD t (start i + 6) 0) (getD t (start i + 7) 0);
       peer = record { first = getD t (start i + 8) 0; second = getD t (start i + 9) 0; port = getD t (start i + 10) 0 % 2 ^ 16 };
+      accepted = getD t (start i + 11) 0;
+      repeats = getD t (start i + 12) 0;
     }
 
 abbrev pub wordsOf : Record → List ℕ
 wordsOf r =
     r .used ∷ r .id ∷ r .h ∷ r .last
     ∷ r .marks % 2 ^ 64 ∷ r .marks / 2 ^ 64 % 2 ^ 64 ∷ r .marks / 2 ^ 64 / 2 ^ 64 % 2 ^ 64 ∷ r .marks / 2 ^ 64 / 2 ^ 64 / 2 ^ 64 % 2 ^ 64
-    ∷ r .peer .first ∷ r .peer .second ∷ r .peer .port ∷ []
+    ∷ r .peer .first ∷ r .peer .second ∷ r .peer .port ∷ r .accepted ∷ r .repeats ∷ []
 
 -- the table with a record in place i, every other word as it was
 abbrev pub store : List ℕ → ℕ → Record → List ℕ
 store t i r = sets t (start i) (wordsOf r)
+
+-- the table with one repeat more in record i: that word alone, every other one as it was
+abbrev pub repeated : List ℕ → ℕ → List ℕ
+repeated t i = set t (start i + 12) (oneMore (getD t (start i + 12) 0))
 
 -- ---- the search
 
@@ -91,15 +98,15 @@ sessionPlace t clock id = lowest (λ i. holds (retention t) clock id (recordAt t
 unfoldable pub freePlace : List ℕ → (clock : ℕ) → Option ℕ
 freePlace t clock = lowest (λ i. not (live (retention t) clock (recordAt t i)))
 
--- ---- what a packet ID meets
+-- ---- what a packet ID meets: the record that it leaves, a repeat in a session's record, or no room
 
 pub data Entry : Type 0 where
   stores : (i : ℕ) → Record → Entry
-  replay : Entry
+  replay : (i : ℕ) → Entry
   full : Entry
 
 abbrev pub meetBy : Option ℕ → Option ℕ → List ℕ → (clock : ℕ) → Peer → (id p : ℕ) → Entry
-meetBy (some i) free t clock a id p = cond (freshIn (recordAt t i) p) (stores i (acceptIn clock a p (recordAt t i))) replay
+meetBy (some i) free t clock a id p = cond (freshIn (recordAt t i) p) (stores i (acceptIn clock a p (recordAt t i))) (replay i)
 meetBy none (some i) t clock a id p = stores i (newRecord clock a id p)
 meetBy none none t clock a id p = full
 
@@ -109,10 +116,10 @@ meet t clock a id p = meetBy (sessionPlace t clock id) (freePlace t clock) t clo
 -- what becomes of the table, and the answer
 abbrev pub keep : Entry → List ℕ → List ℕ
 keep (stores i r) t = store t i r
-keep replay t = t
+keep (replay i) t = repeated t i
 keep full t = t
 
 abbrev pub admitted : Entry → Admitted
 admitted (stores i r) = Accepted
-admitted replay = Replay
+admitted (replay i) = Replay
 admitted full = Full

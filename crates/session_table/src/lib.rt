@@ -5,17 +5,18 @@ use session_record::Session;
 use session_record::accept;
 use session_record::begin;
 use session_record::is_fresh;
+use session_record::one_more;
 ghost use mathlib.Core.Path.{_≡_};
 ghost use mathlib.Core.Option.{none, some, Option·getD};
 ghost use Prim.Native.Nat.{_<_};
 ghost use lib.ListN.{length};
 ghost use Rattle.session_record.specs.Record.{recordOf};
 ghost use Rattle.session_table.specs.Sizes.{capacity};
-ghost use Rattle.session_table.specs.Table.{tableWords, retention, lawful, madeRetention, makeLawful, made, recordAt, wordsOf, store as storeOf, live, sessionPlace, freePlace, meetBy, meet, keep, admitted};
+ghost use Rattle.session_table.specs.Table.{tableWords, retention, lawful, madeRetention, makeLawful, made, recordAt, wordsOf, store as storeOf, repeated, live, sessionPlace, freePlace, meetBy, meet, keep, admitted};
 
 pub const SESSIONS: usize = 64;
 
-pub const WORDS: usize = 11;
+pub const WORDS: usize = 13;
 
 pub const TABLE: usize = 1 + SESSIONS * WORDS;
 
@@ -46,6 +47,10 @@ const PEER_FIRST: usize = 8;
 const PEER_SECOND: usize = 9;
 
 const PORT: usize = 10;
+
+const ACCEPTED: usize = 11;
+
+const REPEATS: usize = 12;
 
 // What a packet ID meets: it is accepted, or it is refusal 8 or 9.
 pub enum Admitted {
@@ -119,6 +124,8 @@ fn load(table: &[u64], r: usize) -> Session
         last: table[at + LAST],
         marks,
         peer,
+        accepted: table[at + ACCEPTED],
+        repeats: table[at + REPEATS],
     }
 }
 
@@ -139,6 +146,8 @@ fn words_of(s: Session) -> [u64; WORDS]
         peer.first,
         peer.second,
         peer.port as u64,
+        s.accepted,
+        s.repeats,
     ]
 }
 
@@ -149,6 +158,16 @@ fn store(table: &mut [u64], r: usize, s: Session)
 {
     let ws = words_of(s);
     records::write(table, 1 + r * WORDS, &ws);
+}
+
+// Counts a repeat in record r. Every other word stays, the port's high bits too.
+fn count_repeat(table: &mut [u64], r: usize)
+    requires { ⌜ (length (now table) ≡ tableWords) × (r < capacity) ⌝ }
+    ensures { λ _. ⌜ now (table .exit) ≡ repeated (now (table .entry)) r ⌝ }
+{
+    let at = 1 + r * WORDS + REPEATS;
+    let repeats = one_more(table[at]);
+    table[at] = repeats;
 }
 
 pub fn is_lawful(table: &[u64]) -> bool
@@ -177,6 +196,7 @@ fn admit_known(table: &mut [u64], r: usize, clock: u64, p: u64, peer: Peer) -> A
         store(table, r, accept(s, p, clock, peer));
         return Admitted::Accepted;
     }
+    count_repeat(table, r);
     Admitted::Replay
 }
 
@@ -196,7 +216,8 @@ fn admit_new(table: &mut [u64], clock: u64, id: u64, p: u64, peer: Peer) -> Admi
     Admitted::Full
 }
 
-// Accepts packet p of the session with this ID, or refuses it and leaves the table as it was.
+// Accepts packet p of the session with this ID, or refuses it: a repeat is counted in its session, and where there is no room
+// the table stays as it was.
 pub fn admit(table: &mut [u64], clock: u64, id: u64, p: u64, peer: Peer) -> Admitted
     requires { ⌜ length (now table) ≡ tableWords ⌝ }
     ensures { λ r. ⌜ r ≡ admitted (meet (now (table .entry)) clock peer id p) ⌝ }

@@ -95,7 +95,8 @@
 //!
 //! What cannot be made at all (a key of a wrong length, an empty name) is [`Invalid`],
 //! which says what was wrong. Every call gives its result or a [`Refusal`], and says
-//! which ones and in which order. A refusal leaves tables, pools and sending sessions as they were. One that
+//! which ones and in which order. A refusal leaves tables, pools and sending sessions
+//! as they were, but a datagram's [`Refusal::Replay`] counts a repeat in its session. One that
 //! comes before the payload's tag was found good leaves the output buffer as it
 //! was; one that comes later sets the bytes of the plaintext to zero. Bytes behind
 //! those due are never written.

@@ -8,9 +8,11 @@ use crate::answer;
 /// Why a call was refused.
 ///
 /// Where several reasons would fit, the call gives the first one in the order
-/// that it names. No refusal changes a [`Table`](crate::Table), a
-/// [`Pool`](crate::Pool) or a [`SealSession`](crate::SealSession); of a stream
-/// only [`NotAuthentic`](Refusal::NotAuthentic) and [`Empty`](Refusal::Empty) change
+/// that it names. No refusal changes a [`Pool`](crate::Pool) or a
+/// [`SealSession`](crate::SealSession); of a [`Table`](crate::Table) only a
+/// datagram's [`Replay`](Refusal::Replay) changes anything: it counts one more repeat
+/// in the datagram's session; of a stream only
+/// [`NotAuthentic`](Refusal::NotAuthentic) and [`Empty`](Refusal::Empty) change
 /// anything: they end the half that opens.
 ///
 /// ```

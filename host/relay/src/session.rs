@@ -5,7 +5,7 @@ use std::fmt;
 use crate::Peer;
 
 /// The words of a record.
-pub(crate) const RECORD_WORDS: usize = 11;
+pub(crate) const RECORD_WORDS: usize = 13;
 
 /// How many packet IDs a session remembers, from the highest down.
 const WINDOW: u64 = 256;
@@ -21,6 +21,12 @@ pub struct Session {
     pub last_time: u64,
     /// Where the last accepted datagram came from, and replies go.
     pub peer: Peer,
+    /// How many datagrams were accepted since the session began, the first one
+    /// included; it stops at `u64::MAX`.
+    pub accepted: u64,
+    /// How many were refused as [`Replay`](crate::Refusal::Replay) since then, those
+    /// that came too late for the window included; it stops at `u64::MAX`.
+    pub repeats: u64,
     /// Bit i of word k marks packet ID `highest_packet - 64 k - i`.
     marks: [u64; 4],
 }
@@ -28,7 +34,7 @@ pub struct Session {
 impl Session {
     /// The session of a record's words, if the record is in use and alive.
     pub(crate) fn alive(record: &[u64], retention: u64, clock: u64) -> Option<Self> {
-        let [in_use, id, highest_packet, last_time, a, b, c, d, first, second, port] =
+        let [in_use, id, highest_packet, last_time, a, b, c, d, first, second, port, accepted, repeats] =
             *<&[u64; RECORD_WORDS]>::try_from(record).ok()?;
         // The difference does not overflow, as the sum of last time and retention
         // could. It is 0 for a clock before the last time.
@@ -43,6 +49,8 @@ impl Session {
                 // The meaning of the word is its low 16 bits.
                 port: port as u16,
             },
+            accepted,
+            repeats,
             marks: [a, b, c, d],
         })
     }
@@ -78,12 +86,14 @@ impl fmt::Display for Session {
     fn fmt(&self, f: &mut fmt::Formatter<'_>) -> fmt::Result {
         write!(
             f,
-            "{:016x} from {}, last at {}, highest packet {}, {} of {WINDOW} marked",
+            "{:016x} from {}, last at {}, highest packet {}, {} of {WINDOW} marked, {} accepted, {} repeats",
             self.id,
             self.peer,
             self.last_time,
             self.highest_packet,
-            self.marked_in_window()
+            self.marked_in_window(),
+            self.accepted,
+            self.repeats
         )
     }
 }

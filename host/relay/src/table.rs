@@ -10,13 +10,14 @@ use crate::{Header, Invalid, Key, Peer, Refusal};
 const SESSIONS: usize = 64;
 
 /// What a receiver remembers of the sessions that send to it: which packet IDs it
-/// accepted, when, and from where.
+/// accepted, when, and from where, and how many repeats it refused.
 ///
 /// A table serves one key. A server has one for its clients' datagrams, a client
 /// one for its server's. It holds 64 sessions; a session is forgotten when nothing
 /// of it was accepted for longer than the retention.
 ///
-/// A refusal leaves the table as it was.
+/// [`Replay`](Refusal::Replay) counts one more repeat in its session, and no other
+/// refusal changes the table.
 ///
 /// ```
 /// use std::net::SocketAddr;
@@ -38,6 +39,8 @@ const SESSIONS: usize = 64;
 /// // The same datagram is not accepted again.
 /// let again = table.open_server(&key, 1_002, caller, &sealed[..length], &mut plaintext);
 /// assert_eq!(again, Err(Refusal::Replay));
+/// let session = table.sessions(1_002).next().unwrap();
+/// assert_eq!((session.accepted, session.repeats), (1, 1));
 /// # Ok::<(), Refusal>(())
 /// ```
 pub struct Table {
@@ -76,8 +79,9 @@ impl Table {
     /// [`NotAuthentic`](Refusal::NotAuthentic), [`Malformed`](Refusal::Malformed)
     /// (plaintext under 11 bytes), [`Type`](Refusal::Type), [`Time`](Refusal::Time),
     /// [`Malformed`](Refusal::Malformed) (padding, address),
-    /// [`Replay`](Refusal::Replay), [`Full`](Refusal::Full). All leave the table as
-    /// it was. The first four leave `out` as it was; the others, which come after
+    /// [`Replay`](Refusal::Replay), [`Full`](Refusal::Full).
+    /// [`Replay`](Refusal::Replay) counts one more repeat in its session; all others
+    /// leave the table as it was. The first four leave `out` as it was; the others, which come after
     /// the tag was found good, set the bytes of the plaintext to zero.
     pub fn open_server(
         &mut self,
@@ -148,7 +152,8 @@ impl Table {
     /// assert_eq!(
     ///     table.display(1_010).to_string(),
     ///     "1 of 64 sessions alive at 1010, retention 60 seconds\n\
-    ///      0000000000000007 from 192.0.2.1:4000, last at 1001, highest packet 0, 1 of 256 marked"
+    ///      0000000000000007 from 192.0.2.1:4000, last at 1001, highest packet 0, 1 of 256 marked, \
+    ///      1 accepted, 0 repeats"
     /// );
     /// # Ok::<(), Refusal>(())
     /// ```
@@ -163,7 +168,7 @@ impl Table {
             .map(|session| session.peer)
     }
 
-    /// The table as words, to be stored: the retention, and 64 records of 11.
+    /// The table as words, to be stored: the retention, and 64 records of 13.
     ///
     /// A host that restores an older copy than its last accepted datagram accepts
     /// the datagrams in between a second time.

@@ -21,6 +21,8 @@ pub enum Entry {
 pub struct Page {
     pub highest: u64,
     pub accepted: HashSet<u64>,
+    /// How many datagrams were refused as replays since the session began.
+    pub repeats: u64,
     pub last_time: u64,
     pub peer: SocketAddr,
 }
@@ -34,6 +36,7 @@ impl Page {
 
     fn enter(&mut self, packet_id: u64, clock: u64, peer: SocketAddr) -> Entry {
         if !self.is_fresh(packet_id) {
+            self.repeats += 1;
             return Entry::Replay;
         }
         self.accepted.insert(packet_id);
@@ -83,6 +86,7 @@ impl Book {
         let page = Page {
             highest: packet_id,
             accepted: HashSet::from([packet_id]),
+            repeats: 0,
             last_time: clock,
             peer,
         };
@@ -149,11 +153,13 @@ mod tests {
     }
 
     #[test]
-    fn a_replay_changes_no_page() {
+    fn a_replay_changes_its_count_alone() {
         let mut book = book_at_300();
         assert_eq!(book.enter(7, 300, 1_030, peer(2)), Entry::Replay);
+        assert_eq!(book.enter(7, 44, 1_030, peer(2)), Entry::Replay);
         let (_, page) = book.alive(1_030).next().unwrap();
         assert_eq!((page.last_time, page.peer), (1_000, peer(1)));
+        assert_eq!((page.accepted.len(), page.repeats), (1, 2));
     }
 
     #[test]

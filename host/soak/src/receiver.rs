@@ -32,6 +32,20 @@ pub enum Answer {
     Refused(u64),
 }
 
+/// How many datagrams a session accepted, and how many were repeats.
+#[derive(Clone, Copy, Debug, PartialEq, Eq)]
+pub struct Counts {
+    pub accepted: u64,
+    pub repeats: u64,
+}
+
+/// The counts of a session that is alive, by the library and by the rules.
+pub struct Counted {
+    pub session_id: u64,
+    pub library: Counts,
+    pub rules: Counts,
+}
+
 pub struct Receiver {
     half: Half,
     key: Key,
@@ -174,6 +188,19 @@ impl Receiver {
         }
     }
 
+    /// The counts of the sessions alive, in the order of their IDs.
+    pub fn counts(&self, clock: u64) -> Vec<Counted> {
+        let pages: HashMap<u64, &Page> = self.book.alive(clock).collect();
+        let counted = self.table.sessions(clock).map(|session| Counted {
+            session_id: session.id,
+            library: of_session(&session),
+            rules: of_page(pages[&session.id]),
+        });
+        let mut counted: Vec<Counted> = counted.collect();
+        counted.sort_by_key(|counted| counted.session_id);
+        counted
+    }
+
     /// Forgets every session, as no library may.
     #[cfg(test)]
     pub fn lose_table(&mut self) {
@@ -189,11 +216,26 @@ fn said(refusal: Option<u64>) -> String {
     }
 }
 
+fn of_session(session: &Session) -> Counts {
+    Counts {
+        accepted: session.accepted,
+        repeats: session.repeats,
+    }
+}
+
+fn of_page(page: &Page) -> Counts {
+    Counts {
+        accepted: page.accepted.len() as u64,
+        repeats: page.repeats,
+    }
+}
+
 fn is_page(session: &Session, page: &Page) -> bool {
     let remembered: Vec<u64> = page.remembered().collect();
     session.highest_packet == page.highest
         && session.last_time == page.last_time
         && SocketAddr::from(session.peer) == page.peer
+        && of_session(session) == of_page(page)
         && session.marked_in_window() as usize == remembered.len()
         && remembered
             .iter()

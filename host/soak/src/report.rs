@@ -4,6 +4,7 @@ use std::io::{self, IsTerminal, Write};
 
 use crate::disagreement::Disagreement;
 use crate::meter::Meter;
+use crate::receiver::Counted;
 use crate::rules;
 use crate::soak::{State, Summary};
 use crate::tally::Tally;
@@ -59,6 +60,7 @@ pub fn disagreement(disagreement: &Disagreement) {
 pub fn summary(summary: &Summary) {
     table(summary);
     sums(summary);
+    sessions(summary);
     throughput(summary);
     conclusion(summary);
 }
@@ -86,6 +88,33 @@ fn cell(client: usize, tally: &Tally) -> String {
     format!(
         "{client:>6} {:>8} {replayed:>8} {otherwise:>7}",
         tally.accepted
+    )
+}
+
+/// The counts that the table has for each session alive, beside the model's.
+fn sessions(summary: &Summary) {
+    const SIDE_BY_SIDE: usize = 2;
+    println!();
+    println!("Sessions alive at the end: accepted and repeats, in the table and by the rules");
+    println!();
+    println!(
+        "{}",
+        ["session           accepted repeats   accepted repeats"; SIDE_BY_SIDE].join(GAP)
+    );
+    let alive = summary.sessions.len();
+    let lines = alive.div_ceil(SIDE_BY_SIDE);
+    for line in 0..lines {
+        let abreast = summary.sessions[line..].iter().step_by(lines);
+        let cells: Vec<_> = abreast.map(session_cell).collect();
+        println!("{}", cells.join(GAP));
+    }
+}
+
+fn session_cell(session: &Counted) -> String {
+    let (library, rules) = (session.library, session.rules);
+    format!(
+        "{:016x} {:>9} {:>7} {:>10} {:>7}",
+        session.session_id, library.accepted, library.repeats, rules.accepted, rules.repeats
     )
 }
 

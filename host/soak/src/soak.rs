@@ -11,7 +11,7 @@ use crate::network::{Network, CLIENTS};
 use crate::options::Options;
 use crate::payload::Payloads;
 use crate::random::Random;
-use crate::receiver::{Answer, Receiver};
+use crate::receiver::{Answer, Counted, Receiver};
 use crate::replies::Replies;
 use crate::tally::Tally;
 
@@ -54,6 +54,8 @@ pub struct Summary {
     pub counted: u64,
     /// How often the sessions were compared.
     pub looks: u64,
+    /// What the sessions that are alive at the end have counted.
+    pub sessions: Vec<Counted>,
 }
 
 /// How far a run is.
@@ -186,6 +188,7 @@ impl Soak {
     }
 
     fn summary(self) -> Result<Summary, Disagreement> {
+        let sessions = self.server.counts(self.clock());
         let mut opened = self.opened;
         opened += self.server.meter;
         opened += self.replies.meter();
@@ -202,6 +205,7 @@ impl Soak {
             sealed: self.network.sealer.meter,
             counted: self.network.ledger.close()?,
             looks: self.looks,
+            sessions,
         })
     }
 }
@@ -236,6 +240,9 @@ mod tests {
         }
         assert_eq!(server.accepted + server.refused(), 4 * 60 * RATE);
         assert_eq!(server.accepted, summary.counted);
+        assert!(summary.sessions.len() > 32);
+        let repeats: u64 = summary.sessions.iter().map(|s| s.library.repeats).sum();
+        assert!(0 < repeats && repeats <= server.refused_with(rules::REPLAY));
         for number in [
             rules::LENGTH,
             rules::ROOM,

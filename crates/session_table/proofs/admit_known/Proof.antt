@@ -2,7 +2,7 @@
 use mathlib.Core.Path.{sym, ap, _∙_}
 use Rattle.session_record.specs.Record.{Record, freshIn, acceptIn}
 use Rattle.session_table.specs.Table.{Entry, store as storeOf, keep, admitted}
-use Rattle.session_table.proofs.TableLaws.{is-fresh, is-replay}
+use Rattle.session_table.proofs.TableLaws.{is-fresh, replayed}
 use borrow.Author.Needs.{needs}
 use Rattle.session_table.proofs.admit_known.Statement.{statement}
 use Rattle.session_table.proofs.admit_known.Tie as tie
@@ -28,13 +28,12 @@ returns c =
 
 returns-2 : tie.Need-returns-2
 returns-2 c =
-    let b = c .before .before in
+    let d = c .before .before .before .before in
+    let b = d .before .before in
     let a = b .before .before .before .args in
-    let t = a .table .now in
-    let met =
-    is-replay t (a .clock) (a .peer) (a .p) (a .r)
-    (ap (λ (r : Record). freshIn r (a .p)) (sym (b .load .ensures)) ∙ sym (c .before .is-fresh .ensures) ∙ c .if1 .left) in
-    (sym (ap admitted met), sym (ap (λ (x : Entry). keep x t) met))
+    replayed (a .table .now) (a .clock) (a .peer) (a .p) (a .r)
+    (ap (λ (r : Record). freshIn r (a .p)) (sym (b .load .ensures)) ∙ sym (d .before .is-fresh .ensures) ∙ d .if1 .left)
+    _ (search needs)
 
 pub admit-known-spec : {M : Type 1} → statement M
 admit-known-spec =
@@ -46,5 +45,6 @@ admit-known-spec =
     (λ c κs. search needs)
     (λ c. search needs)
     returns
+    (λ c κs. search needs)
     (λ c. search needs)
     returns-2)

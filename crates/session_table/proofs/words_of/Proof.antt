@@ -17,7 +17,7 @@ returns c =
     let s = c .before .before .before .args .s in
     let fit : (i : ℕ) → Fits w64 (getD (s .marks) i 0) = λ i. search needs in
     let long : length (s .marks) ≡ 4 = search needs in
-    ap (λ (m : List ℕ). s .used ∷ s .id ∷ s .high ∷ s .last ∷ (m ++ (s .peer .first ∷ s .peer .second ∷ s .peer .port ∷ [])))
+    ap (λ (m : List ℕ). s .used ∷ s .id ∷ s .high ∷ s .last ∷ (m ++ (s .peer .first ∷ s .peer .second ∷ s .peer .port ∷ s .accepted ∷ s .repeats ∷ [])))
     (number-list (s .marks) long (λ i. fit i .fits))
 
 pub words-of-spec : {M : Type 1} → statement M

@@ -2,7 +2,7 @@
 //!
 //! A packet ID is fresh above the highest one, or less than 256 below it and not
 //! yet marked. A session is forgotten when the clock is past its last time by more
-//! than the retention.
+//! than the retention. It counts what it accepted and what it refused as repeats.
 
 use super::Refusal;
 
@@ -33,6 +33,9 @@ struct Session {
     last: u64,
     #[allow(dead_code, reason = "as for its fields")]
     peer: Peer,
+    /// How many datagrams were accepted and how many repeats refused.
+    accepted: u64,
+    repeats: u64,
 }
 
 pub struct Sessions {
@@ -46,6 +49,12 @@ impl Sessions {
             retention,
             records: [const { None }; SESSIONS],
         }
+    }
+
+    /// What the first record counted: datagrams accepted and repeats.
+    pub fn first_counts(&self) -> [u64; 2] {
+        let first = self.records[0].as_ref();
+        first.map_or([0, 0], |session| [session.accepted, session.repeats])
     }
 
     /// Forgets the session of the first record, as if it had never been there.
@@ -78,10 +87,26 @@ impl Session {
             marks: [1, 0, 0, 0],
             last: clock,
             peer,
+            accepted: 1,
+            repeats: 0,
         }
     }
 
     fn admit(&mut self, clock: u64, packet: u64, peer: Peer) -> Result<(), Refusal> {
+        let admitted = self.enter(packet);
+        match admitted {
+            Ok(()) => {
+                self.last = self.last.max(clock);
+                self.peer = peer;
+                self.accepted = self.accepted.saturating_add(1);
+            }
+            Err(_) => self.repeats = self.repeats.saturating_add(1),
+        }
+        admitted
+    }
+
+    /// Marks a fresh packet ID.
+    fn enter(&mut self, packet: u64) -> Result<(), Refusal> {
         if packet > self.highest {
             self.marks = raised(&self.marks, packet - self.highest);
             self.highest = packet;
@@ -96,8 +121,6 @@ impl Session {
             return Err(Refusal::Replay);
         }
         *word |= mark;
-        self.last = self.last.max(clock);
-        self.peer = peer;
         Ok(())
     }
 }
@@ -160,6 +183,21 @@ mod tests {
         assert_eq!(admit(&mut sessions, 556), Ok(()));
         assert_eq!(admit(&mut sessions, 300), Err(Refusal::Replay));
         assert_eq!(admit(&mut sessions, 301), Ok(()));
+    }
+
+    #[test]
+    fn a_session_counts_what_it_accepted_and_its_repeats() {
+        let mut sessions = Sessions::new(60);
+        for packet in [300, 300, 44, 301] {
+            let _ = admit(&mut sessions, packet);
+        }
+        let session = sessions.records[0].as_mut().unwrap();
+        assert_eq!((session.accepted, session.repeats), (2, 2));
+        (session.accepted, session.repeats) = (u64::MAX, u64::MAX);
+        assert_eq!(admit(&mut sessions, 302), Ok(()));
+        assert_eq!(admit(&mut sessions, 302), Err(Refusal::Replay));
+        let session = sessions.records[0].as_ref().unwrap();
+        assert_eq!((session.accepted, session.repeats), (u64::MAX, u64::MAX));
     }
 
     #[test]

@@ -164,9 +164,12 @@ fn sealed(method: Method, size: usize) -> Vec<u8> {
     datagram
 }
 
+/// The words of a record of ours; the last two count what it accepted and its repeats.
+pub const RECORD: usize = 13;
+
 /// A table of ours that was just made.
 pub fn new_table() -> Vec<u64> {
-    let mut table = vec![0; 1 + 64 * 11];
+    let mut table = vec![0; 1 + 64 * RECORD];
     table[0] = RETENTION;
     table
 }

@@ -1,7 +1,7 @@
 //! Datagrams in an order and with headers that a relay refuses: whether the plain
 //! Rust around the other libraries does all of the work that ours does.
 
-use super::datagrams::{new_sessions, new_table, ADDRESS, CLOCK};
+use super::datagrams::{new_sessions, new_table, ADDRESS, CLOCK, RECORD};
 use super::{Contestant, Library, Row, KEY};
 use crate::around::{Datagrams, Separate, FIXED_LENGTH, SEPARATE_LENGTH};
 use crate::ciphers::{Ciphers, TAG_LENGTH};
@@ -87,7 +87,11 @@ pub fn rows() -> Vec<Row> {
     METHODS.map(row).into()
 }
 
-/// The input is all datagrams, the buffer has a byte for each answer.
+/// How many counts the first record has.
+const COUNTS: usize = 2;
+
+/// The input is all datagrams, the buffer has a byte for each answer and for the
+/// counts of the first record.
 fn row(method: Method) -> Row {
     let key = &KEY[..method.key_length];
     let datagrams = Datagrams::new(method.key_length);
@@ -101,7 +105,7 @@ fn row(method: Method) -> Row {
         kind: Kind::Datagram(method, Call::Open),
         size: SIZE,
         input: sealed.collect(),
-        buffer: list.len(),
+        buffer: list.len() + COUNTS,
         special: Some("in disorder"),
         contestants: contestants!(
             move |input, answers| {
@@ -109,6 +113,7 @@ fn row(method: Method) -> Row {
                 each(input, &our_clocks, answers, |clock, datagram, out| {
                     ours::datagram_open(method.number, key, clock, datagram, &mut table, out)
                 });
+                note_counts(answers, [table[RECORD - 1], table[RECORD]]);
             },
             open_with(key, clocks())
         ),
@@ -124,7 +129,14 @@ fn open_with<C: Ciphers>(key: &'static [u8], clocks: Vec<u64>) -> Contestant {
             let header = datagrams.open(key, clock, peer, datagram, &mut sessions, out);
             header.map_or_else(|refusal| refusal as u64, |_| 0)
         });
+        note_counts(answers, sessions.first_counts());
     })
+}
+
+/// Notes behind the answers what the first record counted.
+fn note_counts(answers: &mut [u8], counts: [u64; COUNTS]) {
+    let place = answers.len() - COUNTS;
+    answers[place..].copy_from_slice(&counts.map(|count| count as u8));
 }
 
 /// Opens one datagram after the other, and notes the answers.
@@ -143,7 +155,7 @@ fn each(
 mod tests {
     use std::collections::BTreeSet;
 
-    use super::{rows, Library};
+    use super::{rows, Library, COUNTS};
 
     #[test]
     fn the_list_meets_every_refusal_of_an_authentic_datagram() {
@@ -151,6 +163,8 @@ mod tests {
             let ours = row.contestant(Library::Ours).expect("ours is there");
             let mut answers = vec![0; row.buffer];
             (row.contestants[ours].work)(&row.input, &mut answers);
+            let counts = answers.split_off(row.buffer - COUNTS);
+            assert_eq!(counts, [1, 2]);
             let met: BTreeSet<u8> = answers.into_iter().collect();
             assert_eq!(met, BTreeSet::from([0, 5, 6, 7, 8, 9]));
         }

@@ -275,7 +275,7 @@ fn number_8_replay() {
 fn number_9_full() {
     let mut words = [1; Table::WORDS];
     words[0] = 60;
-    for record in words[1..].chunks_mut(11) {
+    for record in words[1..].chunks_mut(13) {
         record[3] = CLOCK;
     }
     let mut table = Table::from_words(&words);

@@ -8,6 +8,10 @@ use crate::common::*;
 
 const METHOD: Method = Method::Aes128Gcm;
 
+/// The words of a record, and the place of its count of repeats.
+const RECORD: usize = 13;
+const REPEATS: usize = 12;
+
 /// Accepts packet IDs of one session, all at one clock.
 fn table_with(packet_ids: &[u64]) -> Table {
     let mut table = Table::new(60).unwrap();
@@ -48,6 +52,7 @@ fn a_session_shows_what_was_accepted() {
     assert_eq!(session.peer, peer());
     // 45 has left the window.
     assert_eq!(session.marked_in_window(), 4);
+    assert_eq!((session.accepted, session.repeats), (5, 0));
     for packet_id in [0, 45, 54, 55, 299, 300, 301, 302, 309, 310, 311, u64::MAX] {
         let marked = [299, 300, 302, 310].contains(&packet_id);
         assert_eq!(session.is_marked(packet_id), marked, "{packet_id}");
@@ -64,9 +69,9 @@ fn a_table_shows_its_sessions() {
     let opened = table.open_server(&key(METHOD), clock, Peer::from(v6), &datagram, &mut [0; 64]);
     opened.unwrap();
     let first =
-        "0102030405060708 from 192.0.2.1:4000, last at 1000, highest packet 310, 4 of 256 marked";
+        "0102030405060708 from 192.0.2.1:4000, last at 1000, highest packet 310, 4 of 256 marked, 5 accepted, 0 repeats";
     let second =
-        "00000000000000ab from [2001:db8::7]:9, last at 1007, highest packet 2, 1 of 256 marked";
+        "00000000000000ab from [2001:db8::7]:9, last at 1007, highest packet 2, 1 of 256 marked, 1 accepted, 0 repeats";
     for (clock, alive) in [(CLOCK + 60, &[first, second][..]), (CLOCK + 61, &[second])] {
         let text = table.display(clock).to_string();
         let lines: Vec<&str> = text.lines().collect();
@@ -91,7 +96,9 @@ fn freshness_is_the_openers() {
             assert!(only_session(&copy, CLOCK).is_marked(packet_id));
         } else {
             assert_eq!(opened, Err(Refusal::Replay), "{packet_id}");
-            assert_eq!(copy.words(), table.words());
+            let mut words = *table.words();
+            words[1 + REPEATS] += 1;
+            assert_eq!(copy.words(), &words, "{packet_id}");
         }
     }
 }
@@ -151,6 +158,74 @@ fn a_table_goes_on_after_it_was_stored() {
     assert!(open(&mut restored, METHOD, CLOCK, &next).is_ok());
 }
 
+/// Repeats and too late ones count alike, each in its own session; a session that begins
+/// again counts anew.
+#[test]
+fn a_session_counts_its_datagrams_and_its_repeats() {
+    let mut table = table_with(&[300, 299, 310]);
+    let counts = |table: &Table, id, clock| {
+        let session = table.sessions(clock).find(|session| session.id == id);
+        session.map(|session| (session.accepted, session.repeats))
+    };
+    let other = sealed(METHOD, 9, 0, CLOCK);
+    open(&mut table, METHOD, CLOCK, &other).unwrap();
+    // Marked, the highest, below the window; then at a later clock, which keeps nothing alive.
+    for (count, (packet_id, clock)) in [(299, 0), (310, 0), (54, 0), (310, 20)].iter().enumerate() {
+        let datagram = sealed(METHOD, CLIENT_ID, *packet_id, CLOCK + clock);
+        let opened = open(&mut table, METHOD, CLOCK + clock, &datagram);
+        assert_eq!(opened, Err(Refusal::Replay));
+        let repeats = count as u64 + 1;
+        assert_eq!(counts(&table, CLIENT_ID, CLOCK), Some((3, repeats)));
+        assert_eq!(counts(&table, 9, CLOCK), Some((1, 0)));
+    }
+    // A forged one and one of another time count nowhere.
+    let mut forged = sealed(METHOD, CLIENT_ID, 310, CLOCK);
+    *forged.last_mut().unwrap() ^= 1;
+    let stale = sealed(METHOD, CLIENT_ID, 310, CLOCK - 31);
+    for datagram in [forged, stale] {
+        assert!(open(&mut table, METHOD, CLOCK, &datagram).is_err());
+        assert_eq!(counts(&table, CLIENT_ID, CLOCK), Some((3, 4)));
+    }
+    assert_eq!(only_session_ids(&table, CLOCK + 60), [CLIENT_ID, 9]);
+    assert_eq!(only_session_ids(&table, CLOCK + 61), []);
+    let again = sealed(METHOD, CLIENT_ID, 5, CLOCK + 61);
+    open(&mut table, METHOD, CLOCK + 61, &again).unwrap();
+    assert_eq!(counts(&table, CLIENT_ID, CLOCK + 61), Some((1, 0)));
+}
+
+fn only_session_ids(table: &Table, clock: u64) -> Vec<u64> {
+    table.sessions(clock).map(|session| session.id).collect()
+}
+
+#[test]
+fn counts_stop_at_the_largest_number() {
+    let mut words = [0; Table::WORDS];
+    words[0] = 60;
+    let most = u64::MAX;
+    words[1..1 + RECORD].copy_from_slice(&[
+        1,
+        7,
+        10,
+        CLOCK,
+        1,
+        0,
+        0,
+        0,
+        3,
+        3,
+        3,
+        most - 1,
+        most - 1,
+    ]);
+    let mut table = Table::from_words(&words);
+    for (packet_id, refused) in [(10, true), (11, false), (11, true), (12, false)] {
+        let datagram = sealed(METHOD, 7, packet_id, CLOCK);
+        let opened = open(&mut table, METHOD, CLOCK, &datagram);
+        assert_eq!(opened.err(), refused.then_some(Refusal::Replay));
+    }
+    assert_eq!(table.words()[1 + REPEATS - 1..][..2], [most, most]);
+}
+
 /// Of two alive records with one ID the first counts, here as in the opener.
 #[test]
 fn the_first_alive_record_of_an_id_counts() {
@@ -159,12 +234,12 @@ fn the_first_alive_record_of_an_id_counts() {
     let port = 0xabcd_0000_0000_0050;
     let records = [
         // Not in use; dead; alive, though its word in use is not 1; alive.
-        [0, 7, 10, CLOCK, 1, 0, 0, 0, 1, 1, 1],
-        [1, 7, 20, CLOCK - 61, 1, 0, 0, 0, 2, 2, 2],
-        [9, 7, 30, CLOCK - 60, 1, 0, 0, 0, 3, 3, port],
-        [1, 7, 40, CLOCK, 1, 0, 0, 0, 4, 4, 4],
+        [0, 7, 10, CLOCK, 1, 0, 0, 0, 1, 1, 1, 1, 1],
+        [1, 7, 20, CLOCK - 61, 1, 0, 0, 0, 2, 2, 2, 2, 2],
+        [9, 7, 30, CLOCK - 60, 1, 0, 0, 0, 3, 3, port, 3, 3],
+        [1, 7, 40, CLOCK, 1, 0, 0, 0, 4, 4, 4, 4, 4],
     ];
-    words[1..1 + 44].copy_from_slice(&records.concat());
+    words[1..1 + 4 * RECORD].copy_from_slice(&records.concat());
     let mut table = Table::from_words(&words);
     let session = only_session(&table, CLOCK);
     assert_eq!(session.highest_packet, 30);
@@ -173,19 +248,23 @@ fn the_first_alive_record_of_an_id_counts() {
     let datagram = sealed(METHOD, 7, 30, CLOCK);
     let opened = open(&mut table, METHOD, CLOCK, &datagram);
     assert_eq!(opened, Err(Refusal::Replay));
+    // It counts there, and no other word is written, the port's high bits neither.
+    words[1 + 2 * RECORD + REPEATS] += 1;
+    assert_eq!(table.words(), &words);
     let datagram = sealed(METHOD, 7, 31, CLOCK);
     assert!(open(&mut table, METHOD, CLOCK, &datagram).is_ok());
     assert_eq!(only_session(&table, CLOCK).highest_packet, 31);
     // The record stays in use by its own word, and is written with a whole port.
-    assert_eq!(table.words()[1 + 22], 9);
-    assert_eq!(table.words()[1 + 32], u64::from(peer().port));
+    let record = &table.words()[1 + 2 * RECORD..][..RECORD];
+    assert_eq!(record[0], 9);
+    assert_eq!(record[10..], [u64::from(peer().port), 4, 4]);
 }
 
 #[test]
 fn a_last_time_to_come_keeps_a_session_alive() {
     let mut words = [0; Table::WORDS];
     words[0] = 60;
-    words[1..12].copy_from_slice(&[1, 7, 10, u64::MAX, 1, 0, 0, 0, 3, 3, 3]);
+    words[1..1 + RECORD].copy_from_slice(&[1, 7, 10, u64::MAX, 1, 0, 0, 0, 3, 3, 3, 1, 0]);
     let table = Table::from_words(&words);
     for clock in [0, CLOCK, u64::MAX] {
         assert_eq!(table.sessions(clock).count(), 1);

@@ -1,7 +1,7 @@
 //! Words that the host wrote: any of them lead to an answer or a refusal.
 
 use relay::stream::{Opening, Sealing};
-use relay::{Method, Pool, Refusal, RequestStream, ResponseStream, SealSession, Table};
+use relay::{Method, Pool, Refusal, RequestStream, ResponseStream, SealSession, Session, Table};
 
 use crate::common::*;
 
@@ -23,6 +23,25 @@ fn words<const N: usize>(random: &mut Random) -> [u64; N] {
     std::array::from_fn(|_| word(random))
 }
 
+/// What a table shows of its sessions but for their counts of repeats.
+fn shown(table: &Table, clock: u64) -> impl Iterator<Item = Session> + '_ {
+    table.sessions(clock).map(|mut session| {
+        session.repeats = 0;
+        session
+    })
+}
+
+/// Counts a repeat in the lowest record that is alive with an ID, and nowhere else.
+fn count_repeat(words: &mut [u64; Table::WORDS], id: u64, clock: u64) {
+    let retention = words[0];
+    let mut records = words[1..].chunks_mut(13);
+    let own = records.find(|record| {
+        record[0] != 0 && record[1] == id && clock.saturating_sub(record[3]) <= retention
+    });
+    let repeats = &mut own.unwrap()[12];
+    *repeats = repeats.saturating_add(1);
+}
+
 #[test]
 fn tables() {
     let mut random = Random(1);
@@ -35,7 +54,7 @@ fn tables() {
         let (id, packet_id) = (word(&mut random), word(&mut random));
         let clock = word(&mut random).min(u64::MAX - 30);
         let datagram = sealed(Method::Aes128Gcm, id, packet_id.min(u64::MAX - 1), clock);
-        let before: Vec<_> = table.sessions(clock).collect();
+        let before: Vec<_> = shown(&table, clock).collect();
         let peer_before = table.peer_of(id, clock);
         match open(&mut table, Method::Aes128Gcm, clock, &datagram) {
             Ok(header) => {
@@ -45,9 +64,12 @@ fn tables() {
             Err(refusal) => {
                 let numbers = if words[0] == 60 { 8..=9 } else { 1..=9 };
                 assert!(numbers.contains(&refusal.number()), "{refusal}");
+                if refusal == Refusal::Replay {
+                    count_repeat(&mut words, id, clock);
+                }
                 assert_eq!(table.words(), &words);
                 assert_eq!(table.peer_of(id, clock), peer_before);
-                assert!(table.sessions(clock).eq(before));
+                assert!(shown(&table, clock).eq(before));
             }
         }
         assert!(table
