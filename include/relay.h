@@ -99,7 +99,7 @@ extern "C" {
 #define RELAY_REFUSED_FULL 9          /* new session and 64 alive, or new salt and 256 kept */
 #define RELAY_REFUSED_MORE 10         /* bytes missing: answer[RELAY_AT_WANTED] are wanted in all */
 #define RELAY_REFUSED_COUNTER 11      /* packet IDs or a stream's counter used up */
-#define RELAY_REFUSED_ARGUMENT 12     /* sealing: address, padding or session IDs unlawful */
+#define RELAY_REFUSED_ARGUMENT 12     /* address, padding or session ID unlawful */
 #define RELAY_REFUSED_BINDING 13      /* meant for another client, or answers another request */
 #define RELAY_REFUSED_EMPTY 14        /* a stream's payload of no bytes */
 #define RELAY_EMPTY RELAY_REFUSED_EMPTY
@@ -186,7 +186,7 @@ static inline const char *relay_refusal_name(uint64_t number)
 #define RELAY_RECORD_PORT 10   /* its low 16 bits */
 /* since the session began; both stop at 2^64 - 1 */
 #define RELAY_RECORD_ACCEPTED 11 /* datagrams accepted, the first one included */
-#define RELAY_RECORD_REPEATS 12  /* datagrams refused with RELAY_REFUSED_REPLAY, too late ones included */
+#define RELAY_RECORD_REPEATS 12  /* datagrams refused as replays, too late ones included */
 
 /* ---- words of a sending session */
 
@@ -241,19 +241,25 @@ uint64_t relay_session_begin_client(uint64_t id, uint64_t *session, size_t sessi
  *
  * id       its own session ID: 8 random bytes as a number, new for each session
  * client   the client's session ID
+ * clock    seconds since 1970
+ * table    the session table of the clients' datagrams, as it is now; only read
  * session  RELAY_SESSION_WORDS words: 1, the ID, the client's ID, next packet ID (0)
  *
  * WARNING: the ID must differ from every other session ID under the key, those
  * of all clients included. A subkey comes from key and session ID, and nonces
  * from session ID and packet ID: two sessions of one ID use the same subkey and
  * nonces for different texts, which lets others read and forge both. The
- * function compares the ID with the client's alone; a host that would not leave
- * the rest to chance compares it with the IDs in its table (RELAY_RECORD_ID)
- * and with those that it began itself.
+ * function compares the ID with the client's and with all that are alive in the
+ * table: draw another where it is refused. A client may come later with an ID
+ * that was begun here, and is accepted; and nobody but the host knows the IDs
+ * of sessions that it began itself.
  *
- * Refusals: 1 (length), 12 (equal IDs), and nothing is written.
+ * Refusals, in this order: 1 (lengths, a table whose retention is not 60 to
+ * 3,600), 12 (an ID that a session alive or the client has), and nothing is
+ * written.
  */
-uint64_t relay_session_begin_server(uint64_t id, uint64_t client, uint64_t *session,
+uint64_t relay_session_begin_server(uint64_t id, uint64_t client, uint64_t clock,
+                                    const uint64_t *table, size_t table_len, uint64_t *session,
                                     size_t session_len);
 
 /* ---- datagrams */

@@ -99,11 +99,9 @@ def sealed_length(client, address, padding, payload):
     return SEPARATE_LENGTH + fixed + padding + len(address) + len(payload) + gcm.TAG_LENGTH
 
 
-def begin(session, client=None):
-    """A refusal's number, or 0; and the sending session, if there is one."""
-    if session == client:
-        return ARGUMENT, None
-    return 0, Sender(session, 0, client)
+def begin(session):
+    """A client's sending session. A server's begins on the table of its clients' (sessions.py)."""
+    return Sender(session, 0)
 
 
 def refusal(method, key, sender, address, padding, payload, room):
@@ -270,9 +268,7 @@ def refusals():
         number, datagram = seal(**(CALL | changed))
         name = f"refusal {expected} for {', '.join(changed)}"
         yield name, number == expected and bool(datagram) == (expected == 0)
-    yield "client begun", begin(7) == (0, Sender(7, 0))
-    yield "server begun", begin(7, 8) == (0, Sender(7, 0, 8))
-    yield "server not begun", begin(7, 7) == (ARGUMENT, None)
+    yield "client begun", begin(7) == Sender(7, 0)
 
 
 def selftest():

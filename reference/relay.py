@@ -74,10 +74,10 @@ def session_begin_client(id: int, session: Words) -> Left:
     return accepted(session=(CLIENT_SIDE, id, 0, 0))
 
 
-def session_begin_server(id: int, client: int, session: Words) -> Left:
+def session_begin_server(id: int, client: int, clock: int, table: Words, session: Words) -> Left:
     if len(session) != SESSION_WORDS:
         return refused(SETTINGS)
-    number, sender = datagram.begin(id, client)
+    number, sender = sessions.begin_reply(table, clock, id, client)
     if number:
         return refused(number)
     return accepted(session=(SERVER_SIDE, sender.session, sender.client, sender.packet))
@@ -370,8 +370,11 @@ def datagram_examples():
     yield "table of 0", wrote["table"] == (300,) + (0,) * 832
     session = session_begin_client(7, (9,) * 4).wrote["session"]
     yield "session", session == (0, 7, 0, 0)
-    yield "equal IDs", session_begin_server(7, 7, (9,) * 4) == refused(12)
-    yield "lengths", session_begin_server(7, 7, (9,) * 5) == refused(1)
+    yield "equal IDs", session_begin_server(7, 7, 1_000, table, (9,) * 4) == refused(12)
+    yield "lengths", session_begin_server(7, 7, 1_000, table, (9,) * 5) == refused(1)
+    yield "table", session_begin_server(7, 7, 1_000, table[1:], (9,) * 4) == refused(1)
+    begun = session_begin_server(7, 8, 1_000, table, (9,) * 4)
+    yield "reply", begun == accepted(session=(1, 7, 8, 0))
     call = {"clock": 1_000, "address": NAME, "padding": 0, "payload": b"", "out": FILLED}
     wrote = datagram_seal(1, KEY, session, answer=ANSWER, **call).wrote
     sealed = wrote["out"][: wrote["answer"][0]]
@@ -380,6 +383,9 @@ def datagram_examples():
     number, wrote = datagram_open_server(1, KEY, 1_000, 1, 2, 3, table=table, **lent)
     yield "opened", (number, wrote["answer"]) == (0, (3, 13, 1, 80, 7, 0, 1_000, 0, 16))
     record = (1, 7, 0, 1_000, 1, 0, 0, 0, 1, 2, 3, 1, 0)
+    on = {"table": wrote["table"], "session": (9,) * 4}
+    yield "taken", session_begin_server(7, 8, 1_060, **on) == refused(12)
+    yield "forgotten", session_begin_server(7, 8, 1_061, **on) == accepted(session=(1, 7, 8, 0))
     yield "record", wrote["table"] == (60, *record) + (0,) * 819
     again = datagram_open_server(1, KEY, 1_000, 1, 2, 3, table=wrote["table"], **lent)
     repeated = (60, *record[:-1], 1) + (0,) * 819

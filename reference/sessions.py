@@ -19,7 +19,7 @@ sys.dont_write_bytecode = True  # no __pycache__ in the tree
 import aes  # noqa: E402
 import datagram  # noqa: E402
 import gcm  # noqa: E402
-from datagram import CLIENT_PACKET, KEY_LENGTHS, LENGTH, MAX_LENGTH, ROOM  # noqa: E402
+from datagram import ARGUMENT, CLIENT_PACKET, KEY_LENGTHS, LENGTH, MAX_LENGTH, ROOM  # noqa: E402
 from datagram import SEPARATE_LENGTH, SERVER_PACKET, SETTINGS, u16, u64  # noqa: E402
 
 SESSIONS = 64
@@ -158,10 +158,22 @@ def admit(table, clock, id, packet, peer):
     return FULL, table
 
 
+def begin_reply(table, clock, id, client):
+    """A refusal's number, or 0; and the sending session in reply to a client's, if there is one."""
+    if not lawful(table):
+        return SETTINGS, None
+    alive_ids = {words_of(table, record)[1] for record in alive_records(table, clock)}
+    if id in alive_ids or id == client:
+        return ARGUMENT, None
+    return 0, datagram.Sender(id, 0, client)
+
+
 def table_sessions(table, clock):
     """What the table says of its sessions alive: by ID, without record numbers."""
     sessions = (session_of(words_of(table, record)) for record in alive_records(table, clock))
-    return sorted((s.id, s.high, sorted(s.marks), s.last, s.peer, s.accepted, s.repeats) for s in sessions)
+    return sorted(
+        (s.id, s.high, sorted(s.marks), s.last, s.peer, s.accepted, s.repeats) for s in sessions
+    )
 
 
 # The book: pages by ID.
@@ -581,17 +593,34 @@ def table_examples():
     number, table = admit(table_with(60, odd), 0, ID, 21, PEER)
     expected = odd._replace(high=21, marks=frozenset({0, 4, 31}), accepted=2)
     yield "words of a host", number == 0 and table == table_with(60, expected)
-    most = table_with(60, begun(ID, 20, 1_000, PEER)._replace(accepted=2**64 - 1, repeats=2**64 - 2))
+    known = begun(ID, 20, 1_000, PEER)._replace(accepted=2**64 - 1, repeats=2**64 - 2)
+    most = table_with(60, known)
     most = most[:11] + (2**63 + 80,) + most[12:]  # junk in the port's word
     number, table = admit(most, 1_010, ID, 20, OTHER_PEER)
-    yield "a repeat writes one word", (number, table) == (REPLAY, most[:13] + (2**64 - 1,) + most[14:])
+    counted_once = most[:13] + (2**64 - 1,) + most[14:]
+    yield "a repeat writes one word", (number, table) == (REPLAY, counted_once)
     yield "repeats stop", admit(table, 1_010, ID, 20, OTHER_PEER) == (REPLAY, table)
     _, table = admit(table, 1_010, ID, 21, OTHER_PEER)
     yield "accepted stops", words_of(table, 0)[10:] == (3, 2**64 - 1, 2**64 - 1)
+    yield from reply_examples()
     early = plaintext(None, 1_030, datagram.NAME)
     _, table = opened(early)
     again, _ = opened(early, clock=1_060, table=table)
     yield "30 ahead, at its 60th second", again.number == REPLAY
+
+
+def reply_examples():
+    table = table_with(60, *(begun(n, 0, 1_000, PEER) for n in range(64)))
+    for id in (0, 1, 63):
+        at = {clock: begin_reply(table, clock, id, 99)[0] for clock in (990, 1_060, 1_061)}
+        yield f"reply of ID {id}", at == {990: ARGUMENT, 1_060: ARGUMENT, 1_061: 0}
+    yield "reply begun", begin_reply(table, 1_000, 64, 1) == (0, datagram.Sender(64, 0, 1))
+    yield "its own client's ID", begin_reply(table, 1_061, 1, 1) == (ARGUMENT, None)
+    yield "a client that is not there", begin_reply(table, 1_000, 64, 64) == (ARGUMENT, None)
+    alike = [begun(ID, 0, last, PEER) for last in (939, 1_000)]
+    yield "behind a forgotten one", begin_reply(table_with(60, *alike), 1_000, ID, 1)[0] == ARGUMENT
+    for unlawful in ((59, *table[1:]), table[:-1], table + (0,), table[:705]):
+        yield "1 before 12", begin_reply(unlawful, 1_000, 1, 1) == (SETTINGS, None)
 
 
 # Random lists: the table against the book, and rearranged.
@@ -616,7 +645,9 @@ def book_runs():
         yield f"list {number} by the book", (answers, sessions) == run_book(retention, calls)
         counts = {id: (taken, repeats) for id, *_, taken, repeats in sessions}
         seen.update("repeats" for _, repeats in counts.values() if repeats > 1)
-        yield f"list {number}, calls counted", not calls or counts == counted(retention, calls, answers)
+        yield f"list {number}, replies", replies_by_book(retention, calls)
+        same = not calls or counts == counted(retention, calls, answers)
+        yield f"list {number}, calls counted", same
         if FULL in (given.number for given in answers):
             continue
         for turn in range(3):
@@ -627,6 +658,25 @@ def book_runs():
     every = {0, LENGTH, ROOM, NOT_AUTHENTIC, MALFORMED, TYPE, TIME, REPLAY, FULL, BINDING}
     yield "every answer in the lists", set(seen) - {"repeats"} == every
     yield "sessions with repeats", seen["repeats"] > 3
+
+
+def replies_by_book(retention, calls):
+    """Whether 12 is given behind a list exactly for pages alive and the client's own ID."""
+    _, table = make(retention, (0,) * TABLE_WORDS)
+    pages = {}
+    for call in calls:
+        _, table = open(call, table)
+        _, pages = open_by_book(call, pages, retention)
+    last = calls[-1].clock if calls else 1_000
+    clocks = last, last + 31, last + retention, last + 4_000
+    for clock, id in itertools.product(clocks, (*pages, 7)):
+        page = pages.get(id)
+        is_alive = page is not None and alive(page.last, retention, clock)
+        for client in (id, id + 1):
+            number, _ = begin_reply(table, clock, id, client)
+            if number != (ARGUMENT if is_alive or id == client else 0):
+                return False
+    return True
 
 
 def selftest():

@@ -44,10 +44,7 @@ def sealing(call) -> Call:
 
 
 def beginning(case) -> Call:
-    if case.client is None:
-        return "relay_session_begin_client", {"id": case.session, "session": SESSION}
-    values = {"id": case.session, "client": case.client, "session": SESSION}
-    return "relay_session_begin_server", values
+    return "relay_session_begin_client", {"id": case.session, "session": SESSION}
 
 
 def datagrams() -> Iterator[Call]:
@@ -74,11 +71,19 @@ def opening(record) -> Call:
     return f"relay_datagram_open_{side}", values
 
 
+def replying(record) -> Call:
+    values = {"id": record.id, "client": record.client, "clock": record.clock}
+    values |= {"table": record.before[: record.words], "session": SESSION}
+    return "relay_session_begin_server", values
+
+
 def tables() -> Iterator[Call]:
     for _, calls in session_cases.make_groups():
         for record in calls.records:
             if isinstance(record, session_cases.Opening):
                 yield opening(record)
+            elif isinstance(record, session_cases.Beginning):
+                yield replying(record)
             elif isinstance(record, session_cases.Making):
                 lent = record.before[: record.words]
                 yield "relay_table_new", {"retention": record.retention, "table": lent}

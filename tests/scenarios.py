@@ -93,18 +93,32 @@ class Datagrams(Scenario):
         self.retention = dice.choice((60, 60, 61, 300, 3_600))
         self.clients = [self.begun(client=None) for _ in range(3)]
         ids = [session[1] for session in self.clients]
+        self.tables = [self.table(self.clients)]
         self.servers = [self.begun(client=dice.choice(ids)) for _ in range(3)]
-        self.tables = [self.table(self.clients), self.table(self.servers)]
+        self.tables.append(self.table(self.servers))
         self.sent: list[tuple[int, int, bytes]] = []  # side, client and datagram
 
     def begun(self, client: int | None) -> relay.Words:
         lent = tuple(self.dice.getrandbits(64) for _ in range(relay.SESSION_WORDS))
         id = self.dice.choice((0, 1, LAST, self.dice.getrandbits(64), self.dice.getrandbits(64)))
+        if client is not None and self.often(40):
+            id = self.taken()
         if client is None:
             number, left = self.call("session_begin_client", id=id, session=lent)
         else:
-            number, left = self.call("session_begin_server", id=id, client=client, session=lent)
+            values = {"id": id, "client": client, "clock": self.clock}
+            values |= {"table": self.clients_table(), "session": lent}
+            number, left = self.call("session_begin_server", **values)
         return (int(client is not None), id, client or 0, 0) if number else left["session"]
+
+    def clients_table(self) -> relay.Words:
+        """The server's table, at times with odd words."""
+        table = self.tables[0]
+        return few_changed(self.dice, table) if self.often(5) else table
+
+    def taken(self) -> int:
+        """An ID that a record of the server's table has, alive or not."""
+        return self.tables[0][2 + RECORD_WORDS * self.dice.randrange(SESSIONS)]
 
     # Tables.
 
@@ -131,7 +145,8 @@ class Datagrams(Scenario):
             last = (self.clock - gap) % 2**64
             high = self.dice.choice((0, 5, 300, LAST))
             counts = self.dice.choices((0, 1, LAST - 1, LAST, marks[0]), k=2)
-            words += [self.dice.choice((1, 1, 7)), id, high, last, *marks, *marks[:2], 2**20, *counts]
+            words += [self.dice.choice((1, 1, 7)), id, high, last, *marks]
+            words += [*marks[:2], 2**20, *counts]
         assert len(words) == SESSIONS * RECORD_WORDS
         return words
 

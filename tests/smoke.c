@@ -158,6 +158,39 @@ static void client_to_server(void)
     printf("client to server: %zu bytes opened; forged, late and replayed ones refused\n", len);
 }
 
+/* A session in reply to the client's, begun on the table that has it. */
+static uint64_t begin_server(uint64_t id, uint64_t clock, const uint64_t *clients,
+                             uint64_t *session)
+{
+    return relay_session_begin_server(id, CLIENT_ID, clock, clients, RELAY_TABLE_WORDS, session,
+                                      RELAY_SESSION_WORDS);
+}
+
+static void begin_replies(uint64_t *session)
+{
+    uint64_t clients[RELAY_TABLE_WORDS], answer[RELAY_ANSWER_WORDS];
+    uint8_t datagram[200], out[200];
+    relay_table_new(60, clients, RELAY_TABLE_WORDS);
+    for (uint64_t id = CLIENT_ID; id <= CLIENT_ID + 1; id++) {
+        relay_session_begin_client(id, session, RELAY_SESSION_WORDS);
+        size_t len = seal(session, "ping", datagram, sizeof datagram);
+        check_number(open_server(CLOCK, datagram, len, clients, out, sizeof out, answer), RELAY_OK,
+                     "opening a client's datagram");
+        check_number(begin_server(id, CLOCK + 60, clients, session), RELAY_REFUSED_ARGUMENT,
+                     "a server's session of a client's ID");
+    }
+    check_number(begin_server(CLIENT_ID + 1, CLOCK + 61, clients, session), RELAY_OK,
+                 "a server's session of a forgotten client's ID");
+    check_number(begin_server(CLIENT_ID, CLOCK + 61, clients, session), RELAY_REFUSED_ARGUMENT,
+                 "and of its own client's, which is forgotten too");
+    clients[0] = 59;
+    check_number(begin_server(CLIENT_ID, CLOCK, clients, session), RELAY_REFUSED_SETTINGS,
+                 "a table that is not lawful");
+    clients[0] = 60;
+    check_number(begin_server(SERVER_ID, CLOCK, clients, session), RELAY_OK,
+                 "beginning a server's session");
+}
+
 static void server_to_client(void)
 {
     uint64_t session[RELAY_SESSION_WORDS];
@@ -166,10 +199,7 @@ static void server_to_client(void)
     uint8_t datagram[200];
     uint8_t out[200];
 
-    check_number(relay_session_begin_server(CLIENT_ID, CLIENT_ID, session, RELAY_SESSION_WORDS),
-                 RELAY_REFUSED_ARGUMENT, "a server's session of its client's ID");
-    check_number(relay_session_begin_server(SERVER_ID, CLIENT_ID, session, RELAY_SESSION_WORDS),
-                 RELAY_OK, "beginning a server's session");
+    begin_replies(session);
     relay_table_new(60, table, RELAY_TABLE_WORDS);
     size_t len = seal(session, "pong", datagram, sizeof datagram);
 

@@ -50,7 +50,8 @@ static void session_begin_client(void)
 
 static void session_begin_server(void)
 {
-    number = relay_session_begin_server(2, 1, session, RELAY_SESSION_WORDS);
+    number = relay_session_begin_server(2, 1, CLOCK, table, RELAY_TABLE_WORDS, session,
+                                        RELAY_SESSION_WORDS);
 }
 
 static void datagram_seal(void)

@@ -7,7 +7,7 @@ import sys
 sys.dont_write_bytecode = True  # no __pycache__ in the tree
 import vectors  # noqa: E402
 import sessions  # noqa: E402
-from datagram import KEY_LENGTHS, LENGTH, LONG_NAME, MAX_LENGTH, NAME, ROOM  # noqa: E402
+from datagram import ARGUMENT, KEY_LENGTHS, LENGTH, LONG_NAME, MAX_LENGTH, NAME, ROOM  # noqa: E402
 from datagram import SETTINGS, V4, V6, u16  # noqa: E402
 from sessions import BINDING, CLIENT, FULL, ID, MALFORMED, MIN_LENGTH, NOT_AUTHENTIC  # noqa: E402
 from sessions import PEER, RECORD_WORDS, REPLAY, TABLE_WORDS, TIME, TYPE, Dice, Host  # noqa: E402
@@ -38,6 +38,7 @@ ADDRESSES += (b"\1" + bytes(6), b"\4" + bytes(18), b"\3\1" + bytes(3))
 # datagram of a call is as it is before the flip: a place, and a mask for the byte there.
 Opening = collections.namedtuple("Opening", "call words flip before answer after")
 Making = collections.namedtuple("Making", "retention words before answer after")
+Beginning = collections.namedtuple("Beginning", "id client clock words before answer sender")
 Words = collections.namedtuple("Words", "after")
 
 
@@ -88,6 +89,12 @@ class Calls:
         left = self.lend(words, lambda table: sessions.make(retention, table))
         self.expect(("making", retention, words), left[1], answer)
         self.records.append(Making(retention, words, *left))
+
+    def reply(self, id, client, answer, clock=1_000, words=TABLE_WORDS):
+        """Begins a session in reply to a client's. The table is only read."""
+        given, sender = sessions.begin_reply(self.table[:words], clock, id, client)
+        self.expect(("reply", id, client, clock, words), given, answer)
+        self.records.append(Beginning(id, client, clock, words, self.table, given, sender))
 
     def run(self, call, answer=None, words=TABLE_WORDS, flip=(0, 0)):
         left = self.lend(words, lambda table: sessions.open(flipped(call, flip), table))
@@ -611,7 +618,8 @@ def counts_group():
     """Repeats and acceptances, both counts up to their end, with junk in the port's word."""
     calls = Calls()
     ends = (0, 1, 2**32 - 1, 2**63, LAST - 2, LAST - 1, LAST)
-    for place, (accepted, repeats) in zip(itertools.cycle((0, 5, 63)), itertools.product(ends, ends)):
+    places = itertools.cycle((0, 5, 63))
+    for place, (accepted, repeats) in zip(places, itertools.product(ends, ends)):
         known = Session(1, ID, 300, 1_000, frozenset({0, 9}), PEER, accepted, repeats)
         records = [begun(n, 1, 1_000, PEER) for n in range(place)] + [known, known]
         table = list(table_with(60, *records[:64]))
@@ -658,6 +666,59 @@ def random_groups():
             what = {"session": session, "packet": packet, "time": 2**63}
             calls.open(None, clock=clock, peer=peer, **what, **each)
         yield f"{name}, words of no meaning", calls
+
+
+# Reply sessions.
+
+IDS = (0, 1, ID, 2**32, 2**63, LAST)
+
+
+def reply_groups():
+    calls = Calls(60)
+    for id, client in itertools.product(IDS, IDS):
+        calls.reply(id, client, ARGUMENT if id == client else 0)
+    calls.open(0)  # ID
+    for id, client in itertools.product(IDS, IDS):
+        calls.reply(id, client, ARGUMENT if id in (client, ID) else 0)
+    calls.open(0, session=CLIENT, clock=1_020, time=1_020)
+    for clock in (0, 1_000, 1_060, 1_061, 1_080, 1_081, LAST):
+        calls.reply(ID, 5, ARGUMENT if clock <= 1_060 else 0, clock)
+        calls.reply(CLIENT, ID, ARGUMENT if clock <= 1_080 else 0, clock)
+        calls.reply(5, CLIENT, 0, clock)
+        calls.reply(5, 5, ARGUMENT, clock)
+    calls.open(0, session=5, clock=1_081, time=1_081)  # a client that comes later with the ID
+    calls.reply(5, CLIENT, ARGUMENT, 1_081)
+    yield "replies from a new table", calls
+
+    calls = Calls()
+    for retention in (60, 61, 3_600):
+        for place, gap in itertools.product((0, 1, 62, 63), (0, retention, retention + 1)):
+            records = [begun(n, 9, 1_000, PEER) for n in range(64)]
+            records[place] = begun(700, 9, 5_000 - gap, PEER)
+            calls.begin(table_with(retention, *records))
+            calls.reply(700, 7, ARGUMENT if gap <= retention else 0, 5_000)
+            calls.reply(700, 700, ARGUMENT, 5_000)
+            calls.reply(place, 7, None, 5_000)
+    alike = [begun(ID, n, 1_000 - 61 * (n % 2), PEER)._replace(used=n % 3) for n in range(64)]
+    for place in (0, 1, 61, 62, 63):
+        calls.begin(table_with(60, *alike[place:]))
+        for clock in (0, 939, 999, 1_000, 1_060, 1_061):
+            calls.reply(ID, 7, None, clock)
+        calls.reply(0, 7, 0)
+    yield "replies, records of any place", calls
+
+    calls = Calls()
+    known = table_with(60, begun(ID, 5, 1_000, PEER))
+    for retention in (0, 1, 59, 60, 3_600, 3_601, 2**32 + 60, LAST):
+        calls.begin((retention, *known[1:]))
+        for id, client in ((ID, 7), (7, 7), (8, 7)):
+            answer = SETTINGS if retention not in (60, 3_600) else ARGUMENT if id != 8 else 0
+            calls.reply(id, client, answer)
+    calls.begin(known)
+    for words in (0, 1, 705, 832, 834):
+        for id, client in ((ID, 7), (7, 7), (8, 7)):
+            calls.reply(id, client, SETTINGS, words=words)
+    yield "replies, tables", calls
 
 
 # Making.
@@ -737,6 +798,7 @@ def make_groups():
         odd_group(),
         counts_group(),
         *random_groups(),
+        *reply_groups(),
         making_group(),
         *list_groups(),
         longest_group(),

@@ -10,7 +10,7 @@ sys.dont_write_bytecode = True  # no __pycache__ in the tree
 import vectors  # noqa: E402
 import session_cases  # noqa: E402
 import sessions  # noqa: E402
-from session_cases import Making, Opening, Words  # noqa: E402
+from session_cases import Beginning, Making, Opening, Words  # noqa: E402
 from sessions import MIN_LENGTH, TABLE_WORDS  # noqa: E402
 from vectors import Case  # noqa: E402
 
@@ -94,12 +94,27 @@ def making_case(record):
     )
 
 
+def beginning_case(record):
+    words = (1, record.id, record.client, 0)
+    values, done = ((), "refused") if record.answer else ((0, *words), "begun")
+    return Case(
+        vectors.BEGIN,
+        done,
+        number=record.answer,
+        values=values,
+        after=record.before,
+        lent=record.words,
+        clock=record.clock,
+        arguments=words,
+    )
+
+
 def words_case(record):
     ((word, _),) = collections.Counter(record.after).most_common(1)
     return Case(vectors.SETTING, after=record.after, filled=len(record.after), filling=word)
 
 
-CASES = {Opening: opening_case, Making: making_case, Words: words_case}
+CASES = {Opening: opening_case, Making: making_case, Beginning: beginning_case, Words: words_case}
 
 
 def make():
@@ -109,5 +124,5 @@ def make():
     cases = [(name, [CASES[type(each)](each) for each in calls.records]) for name, calls in groups]
     count = sum(1 for _, each in cases for case in each if case.done)
     agreement = f"{count} calls on session tables in {len(groups)} groups"
-    counters = ("opened", "refused", "made")
+    counters = ("opened", "refused", "made", "begun")
     return vectors.File("sessions.bin", "sessions, total", counters, cases, problems, agreement)

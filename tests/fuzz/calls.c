@@ -15,7 +15,7 @@ static const struct {
     [TABLE_NEW] = {"relay_table_new", B(TABLE), SETTINGS_ONLY},
     [POOL_NEW] = {"relay_pool_new", B(POOL), SETTINGS_ONLY},
     [BEGIN_CLIENT] = {"relay_session_begin_client", B(SESSION), SETTINGS_ONLY},
-    [BEGIN_SERVER] = {"relay_session_begin_server", B(SESSION), SETTINGS_ONLY | N(12)},
+    [BEGIN_SERVER] = {"relay_session_begin_server", B(TABLE) | B(SESSION), SETTINGS_ONLY | N(12)},
     [DATAGRAM_SEAL] = {"relay_datagram_seal",
                        B(KEY) | B(SESSION) | B(ADDRESS) | B(PAYLOAD) | B(OUT) | B(ANSWER),
                        SETTINGS_ONLY | N(2) | N(3) | N(11) | N(12)},
@@ -63,10 +63,11 @@ size_t size_of(enum buffer buffer, size_t len)
     return words ? len * sizeof(uint64_t) : len;
 }
 
-/* Heads write their stream and never read it; out and answer are written only. */
+/* Heads write their stream and never read it; out and answer are written only; a reply session
+ * begins on a table that is only read. */
 static enum lend_use use_of(enum function function, enum buffer buffer)
 {
-    if (buffer <= INPUT)
+    if (buffer <= INPUT || (function == BEGIN_SERVER && buffer == TABLE))
         return LEND_READ;
     if (buffer == OUT || buffer == ANSWER || function <= BEGIN_SERVER)
         return LEND_WRITE;
@@ -86,7 +87,7 @@ static uint64_t call_datagrams(const struct call *c, const struct left *left)
     case BEGIN_CLIENT:
         return relay_session_begin_client(c->id, WORDS(SESSION));
     case BEGIN_SERVER:
-        return relay_session_begin_server(c->id, c->client, WORDS(SESSION));
+        return relay_session_begin_server(c->id, c->client, c->clock, WORDS(TABLE), WORDS(SESSION));
     case DATAGRAM_SEAL:
         return relay_datagram_seal(c->method, BYTES(KEY), WORDS(SESSION), c->clock, BYTES(ADDRESS),
                                    c->padding, BYTES(PAYLOAD), BYTES(OUT), WORDS(ANSWER));

@@ -165,9 +165,21 @@ static void set_state(struct expectation *e, uint64_t a, uint64_t b, uint64_t c,
     }
 }
 
+/* Whether a record that is alive has the ID of a session to be begun. */
+static int taken(const struct call *c)
+{
+    const uint64_t *table = words_of(c, TABLE);
+    for (int i = 0; i < 64; i++) {
+        const uint64_t *record = table + 1 + RECORD_WORDS * i;
+        if (record[0] != 0 && within(c->clock, record[3], table[0]) && record[1] == c->id)
+            return 1;
+    }
+    return 0;
+}
+
 static uint64_t expect_begun(const struct call *c, struct expectation *e)
 {
-    if (c->function == BEGIN_SERVER && c->id == c->client)
+    if (c->function == BEGIN_SERVER && (c->id == c->client || taken(c)))
         return RELAY_REFUSED_ARGUMENT;
     int server = c->function == BEGIN_SERVER;
     set_state(e, (uint64_t)server, c->id, server ? c->client : 0, 0, NULL);

@@ -83,7 +83,8 @@ static void check_state(const struct call *call, const struct left *left, enum b
     promise(untouched(call, left, b, written, state->len), "a refusal wrote to the state");
 }
 
-/* A table or pool: one record of it where the call is accepted, one word of a table where a repeat is counted. */
+/* A table or pool: one record of it where the call is accepted, one word of a table where a repeat
+ * is counted. */
 static void check_records(const struct call *call, const struct left *left, enum buffer b,
                           const struct expectation *e)
 {
@@ -159,7 +160,10 @@ struct left checked_call(const struct call *call)
     if (takes(f, STREAM))
         check_state(call, &left, STREAM, &e);
     enum buffer records = takes(f, TABLE) ? TABLE : POOL;
-    if (f == TABLE_NEW || f == POOL_NEW)
+    if (f == BEGIN_SERVER)
+        promise(untouched(call, &left, TABLE, 0, left.lent[TABLE].len),
+                "a table that is only read was written");
+    else if (f == TABLE_NEW || f == POOL_NEW)
         check_made(call, &left, records);
     else if (takes(f, records))
         check_records(call, &left, records, &e);

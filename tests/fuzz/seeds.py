@@ -80,7 +80,7 @@ def settings():
         *(step("TABLE_NEW", value=each) for each in (0, 1, 59, 61, 3_600, 3_601, FROM_END)),
         *faulty("POOL_NEW", "POOL"),
         *faulty("BEGIN_CLIENT", "SESSION"),
-        *faulty("BEGIN_SERVER", "SESSION", value=9),
+        *faulty("BEGIN_SERVER", "TABLE", "SESSION", value=9),
         step("BEGIN_CLIENT", value=9),
         step("BEGIN_SERVER", who=1, value=ID_OF),
     ]
@@ -199,8 +199,21 @@ def several():
         ]
 
 
+def replies():
+    """Reply sessions of IDs in the first record and the last, alive and forgotten."""
+    steps = [*begun(), step("DATAGRAM_SEAL"), step("OPEN_SERVER")]
+    for number in (0, 63):
+        steps.append(step("SET_WORD", place=1 + 13 * number, value=1))
+        steps.append(step("SET_WORD", place=1 + 13 * number + 1, value=9 + number))
+        for seconds in (0, 60, 61):
+            steps.append(step("SET_WORD", place=1 + 13 * number + 3, value=BEFORE | seconds))
+            steps += [step("BEGIN_SERVER", who=2, value=each) for each in (9, 72, ID_OF | 2)]
+    steps.append(step("SET_WORD", value=59))
+    yield [*steps, step("BEGIN_SERVER", who=2, value=ID_OF | 2)]
+
+
 def repeats():
-    """A session's counts near their end, junk in its port, and repeats of marked and of late packets."""
+    """Counts near their end, junk in the port, and repeats of marked and of late packets."""
     steps = [*begun(), step("DATAGRAM_SEAL"), step("OPEN_SERVER")]
     steps += [step("SET_WORD", place=1 + word, value=FROM_END | 1) for word in (10, 11, 12)]
     for packet in (0, 300, 0, 300, 44, 45):
@@ -335,6 +348,7 @@ GROUPS = (
     windows,
     several,
     repeats,
+    replies,
     requests,
     refused_requests,
     responses,

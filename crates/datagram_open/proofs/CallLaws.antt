@@ -1,19 +1,17 @@
 -- A call of an opener is a step of the table with what its arguments decide; a law for each way out.
 -- Assumes nothing.
 use mathlib.Core.Path.{_≡_, refl, sym, ap, _∙_}
-use mathlib.Core.Bool.{true, false, cond, and-eq-true-iff}
+use mathlib.Core.Bool.{true, false, cond}
 use mathlib.Core.List.{List, _++_}
 use Prim.Native.Nat.{ℕ, _-_, _≤_}
 use native.Mathlib.Nat.{zero-add}
 use native.Mathlib.Omega.{arith}
-use lib.Dec.{eqb}
 use lib.ListN.{length, drop, replicate, length-replicate}
-use borrow.Author.Tests.{eqb-true}
 use Rattle.octets.specs.Buffers.{put}
 use Rattle.octets.proofs.BufferLaws.{put-again}
 use Rattle.session_record.specs.declared.Peer.{Peer}
 use Rattle.session_table.specs.declared.Admitted.{Admitted}
-use Rattle.session_table.specs.Table.{tableWords, lawful, Entry, stores, replay, full, meet, keep, admitted}
+use Rattle.session_table.specs.Table.{lawful, Entry, stores, replay, full, meet, keep, admitted}
 use Rattle.session_book.specs.Call.{Call, Decision, early, reaches, refused, onto}
 use Rattle.session_book.specs.Runs.{report, tableOutcomeBy, tableNextBy}
 use Rattle.protocol.specs.declared.Refusal.{Refusal}
@@ -38,10 +36,6 @@ expected-opener (Server client) = refl
 -- a buffer settled by an equal answer
 pub settled-as : (a b : Opened) → a ≡ b → (due : ℕ) (out o : List ℕ) → o ≡ settled a due out → o ≡ settled b due out
 settled-as a b e due out o eo = eo ∙ ap (λ (x : Opened). settled x due out) e
-
--- a lawful table has its length
-pub table-length : (t : List ℕ) → lawful t ≡ true → length t ≡ tableWords
-table-length t e = eqb-true (length t) tableWords (and-eq-true-iff (eqb (length t) tableWords) _ .0 e .0)
 
 -- the front of a buffer, written
 onto-put : (out s : List ℕ) → put out 0 s ≡ onto s out

@@ -17,25 +17,12 @@ use Rattle.protocol.specs.Method.{keyFits}
 use Rattle.protocol.proofs.MethodLaws.{fits-sizes}
 use Rattle.socks5.specs.Address.{isAddress}
 use Rattle.datagram_parts.specs.declared.Side.{Side}
-use Rattle.datagram_parts.specs.declared.Side.the-variants.{Server}
 use Rattle.datagram_seal.specs.declared.Sender.{Sender}
-use Rattle.datagram_seal.specs.declared.Begun.the-variants.{Ready, Refused as NotBegun}
 use Rattle.datagram_seal.specs.declared.Sealed.{Sealed}
 use Rattle.datagram_seal.specs.declared.Sealed.the-variants.{Datagram, Refused}
 use Rattle.datagram_parts.specs.Headers.{fixedLength}
 use Rattle.datagram_parts.specs.Parts.{maxDatagram}
-use Rattle.datagram_seal.specs.Sealing.{begun, differs, sealedLength, capped, lengthAnswer, argumentAnswer, sealAnswer, idsDiffer, packetsOf}
-
--- ---- beginning
-
-module _ (id client : ℕ) where
-  pub begun-refused : id ≡ client → NotBegun Argument ≡ begun id client
-  begun-refused e =
-      sym (ap (λ (b : Bool). cond b (NotBegun Argument) (Ready (record { side = Server client; id = id; packet = 0 }))) (eq-eqb id client e))
-
-  pub begun-ready : (id ≡ client → ⊥) → Ready (record { side = Server client; id = id; packet = 0 }) ≡ begun id client
-  begun-ready f =
-      sym (ap (λ (b : Bool). cond b (NotBegun Argument) (Ready (record { side = Server client; id = id; packet = 0 }))) (ne-eqb id client f))
+use Rattle.datagram_seal.specs.Sealing.{differs, sealedLength, capped, lengthAnswer, argumentAnswer, sealAnswer, idsDiffer, packetsOf}
 
 -- the side that was found
 pub differs-law : (id : ℕ) (p q : Side) → p ≡ q → differs q id ≡ differs p id

@@ -11,8 +11,6 @@ use Rattle.socks5.specs.Address.{isAddress}
 use Rattle.datagram_parts.specs.declared.Side.{Side}
 use Rattle.datagram_parts.specs.declared.Side.the-variants.{Client, Server}
 use Rattle.datagram_seal.specs.declared.Sender.{Sender}
-use Rattle.datagram_seal.specs.declared.Begun.{Begun}
-use Rattle.datagram_seal.specs.declared.Begun.the-variants.{Ready, Refused as NotBegun}
 use Rattle.datagram_seal.specs.declared.Sealed.{Sealed}
 use Rattle.datagram_seal.specs.declared.Sealed.the-variants.{Datagram, Refused}
 use Rattle.datagram_parts.specs.Headers.{fixedLength, plaintext}
@@ -23,10 +21,10 @@ use Rattle.datagram_parts.specs.Parts.{overhead, maxDatagram, separateBlock, se
 abbrev pub clientSender : ℕ → Sender
 clientSender id = record { side = Client; id = id; packet = 0 }
 
--- a server's ID is not its client's
-abbrev pub begun : ℕ → ℕ → Begun
-begun id client = cond (eqb id client) (NotBegun Argument) (Ready (record { side = Server client; id = id; packet = 0 }))
+abbrev pub serverSender : (id client : ℕ) → Sender
+serverSender id client = record { side = Server client; id = id; packet = 0 }
 
+-- a server's ID is not its client's
 abbrev pub differs : Side → ℕ → Bool
 differs Client id = true
 differs (Server client) id = not (eqb id client)

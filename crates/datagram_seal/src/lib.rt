@@ -3,7 +3,7 @@
 pub use datagram_parts::Side;
 use protocol::Refusal;
 ghost use mathlib.Core.Path.{_≡_};
-ghost use Rattle.datagram_seal.specs.Sealing.{clientSender, begun};
+ghost use Rattle.datagram_seal.specs.Sealing.{clientSender};
 
 mod write;
 
@@ -16,6 +16,7 @@ pub struct Sender {
     pub packet: u64,
 }
 
+// What beginning answers. A server's session begins on the table of its clients' (crate reply_session).
 pub enum Begun {
     Ready(Sender),
     Refused(Refusal),
@@ -43,19 +44,5 @@ impl Sender {
             id: id,
             packet: 0,
         }
-    }
-
-    // A server's, in reply to a client's session. The two IDs must differ.
-    pub fn server(id: u64, client: u64) -> Begun
-        ensures { λ r. ⌜ r ≡ begun id client ⌝ }
-    {
-        if id == client {
-            return Begun::Refused(Refusal::Argument);
-        }
-        Begun::Ready(Self {
-            side: Side::Server(client),
-            id: id,
-            packet: 0,
-        })
     }
 }

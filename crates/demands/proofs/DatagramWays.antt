@@ -2,13 +2,14 @@
 -- Assumes nothing.
 use mathlib.Core.Path.{_≡_, refl, sym, ap, ap₂, _∙_}
 use mathlib.Core.Logic.{_≢_}
-use mathlib.Core.Bool.{Bool, true, false, cond, false≢true}
+use mathlib.Core.Bool.{Bool, true, false, cond, not, _&&_, _||_, true≢false, and-eq-true-iff}
 use mathlib.Core.List.{List}
 use mathlib.Core.Option.{Option, none, some}
 use Prim.Native.Nat.{ℕ, _+_, _-_, _*_, _^_, min}
 use native.Mathlib.Omega.{arith}
 use lib.Dec.{eqb, leb}
 use lib.ListN.{length, getD, set, replicate, length-replicate}
+use borrow.Author.Tests.{eq-eqb, not-true}
 use Rattle.octets.specs.Buffers.{put}
 use Rattle.octets.proofs.BufferLaws.{put-again}
 use Rattle.session_record.specs.declared.Peer.{Peer}
@@ -17,7 +18,7 @@ use Rattle.session_table.specs.Table.{start, recordAt, repeated, lawful, freshI
 use Rattle.session_book.specs.Call.{Answer, refused, opened}
 use Rattle.protocol.specs.Method.{keyFits}
 use Rattle.protocol.specs.declared.Refusal.{Refusal}
-use Rattle.protocol.specs.declared.Refusal.the-variants.{Settings, Length, Room, NotAuthentic, Malformed, WrongType, WrongTime, Replay, Full, More, Counter, Argument, Binding}
+use Rattle.protocol.specs.declared.Refusal.the-variants.{Settings, Length, Room, NotAuthentic, Malformed, WrongType, WrongTime, Replay, Full, Binding}
 use Rattle.protocol.specs.Refusal.{refusalNumber}
 use Rattle.protocol.specs.Time.{timeValid}
 use Rattle.socks5.specs.declared.Parsed.{Parsed}
@@ -75,49 +76,15 @@ not-read r h o e f = let z : _≡_ {A = ℕ} 0 1 = ap isRead (sym e ∙ f) in om
 
 -- those before 8: what the arguments alone decide
 abbrev pub ofReader : Refusal → Bool
-ofReader Settings = true
-ofReader Length = true
-ofReader Room = true
-ofReader NotAuthentic = true
-ofReader Malformed = true
-ofReader WrongType = true
-ofReader WrongTime = true
-ofReader Replay = false
-ofReader Full = false
-ofReader (More wanted) = false
-ofReader Counter = false
-ofReader Argument = false
-ofReader Binding = true
+ofReader r = ofOpener r && not (eqb (refusalNumber r) 8 || eqb (refusalNumber r) 9)
 
 pub reader-opener : (r : Refusal) → ofReader r ≡ true → ofOpener r ≡ true
-reader-opener Settings e = refl
-reader-opener Length e = refl
-reader-opener Room e = refl
-reader-opener NotAuthentic e = refl
-reader-opener Malformed e = refl
-reader-opener WrongType e = refl
-reader-opener WrongTime e = refl
-reader-opener Replay e = refl
-reader-opener Full e = refl
-reader-opener (More wanted) e = e
-reader-opener Counter e = e
-reader-opener Argument e = e
-reader-opener Binding e = refl
+reader-opener r e = and-eq-true-iff (ofOpener r) _ .0 e .0
 
 pub early-not-eight : (r : Refusal) → ofReader r ≡ true → refusalNumber r ≢ 8
-early-not-eight Settings e f = omega arith
-early-not-eight Length e f = omega arith
-early-not-eight Room e f = omega arith
-early-not-eight NotAuthentic e f = omega arith
-early-not-eight Malformed e f = omega arith
-early-not-eight WrongType e f = omega arith
-early-not-eight WrongTime e f = omega arith
-early-not-eight Replay e f = false≢true e
-early-not-eight Full e f = omega arith
-early-not-eight (More wanted) e f = omega arith
-early-not-eight Counter e f = omega arith
-early-not-eight Argument e f = omega arith
-early-not-eight Binding e f = omega arith
+early-not-eight r e f =
+    let none = not-true _ (and-eq-true-iff (ofOpener r) _ .0 e .1) in
+    true≢false (sym (ap (λ (b : Bool). b || eqb (refusalNumber r) 9) (eq-eqb (refusalNumber r) 8 f)) ∙ none)
 
 abbrev pub among : Opened → Bool
 among (Datagram h) = true

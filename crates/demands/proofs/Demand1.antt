@@ -11,21 +11,20 @@ use lib.ListN.{length, drop, length-replicate}
 use borrow.Author.Tests.{eqb-true, eqb-false}
 use Rattle.octets.proofs.BufferLaws.{length-put}
 use Rattle.protocol.specs.declared.Refusal.{Refusal}
-use Rattle.protocol.specs.declared.Refusal.the-variants.{Argument}
 use Rattle.protocol.specs.Refusal.{refusalNumber, wantedBytes}
-use Rattle.session_table.specs.Table.{recordWords, tableWords, newTable, makeLawful, made, madeRetention}
+use Rattle.session_table.specs.Table.{recordWords, tableWords, lawful, taken, newTable, makeLawful, made, madeRetention}
 use Rattle.session_table.proofs.TableLaws.{wrong-length, else-itself, new-length, made-in-range, below-range, above-range}
 use Rattle.session_table.specs.Sizes.{capacity}
 use Rattle.salt_pool.specs.Pool as pool
-use Rattle.datagram_parts.specs.declared.Side.the-variants.{Server}
 use Rattle.datagram_seal.specs.declared.Sender.{Sender}
-use Rattle.datagram_seal.specs.declared.Begun.{Begun}
-use Rattle.datagram_seal.specs.declared.Begun.the-variants.{Ready, Refused as NotBegun}
 use Rattle.datagram_seal.specs.declared.Sealed.{Sealed}
 use Rattle.datagram_seal.specs.declared.Sealed.the-variants.{Datagram, Refused}
-use Rattle.datagram_seal.specs.Sealing.{begun, sealAnswer, sealNext, datagram, sealOut}
+use Rattle.reply_session.specs.Beginning.{replyBegun}
+use Rattle.reply_session.proofs.BeginLaws.{unlawful, own-client, others-client, free}
+use Rattle.reply_session.proofs.Exactly.{reply-begins-exactly}
+use Rattle.datagram_seal.specs.Sealing.{sealAnswer, sealNext, datagram, sealOut}
 use Rattle.datagram_seal.proofs.AnswerLaws.{sealable}
-use Rattle.demands.specs.Demand1.{SealAnswered, sealed, refused, SealKeeps, BeginAnswered, begins, refused-12, Made, Demand1}
+use Rattle.demands.specs.Demand1.{SealAnswered, sealed, refused, SealKeeps, BeginAnswered, begins, refused-1, refused-12, Made, Demand1}
 use Rattle.demands.specs.Orders.{saidSealed, sealOrder}
 use Rattle.demands.proofs.DatagramDemands.{openers-keep}
 use Rattle.demands.proofs.DatagramSealing.{answers-length, writes-length}
@@ -81,15 +80,14 @@ module _ (method : ℕ) (key : List ℕ) (sender : Sender) (time : ℕ) (address
 
 -- ---- beginning
 
-begins-or-12 : (id client : ℕ) → BeginAnswered id client (begun id client)
-begins-or-12 id client = go (eqb id client) refl
+begins-or-refused : (t : List ℕ) (clock id client : ℕ) → BeginAnswered id client (replyBegun t clock id client)
+begins-or-refused t clock id client = go (lawful t) (eqb id client) (taken t clock id) refl refl refl
   where
-    answer-by : Bool → Begun
-    answer-by b = cond b (NotBegun Argument) (Ready (record { side = Server client; id = id; packet = 0 }))
-
-    go : (b : Bool) → eqb id client ≡ b → BeginAnswered id client (begun id client)
-    go true e = refused-12 (eqb-true id client e) (ap answer-by e)
-    go false e = begins (eqb-false id client e) (ap answer-by e)
+    go : (l s u : Bool) → lawful t ≡ l → eqb id client ≡ s → taken t clock id ≡ u → BeginAnswered id client (replyBegun t clock id client)
+    go false s u el es eu = refused-1 (unlawful t clock id client el)
+    go true true u el es eu = refused-12 (own-client t clock id client el (eqb-true id client es))
+    go true false true el es eu = refused-12 (others-client t clock id client el eu)
+    go true false false el es eu = begins (free t clock id client el (eqb-false id client es) eu)
 
 -- ---- making
 
@@ -139,7 +137,7 @@ demand1 =
     record {
       datagrams-opened = openers-keep;
       datagrams-sealed = datagram-keeps;
-      sessions-begun = record { clients = λ id. refl; servers = begins-or-12 };
+      sessions-begun = record { clients = λ id. refl; servers-answered = begins-or-refused; servers = reply-begins-exactly };
       tables-and-pools-made = tables-made;
       streams = streams-demand1;
     }

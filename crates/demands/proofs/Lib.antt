@@ -15,3 +15,4 @@ pub mod OrderLaws
 pub mod Orders
 pub mod Demand1
 pub mod Demand3
+pub mod Replies

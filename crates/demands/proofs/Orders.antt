@@ -13,7 +13,7 @@ use borrow.Author.Tests.{leb-true, ne-eqb}
 use Rattle.octets.specs.Buffers.{same}
 use Rattle.octets.specs.Numbers.{be}
 use Rattle.session_record.specs.declared.Peer.{Peer}
-use Rattle.session_table.specs.Table.{Record, recordAt, lawful, freshIn, acceptIn, sessionPlace, freePlace, stores, replay, meetBy, meet}
+use Rattle.session_table.specs.Table.{Record, recordAt, lawful, freshIn, acceptIn, sessionPlace, isPlace, taken, freePlace, stores, replay, meetBy, meet}
 use Rattle.session_book.specs.Call.{Call, Outcome}
 use Rattle.session_book.specs.Runs.{report, tableOutcomeBy}
 use Rattle.protocol.specs.declared.Refusal.{Refusal}
@@ -30,7 +30,8 @@ use Rattle.datagram_parts.specs.Headers.{typeOf, fixedLength}
 use Rattle.datagram_parts.specs.Parts.{maxDatagram}
 use Rattle.datagram_seal.specs.declared.Sender.{Sender as Session}
 use Rattle.datagram_seal.specs.declared.Sealed.the-variants.{Datagram, Refused as NoDatagram}
-use Rattle.datagram_seal.specs.Sealing.{begun as begunSession, idsDiffer, sealedLength, capped, lengthAnswer, argumentAnswer, sealAnswer}
+use Rattle.reply_session.specs.Beginning.{replyBegun}
+use Rattle.datagram_seal.specs.Sealing.{idsDiffer, sealedLength, capped, lengthAnswer, argumentAnswer, sealAnswer}
 use Rattle.datagram_read.specs.declared.Header.{Header}
 use Rattle.datagram_read.specs.declared.Opened.{Opened}
 use Rattle.datagram_read.specs.Opening.{sessionOf, packetOf, timeOf, meant, headerWith, readAddress, readMain, lengthLawful, readBody, readAnswer, readOut}
@@ -59,7 +60,7 @@ use Rattle.stream_open_request.specs.declared.RequestRead.{RequestRead}
 use Rattle.stream_open_request.specs.Requests.{paddingAt, paddingFits, headerWith as requestHeaderWith, readVariable, openVariable, openedAs, metAs, fixedAs, readHead, settings, openedRequest}
 use Rattle.stream_pieces.proofs.LengthLaws.{length-openAt}
 use Rattle.demands.specs.Datagrams.{tagGood}
-use Rattle.demands.specs.Orders.{Rule, rule, more, Said, first, refusesWith, otherMethod, otherKey, addressIn, noAddress, othersDatagram, notFresh, noRoom, saidOpened, openOrder, openedHeader, isReplay, isFull, badVariable, saidRequest, requestOrder, requestOpened, saidResponse, responseOrder, responseOpened, isEnded, atNothing, emptyLength, textBytes, dueBytes, lengthTold, saidStep, stepOrder, chunkOpened, ownHeader, saidSealed, datagramBytes, sealOrder, saidPiece, sealRequestOrder, requestSealed, sealResponseOrder, responseSealed, sealChunkOrder, chunkSealed, saidBegun, beginOrder, sessionBegun, Orders}
+use Rattle.demands.specs.Orders.{Rule, rule, more, Said, first, refusesWith, otherMethod, otherKey, addressIn, noAddress, othersDatagram, notFresh, noRoom, saidOpened, openOrder, openedHeader, isReplay, isFull, badVariable, saidRequest, requestOrder, requestOpened, saidResponse, responseOrder, responseOpened, isEnded, atNothing, emptyLength, textBytes, dueBytes, lengthTold, saidStep, stepOrder, chunkOpened, ownHeader, saidSealed, datagramBytes, sealOrder, saidPiece, sealRequestOrder, requestSealed, sealResponseOrder, responseSealed, sealChunkOrder, chunkSealed, saidBegun, isAlive, beginOrder, sessionBegun, Orders}
 use Rattle.demands.proofs.OrderLaws.{next, unless, done, stops, passes, split, not-and, under, under-or-over, other-key, other-method, unsuited, unsuited-both, bad-padding, same-ids, bad-behind}
 
 -- ---- opening a datagram
@@ -286,8 +287,16 @@ module _ (method k : ℕ) (sender : Session) (address : List ℕ) (padding paylo
       lengths Client = omega arith
       lengths (Server client) = omega arith
 
-begin-order : (id client : ℕ) → saidBegun (begunSession id client) ≡ first (beginOrder id client) (sessionBegun id client)
-begin-order id client = unless saidBegun (eqb id client) _ [] _ refl refl λ _. done _
+begin-order : (t : List ℕ) (clock id client : ℕ)
+    → saidBegun (replyBegun t clock id client) ≡ first (beginOrder t clock id client) (sessionBegun id client)
+unfolding replyBegun taken
+begin-order t clock id client =
+    next saidBegun (lawful t) _ _ _ refl refl λ _.
+    unless saidBegun (eqb id client || taken t clock id) _ [] _ (ap (_||_ (eqb id client)) (same-place (sessionPlace t clock id))) refl λ _. done _
+  where
+    same-place : (o : Option ℕ) → isAlive o ≡ isPlace o
+    same-place (some i) = refl
+    same-place none = refl
 
 -- ---- heads
 

@@ -7,7 +7,7 @@ use mathlib.Core.List.{List, [], _∷_}
 use Prim.Native.Nat.{ℕ, _+_, _≤_, _<_}
 use lib.ListN.{length, drop}
 use Rattle.protocol.specs.declared.Refusal.{Refusal}
-use Rattle.protocol.specs.declared.Refusal.the-variants.{Argument}
+use Rattle.protocol.specs.declared.Refusal.the-variants.{Settings, Argument}
 use Rattle.protocol.specs.Refusal.{refusalNumber}
 use Rattle.session_table.specs.Table.{tableWords, newTable, makeLawful, made}
 use Rattle.salt_pool.specs.Pool.{makeLawful as makeLawfulPool, made as madePool}
@@ -17,7 +17,9 @@ use Rattle.datagram_seal.specs.declared.Begun.{Begun}
 use Rattle.datagram_seal.specs.declared.Begun.the-variants.{Ready, Refused as NotBegun}
 use Rattle.datagram_seal.specs.declared.Sealed.{Sealed}
 use Rattle.datagram_seal.specs.declared.Sealed.the-variants.{Datagram, Refused}
-use Rattle.datagram_seal.specs.Sealing.{clientSender, begun, sealAnswer, sealNext, datagram, sealOut}
+use Rattle.reply_session.specs.Beginning.{replyBegun}
+use Rattle.reply_session.specs.Exactly.{ReplyBeginsExactly}
+use Rattle.datagram_seal.specs.Sealing.{clientSender, sealAnswer, sealNext, datagram, sealOut}
 use Rattle.demands.specs.Datagrams.{OpenersKeep}
 use Rattle.demands.specs.StreamsKeep.{among, StreamsDemand1}
 
@@ -45,15 +47,18 @@ DatagramsSealed =
     → SealKeeps sender (sealAnswer method (length key) sender address padding (length payload) (length out))
     (datagram key sender time address padding payload) out
 
--- ---- beginning a sending session: a client's always begins, a server's or refusal 12, which is for equal IDs alone
+-- ---- beginning a sending session: a client's always begins; a server's begins, or is refused with 1 or 12, each exactly where
+-- `ReplyBeginsExactly` says
 
 pub data BeginAnswered (id client : ℕ) (b : Begun) : Type 0 where
-  begins : (id ≡ client → ⊥) → b ≡ Ready (record { side = Server client; id = id; packet = 0 }) → BeginAnswered id client b
-  refused-12 : id ≡ client → b ≡ NotBegun Argument → BeginAnswered id client b
+  begins : b ≡ Ready (record { side = Server client; id = id; packet = 0 }) → BeginAnswered id client b
+  refused-1 : b ≡ NotBegun Settings → BeginAnswered id client b
+  refused-12 : b ≡ NotBegun Argument → BeginAnswered id client b
 
 pub record SessionsBegun : Type 0 where
   pub clients : (id : ℕ) → clientSender id ≡ record { side = Client; id = id; packet = 0 }
-  pub servers : (id client : ℕ) → BeginAnswered id client (begun id client)
+  pub servers-answered : (t : List ℕ) (clock id client : ℕ) → BeginAnswered id client (replyBegun t clock id client)
+  pub servers : ReplyBeginsExactly
 
 -- ---- making a table or a pool: 0 gives a table of 300 seconds, 60 to 3,600 one of so many, and nothing else gives one; refused
 -- making keeps every word, and none is added or lost

@@ -6,3 +6,4 @@ pub mod SaltsOnce
 pub mod Orders
 pub mod Demand1
 pub mod Demand3
+pub mod Replies

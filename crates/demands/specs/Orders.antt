@@ -31,7 +31,8 @@ use Rattle.datagram_seal.specs.declared.Begun.{Begun}
 use Rattle.datagram_seal.specs.declared.Begun.the-variants.{Ready, Refused as NotBegun}
 use Rattle.datagram_seal.specs.declared.Sealed.{Sealed as SealedDatagram}
 use Rattle.datagram_seal.specs.declared.Sealed.the-variants.{Datagram, Refused as NoDatagram}
-use Rattle.datagram_seal.specs.Sealing.{begun, sealAnswer}
+use Rattle.datagram_seal.specs.Sealing.{sealAnswer}
+use Rattle.reply_session.specs.Beginning.{replyBegun}
 use Rattle.datagram_read.specs.declared.Header.{Header}
 use Rattle.datagram_read.specs.Opening.{sessionOf, packetOf}
 use Rattle.datagram_open.specs.Deciding.{plainOf, openAnswer}
@@ -447,14 +448,19 @@ module _ (s : Sender) (size room : ℕ) where
   abbrev pub chunkSealed : ℕ × Sender
   chunkSealed = (chunkBytes, record { method = s .method; counter = s .counter + 2; subkey = s .subkey })
 
--- ---- beginning a server's sending session: 12
+-- ---- beginning a server's sending session: 1, 12
 
 abbrev pub saidBegun : Begun → Said Session
 saidBegun (Ready s) = gives s
 saidBegun (NotBegun r) = refusesWith r
 
-abbrev pub beginOrder : (id client : ℕ) → List Rule
-beginOrder id client = rule 12 (eqb id client) ∷ []
+-- a session is alive
+abbrev pub isAlive : Option ℕ → Bool
+isAlive (some i) = true
+isAlive none = false
+
+abbrev pub beginOrder : List ℕ → (clock id client : ℕ) → List Rule
+beginOrder t clock id client = rule 1 (not (lawful t)) ∷ rule 12 (eqb id client || isAlive (sessionPlace t clock id)) ∷ []
 
 abbrev pub sessionBegun : (id client : ℕ) → Session
 sessionBegun id client = record { side = Server client; id = id; packet = 0 }
@@ -483,4 +489,5 @@ pub record Orders : Type 0 where
       ≡ first (sealResponseOrder method key salt requestSalt payload room) (responseSealed method key salt requestSalt payload room)
   pub chunk-sealed : (s : Sender) (payload room : ℕ)
       → saidPiece (chunkAnswer s payload room) ≡ first (sealChunkOrder s payload room) (chunkSealed s payload room)
-  pub session-begun : (id client : ℕ) → saidBegun (begun id client) ≡ first (beginOrder id client) (sessionBegun id client)
+  pub session-begun : (t : List ℕ) (clock id client : ℕ)
+      → saidBegun (replyBegun t clock id client) ≡ first (beginOrder t clock id client) (sessionBegun id client)

@@ -14,6 +14,8 @@ use Rattle.protocol.specs.Subkey.{subkey, sessionSubkey}
 use Rattle.protocol.specs.Time.{timeValid}
 use Rattle.socks5.specs.Address.{v4At, v6At, nameAt, parseAt, isAddress}
 use Rattle.session_record.specs.Record.{oneMore}
+use Rattle.session_table.specs.Table.{sessionPlace, taken}
+use Rattle.reply_session.specs.Beginning.{replyBegun}
 use Rattle.salt_pool.specs.Pool.{kept, store}
 use Rattle.datagram_parts.specs.Headers.{separateHeader, nonce, fixedPart, plaintext}
 use Rattle.datagram_seal.specs.Sealing.{sealedLength}
@@ -27,7 +29,7 @@ use Rattle.relay.specs.Streams.{notSealing}
 use Rattle.edges.specs.Numbers.{methodFacts, tableFacts, poolFacts, addressFacts, datagramFacts, streamFacts, wordFacts, hostFacts, every, facts, MethodsFit, Material, Numbers}
 
 all-facts : T (every facts)
-unfolding oneMore methodFacts tableFacts poolFacts addressFacts datagramFacts streamFacts wordFacts hostFacts same methodOf keyFits keyLength saltLength timeValid be toBe toLe store kept v4At v6At nameAt parseAt isAddress separateHeader nonce fixedPart plaintext variablePart refusedAnswer put sealedLength readAddress readMain belongs counterNonce fixedHeader stepAnswer notSealing
+unfolding oneMore sessionPlace taken replyBegun methodFacts tableFacts poolFacts addressFacts datagramFacts streamFacts wordFacts hostFacts same methodOf keyFits keyLength saltLength timeValid be toBe toLe store kept v4At v6At nameAt parseAt isAddress separateHeader nonce fixedPart plaintext variablePart refusedAnswer put sealedLength readAddress readMain belongs counterNonce fixedHeader stepAnswer notSealing
 all-facts = tt
 
 methods-fit : MethodsFit

@@ -39,6 +39,7 @@ use Rattle.datagram_parts.specs.Parts.{maxDatagram}
 use Rattle.datagram_seal.specs.declared.Begun.the-variants.{Ready, Refused as NotBegun}
 use Rattle.datagram_seal.specs.declared.Sealed.the-variants.{Datagram, Refused as NoDatagram}
 use Rattle.datagram_seal.specs.Sealing.{sealedLength}
+use Rattle.reply_session.specs.Beginning.{replyBegun}
 use Rattle.datagram_read.specs.Opening.{readMain}
 use Rattle.datagram_open.specs.Deciding.{belongs}
 use Rattle.stream_pieces.specs.Pieces.{nonce as counterNonce, maxChunk, lastCounter}
@@ -382,12 +383,23 @@ lentStream = 1 ∷ 1 ∷ 2 ∷ 0 ∷ 4 ∷ 5 ∷ 6 ∷ 7 ∷ []
 abbrev pub turnBehind : Refusal → ℕ
 turnBehind r = getD (stepStream (StepRefused r) (streamAt LengthTurn) lentStream) 0 0
 
+-- session 7 in the last record, and what beginning a reply session answers
+abbrev pub known63 : List ℕ
+known63 = store (newTable 60) 63 record300
+
+abbrev pub reply : List ℕ → (clock id client : ℕ) → ℕ
+reply t clock id client = begunWords (replyBegun t clock id client) [] .number
+
 unfoldable pub hostFacts : List Fact
 hostFacts =
     fact (settingsNumber true ∷ settingsNumber false ∷ []) (0 ∷ 1 ∷ [])
     -- beginning
     ∷ number (begunWords (Ready (record { side = Client; id = 2; packet = 0 })) [] .number) 0
     ∷ fact (begunWords (NotBegun Argument) (7 ∷ []) .number ∷ begunWords (NotBegun Argument) (7 ∷ []) .session) (12 ∷ 7 ∷ [])
+    -- a reply session, where session 7 is in record 63 with the last time 1,000 and R is 60: its ID is taken up to 1,060 and free at
+    -- 1,061; the client's own never is; another is; a table that is not lawful comes first
+    ∷ fact (reply known63 1060 7 1 ∷ reply known63 1061 7 1 ∷ reply known63 1061 7 7 ∷ reply known63 1000 8 1 ∷ []) (12 ∷ 0 ∷ 12 ∷ 0 ∷ [])
+    ∷ fact (reply (lent 705 60) 1000 7 7 ∷ reply (lent 833 59) 1000 7 7 ∷ reply (lent 833 60) 1000 7 7 ∷ []) (1 ∷ 1 ∷ 12 ∷ [])
     -- a sealed datagram: one packet ID further, and its length; refused, nothing
     ∷ fact (sealed (Datagram 48) [] (1 ∷ 2 ∷ 3 ∷ 4 ∷ []) [] sevens .session) (1 ∷ 2 ∷ 3 ∷ 5 ∷ [])
     ∷ fact (sealed (Datagram 48) [] (1 ∷ 2 ∷ 3 ∷ 4 ∷ []) [] sevens .answer) (48 ∷ replicate 8 7)

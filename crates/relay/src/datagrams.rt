@@ -16,7 +16,8 @@ ghost use mathlib.Core.Option.{none, some};
 ghost use lib.ListN.{length};
 ghost use Rattle.session_table.specs.Table.{makeLawful, made};
 ghost use Rattle.datagram_seal.specs.declared.Begun.the-variants.{Ready};
-ghost use Rattle.datagram_seal.specs.Sealing.{clientSender, begun};
+ghost use Rattle.datagram_seal.specs.Sealing.{clientSender};
+ghost use Rattle.reply_session.specs.Beginning.{replyBegun};
 ghost use Rattle.datagram_open.specs.Deciding.{answerOf};
 ghost use Rattle.words.specs.Answers.{answerWords};
 ghost use Rattle.relay.specs.Datagrams.{settingsNumber, begins, sealsDatagram, openedNumber, openedWords, opensDatagram};
@@ -61,12 +62,23 @@ pub extern "C" fn relay_session_begin_client(id: u64, session: &mut [u64]) -> u6
     begin(Begun::Ready(Sender::client(id)), session)
 }
 
-// Begins a server's, in reply to a client's session of another ID.
+// Begins a server's, in reply to a client's session: with an ID that no session alive in the table has, nor the client's. The table
+// is only read.
 #[no_mangle]
-pub extern "C" fn relay_session_begin_server(id: u64, client: u64, session: &mut [u64]) -> u64
-    ensures { λ r. ⌜ record { number = r; session = now (session .exit) } ≡ begins (begun id client) (now (session .entry)) ⌝ }
+pub extern "C" fn relay_session_begin_server(
+    id: u64,
+    client: u64,
+    clock: u64,
+    table: &[u64],
+    session: &mut [u64],
+) -> u64
+    ensures { λ r. ⌜ record { number = r; session = now (session .exit) }
+        ≡ begins (replyBegun (now (table .entry)) clock id client) (now (session .entry)) ⌝ }
 {
-    begin(Sender::server(id, client), session)
+    begin(
+        reply_session::begin_reply(id, client, clock, table),
+        session,
+    )
 }
 
 // ---- sealing

@@ -10,7 +10,6 @@ use native.Mathlib.Omega.{arith}
 use lib.Dec.{eqb}
 use lib.ListN.{length}
 use borrow.Author.Tests.{eqb-true, eqb-false, eq-eqb, ne-eqb}
-use Rattle.session_record.specs.declared.Peer.{Peer}
 use Rattle.session_table.specs.Table.{newTable}
 use Rattle.session_book.specs.Call.{Call, Answer, refused, opened, Outcome, Decision, early, reaches}
 use Rattle.session_book.specs.Book.{Page, one, pageAlive, page, crowded, without, fresh, accept, refuse, newPage, enters, replay, judge, judgeBy, turn, tell, outcomeBy, nextBy, bookNext, bookAfter}
@@ -21,9 +20,9 @@ use Rattle.session_book.proofs.Pages.{page-alive}
 use Rattle.session_book.proofs.Swap.{made, page-turn, accept-alive, new-alive}
 use Rattle.session_book.proofs.Shuffle.{cons-head, cons-tail}
 use Rattle.session_book.proofs.Words.{lawful-table}
-use Rattle.session_book.proofs.Refine.{later, page-earlier}
+use Rattle.session_book.proofs.Refine.{page-earlier}
 use Rattle.session_book.proofs.Step.{State, step}
-use Rattle.session_book.proofs.First.{new-state, sessions, each-zero}
+use Rattle.session_book.proofs.First.{new-state, sessions, sessions-later, each-zero}
 
 -- ---- lists
 
@@ -171,7 +170,7 @@ module _ {H : Type 0} (decide : Call → Decision H) (belongs : Call → Option 
 
     -- the session that is alive at this reading, in the table
     session : tableSession t w id ≡ Option·map viewOfPage (page R w id b)
-    session = sessions R w t b (record { sized = s .sized; retains = s .retains; related = later R u w _ b h (s .related) }) id
+    session = sessions-later R u w t b s h id
 
     -- the table answers as the book
     answers : tableOutcome decide t c .answer ≡ outcomeBy (decide c) R b c .answer

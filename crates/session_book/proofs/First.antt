@@ -14,12 +14,12 @@ use Rattle.session_table.specs.Table.{Record, newTable, recordAt, lowest, live,
 use Rattle.session_book.specs.Call.{Call, Outcome, refused, Decision}
 use Rattle.session_book.specs.Book.{Page, one, page, member, bookNext, bookOutcomes, bookAfter}
 use Rattle.session_book.specs.Runs.{tableOutcomeBy, tableNextBy, tableOutcomes, tableAfter}
-use Rattle.session_book.specs.Demand3.{Each, Pairs, clocks, PortFits, lastOf, lastReading, View, viewOfPage, viewOfRecord, bookSession, tableSession, OneRecordEach, FollowsBook}
+use Rattle.session_book.specs.Demand3.{Each, Pairs, clocks, Forward, PortFits, lastOf, lastReading, View, viewOfPage, viewOfRecord, bookSession, tableSession, OneRecordEach, FollowsBook}
 use borrow.Author.Tests.{ltb-true, leb-true, leb-false}
 use Rattle.session_book.proofs.Search.{tally}
 use Rattle.session_book.proofs.Window.{Match}
 use Rattle.session_book.proofs.Words.{new-unused, lawful-table}
-use Rattle.session_book.proofs.Refine.{alive, holds-live, holds-id}
+use Rattle.session_book.proofs.Refine.{alive, holds-live, holds-id, later}
 use Rattle.session_book.proofs.Step.{State, step}
 
 -- ---- a table just made
@@ -112,6 +112,11 @@ sessions R u t b s id =
             let k = s .related .back id q f in
             absurd (true≢false (sym (k .has) ∙ lowest-none (λ i. holds R u id (recordAt t i)) 0 capacity e (k .at) zero-le (omega (arith, k .inside))))
 
+-- at every later reading too
+pub sessions-later : (R u w : ℕ) (t : List ℕ) (b : List Page) → State R u t b → u ≤ w → (id : ℕ) → tableSession t w id ≡ bookSession R b w id
+sessions-later R u w t b s h id =
+    sessions R w t b (record { sized = s .sized; retains = s .retains; related = later R u w (recordAt t) b h (s .related) }) id
+
 one-each : (R u : ℕ) (t : List ℕ) (b : List Page) → State R u t b → OneRecordEach t u
 one-each R u t b s i j id l m e f =
     s .related .unique i j id l m
@@ -123,6 +128,12 @@ one-each R u t b s i j id l m e f =
 pub each-zero : (l : List ℕ) → Each (λ x. 0 ≤ x) l
 each-zero [] = tt
 each-zero (x ∷ l) = (zero-le, each-zero l)
+
+-- what stands behind a list of calls
+pub state-after : {H : Type 0} (decide : Call → Decision H) (R : ℕ) → 60 ≤ R → R ≤ 3600 → (cs : List Call) → Each PortFits cs → Forward cs
+    → State R (lastReading cs) (tableAfter decide (newTable R) cs) (bookAfter decide R [] cs)
+state-after decide R lo hi cs ports forward =
+    run decide R lo hi cs 0 (newTable R) [] (new-state R) ports (each-zero (clocks cs), forward) .1
 
 pub follows-book : {H : Type 0} (decide : Call → Decision H) → FollowsBook decide
 follows-book decide R lo hi cs ports forward =

@@ -1,18 +1,18 @@
 -- A lawful table, a made one, and what a packet ID meets, case by case.
 -- Assumes nothing.
 use Prim.Native.Nat.{ℕ, suc, _*_, _<_, _≤_}
-use mathlib.Core.Bool.{Bool, true, false, _&&_, cond, and-false}
+use mathlib.Core.Bool.{Bool, true, false, _&&_, cond, and-false, and-eq-true-iff}
 use mathlib.Core.List.{List, _∷_}
 use mathlib.Core.Option.{Option, none, some}
 use mathlib.Core.Path.{_≡_, sym, ap, _∙_}
 use lib.Dec.{leb, eqb}
 use lib.ListN.{length, set, replicate, length-replicate}
-use borrow.Author.Tests.{eq-eqb, ne-eqb, le-leb, lt-leb}
+use borrow.Author.Tests.{eq-eqb, ne-eqb, eqb-true, le-leb, lt-leb}
 use Rattle.session_record.specs.declared.Peer.{Peer}
 use Rattle.session_table.specs.declared.Admitted.the-variants.{Replay}
 use Rattle.session_table.specs.Sizes.{capacity, leastRetention, greatestRetention, defaultRetention}
 use Rattle.session_record.specs.Record.{freshIn, acceptIn, newRecord}
-use Rattle.session_table.specs.Table.{tableWords, recordWords, inRange, newTable, madeRetention, makeLawful, made, recordAt, repeated, sessionPlace, freePlace, Entry, stores, replay, full, meetBy, meet, keep, admitted}
+use Rattle.session_table.specs.Table.{tableWords, recordWords, inRange, lawful, newTable, madeRetention, makeLawful, made, recordAt, repeated, sessionPlace, freePlace, Entry, stores, replay, full, meetBy, meet, keep, admitted}
 
 -- ---- a length n and an R
 
@@ -29,6 +29,10 @@ module _ (n R : ℕ) where
 
     pub long-enough : leastRetention ≤ R → (eqb n tableWords && inRange R) ≡ leb R greatestRetention
     long-enough l = right ∙ ap (λ (b : Bool). b && leb R greatestRetention) (le-leb leastRetention R l)
+
+-- a lawful table has its length
+pub table-length : (t : List ℕ) → lawful t ≡ true → length t ≡ tableWords
+table-length t e = eqb-true (length t) tableWords (and-eq-true-iff (eqb (length t) tableWords) _ .0 e .0)
 
 -- ---- making
 

@@ -1,6 +1,6 @@
 -- The session table as words, and what a packet ID meets there. Any words have a meaning; past the end a word reads as 0.
 use Prim.Native.Nat.{ℕ, _+_, _*_, _/_, _%_, _^_}
-use mathlib.Core.Bool.{Bool, cond, not, _&&_}
+use mathlib.Core.Bool.{Bool, true, false, cond, not, _&&_}
 use mathlib.Core.List.{List, [], _∷_}
 use mathlib.Core.Option.{Option, none, some}
 use lib.Dec.{leb, eqb}
@@ -97,6 +97,14 @@ sessionPlace t clock id = lowest (λ i. holds (retention t) clock id (recordAt t
 
 unfoldable pub freePlace : List ℕ → (clock : ℕ) → Option ℕ
 freePlace t clock = lowest (λ i. not (live (retention t) clock (recordAt t i)))
+
+-- whether a session of an ID is alive
+abbrev pub isPlace : Option ℕ → Bool
+isPlace (some i) = true
+isPlace none = false
+
+unfoldable pub taken : List ℕ → (clock id : ℕ) → Bool
+taken t clock id = isPlace (sessionPlace t clock id)
 
 -- ---- what a packet ID meets: the record that it leaves, a repeat in a session's record, or no room
 

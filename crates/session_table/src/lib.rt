@@ -12,7 +12,7 @@ ghost use Prim.Native.Nat.{_<_};
 ghost use lib.ListN.{length};
 ghost use Rattle.session_record.specs.Record.{recordOf};
 ghost use Rattle.session_table.specs.Sizes.{capacity};
-ghost use Rattle.session_table.specs.Table.{tableWords, retention, lawful, madeRetention, makeLawful, made, recordAt, wordsOf, store as storeOf, repeated, live, sessionPlace, freePlace, meetBy, meet, keep, admitted};
+ghost use Rattle.session_table.specs.Table.{tableWords, retention, lawful, madeRetention, makeLawful, made, recordAt, wordsOf, store as storeOf, repeated, live, sessionPlace, taken, freePlace, meetBy, meet, keep, admitted};
 
 pub const SESSIONS: usize = 64;
 
@@ -84,6 +84,17 @@ fn find(table: &[u64], clock: u64, id: u64) -> usize
         r += 1;
     }
     r
+}
+
+// Whether a session of this ID is alive.
+pub fn is_taken(table: &[u64], clock: u64, id: u64) -> bool
+    requires { ⌜ length (now table) ≡ tableWords ⌝ }
+    ensures { λ b. ⌜ b ≡ taken (now (table .entry)) clock id ⌝ }
+{
+    if find(table, clock, id) < SESSIONS {
+        return true;
+    }
+    false
 }
 
 // The lowest record that is not alive, or SESSIONS.

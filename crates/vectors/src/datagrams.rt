@@ -82,16 +82,16 @@ fn write_sealing(done: Sealing, answer: &mut [u64]) -> u64 {
     }
 }
 
-fn begun(c: &[u8]) -> Begun {
+fn begun(c: &[u8], table: &[u64]) -> Begun {
     if number(c, SIDE) == 0 {
         return Begun::Ready(Sender::client(number(c, ID)));
     }
-    Sender::server(number(c, ID), number(c, CLIENT))
+    reply_session::begin_reply(number(c, ID), number(c, CLIENT), number(c, CLOCK), table)
 }
 
 // The sending session.
-fn begin(c: &[u8], answer: &mut [u64]) -> u64 {
-    match begun(c) {
+fn begin(c: &[u8], table: &[u64], answer: &mut [u64]) -> u64 {
+    match begun(c, table) {
         Begun::Ready(next) => {
             put(answer, 1, &words::session_words(next));
             0
@@ -172,7 +172,7 @@ pub(crate) fn call(
         return write_sealing(seal(c, out), answer);
     }
     if kind == BEGIN {
-        return begin(c, answer);
+        return begin(c, table, answer);
     }
     if kind == MAKE {
         return make(c, table);

@@ -8,7 +8,7 @@ use std::io::{self, Read};
 use std::net::{SocketAddr, UdpSocket};
 use std::time::{SystemTime, UNIX_EPOCH};
 
-use relay::{Address, Key, Method, Peer, SealSession, Table, MAX_DATAGRAM};
+use relay::{Address, Invalid, Key, Method, Peer, SealSession, Table, MAX_DATAGRAM};
 
 fn main() -> Result<(), Box<dyn Error>> {
     let key = Key::new(Method::Aes128Gcm, &random::<16>()?)?;
@@ -58,11 +58,22 @@ fn serve(server: &UdpSocket, key: &Key) -> Result<(), Box<dyn Error>> {
     // The answer goes to where the session was last heard.
     let replies_to = header.session_id;
     let peer = clients.peer_of(replies_to, now()?).ok_or("forgotten")?;
-    let mut replies = SealSession::server(u64::from_be_bytes(random()?), replies_to)?;
+    let mut replies = begin(replies_to, &clients)?;
     let source = Address::from(SocketAddr::from(([192, 0, 2, 37], 37)));
     let length = replies.seal(key, now()?, &source, 0, b"Tea time.", &mut wire)?;
     server.send_to(&wire[..length], SocketAddr::from(peer))?;
     Ok(())
+}
+
+/// Begins a reply session. Its ID is drawn again if a client has it.
+fn begin(client: u64, clients: &Table) -> Result<SealSession, Box<dyn Error>> {
+    loop {
+        let id = u64::from_be_bytes(random()?);
+        match SealSession::server(id, client, now()?, clients) {
+            Err(Invalid::SessionId { .. }) => continue,
+            begun => return Ok(begun?),
+        }
+    }
 }
 
 fn now() -> Result<u64, Box<dyn Error>> {

@@ -29,6 +29,9 @@ extern "C" {
     fn relay_session_begin_server(
         id: u64,
         client: u64,
+        clock: u64,
+        table: *const u64,
+        table_len: usize,
         session: *mut u64,
         session_len: usize,
     ) -> u64;
@@ -189,12 +192,26 @@ pub(crate) fn session_begin_client(id: u64) -> Result<SessionWords, Refusal> {
     answer::checked(number, NO_ANSWER).map(|_| session)
 }
 
-/// A server's sending session.
-pub(crate) fn session_begin_server(id: u64, client: u64) -> Result<SessionWords, Refusal> {
+/// A server's sending session, on the table of its clients'.
+pub(crate) fn session_begin_server(
+    id: u64,
+    client: u64,
+    clock: u64,
+    table: &TableWords,
+) -> Result<SessionWords, Refusal> {
     let mut session = [0; SealSession::WORDS];
     // SAFETY: the rule of lending.
-    let number =
-        unsafe { relay_session_begin_server(id, client, session.as_mut_ptr(), session.len()) };
+    let number = unsafe {
+        relay_session_begin_server(
+            id,
+            client,
+            clock,
+            table.as_ptr(),
+            table.len(),
+            session.as_mut_ptr(),
+            session.len(),
+        )
+    };
     answer::checked(number, NO_ANSWER).map(|_| session)
 }
 

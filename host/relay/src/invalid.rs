@@ -32,10 +32,16 @@ pub enum Invalid {
         /// The seconds that were given.
         seconds: u64,
     },
-    /// A server's session is to have its client's ID.
+    /// A server's session is to have the ID of its client or of another client's session
+    /// that is alive.
     SessionId {
         /// The ID of both.
         id: u64,
+    },
+    /// A table from words remembers for less than 60 or more than 3,600 seconds.
+    TableRetention {
+        /// How many seconds.
+        seconds: u64,
     },
     /// A name is empty or longer than 255 bytes.
     NameLength {
@@ -71,9 +77,12 @@ impl fmt::Display for Invalid {
                 )
             }
             Self::SessionId { id } => {
+                write!(f, "a server's session ID is no client's; {id:016x} is")
+            }
+            Self::TableRetention { seconds } => {
                 write!(
                     f,
-                    "a server's session ID differs from its client's; both are {id:016x}"
+                    "a table remembers for 60 to 3,600 seconds, not {seconds}"
                 )
             }
             Self::NameLength { length } => write!(f, "a name has 1 to 255 bytes, not {length}"),
@@ -98,7 +107,9 @@ impl Error for Invalid {}
 impl From<Invalid> for Refusal {
     fn from(invalid: Invalid) -> Self {
         match invalid {
-            Invalid::KeyLength { .. } | Invalid::Retention { .. } => Self::Settings,
+            Invalid::KeyLength { .. }
+            | Invalid::Retention { .. }
+            | Invalid::TableRetention { .. } => Self::Settings,
             Invalid::SessionId { .. }
             | Invalid::NameLength { .. }
             | Invalid::AddressKind { .. }
@@ -120,19 +131,23 @@ mod tests {
     fn each_says_what_was_wrong() {
         let key = said(Key::new(Method::Aes256Gcm, &[0; 33]));
         let retention = said(Table::new(59));
+        let forgetful = Table::from_words(&[0; Table::WORDS]);
+        let lent = said(SealSession::server(0xab, 0xab, 1_000, &forgetful));
         for ((text, refusal), expected) in [
             (key, "a key of 2022-blake3-aes-256-gcm has 32 bytes, not 33"),
             (
                 retention,
                 "a retention is 60 to 3,600 seconds, or 0 for 300, not 59",
             ),
+            (lent, "a table remembers for 60 to 3,600 seconds, not 0"),
         ] {
             assert_eq!((text.as_str(), refusal), (expected, Refusal::Settings));
         }
+        let clients = Table::new(60).unwrap();
         for ((text, refusal), expected) in [
             (
-                said(SealSession::server(0xab, 0xab)),
-                "a server's session ID differs from its client's; both are 00000000000000ab",
+                said(SealSession::server(0xab, 0xab, 1_000, &clients)),
+                "a server's session ID is no client's; 00000000000000ab is",
             ),
             (
                 said(Address::name(&[b'n'; 256], 80)),

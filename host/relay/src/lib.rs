@@ -41,7 +41,7 @@
 //! // It replies to the client's session, at the address that was last heard of.
 //! let client = header.session_id;
 //! assert_eq!(table.peer_of(client, now), Some(caller));
-//! let mut reply = SealSession::server(0x8877_6655_4433_2211, client)?;
+//! let mut reply = SealSession::server(0x8877_6655_4433_2211, client, now, &table)?;
 //! let source = Address::from(SocketAddr::from(([198, 51, 100, 7], 53)));
 //! let mut datagram = [0; 1_500];
 //! let length = reply.seal(&key, now, &source, 0, b"answer", &mut datagram)?;

@@ -2,7 +2,7 @@
 
 use crate::answer;
 use crate::ffi::{self, SessionWords};
-use crate::{Address, Invalid, Key, Refusal, MAX_DATAGRAM};
+use crate::{Address, Invalid, Key, Refusal, Table, MAX_DATAGRAM};
 
 /// Bytes of a datagram besides address, padding and payload. A server's also has
 /// the client session ID.
@@ -47,20 +47,43 @@ impl SealSession {
     }
 
     /// Begins a server's session of an ID, which is to be random, in reply to a
-    /// client's session.
+    /// client's session. `table` is that of the clients' datagrams, as it is now.
     ///
     /// The ID must differ from every other session ID under the key, those of all
-    /// clients included. Only `client` is compared here; a host that would not leave the
-    /// rest to chance compares it with the [`sessions`](crate::Table::sessions) of its
-    /// table and with those that it began itself.
+    /// clients included. It is compared with `client` and with every session that is
+    /// alive in the table: draw another where it is refused. A client that comes later
+    /// with the ID is accepted, and the IDs of sessions that the host began itself are
+    /// known to the host alone.
+    ///
+    /// ```
+    /// use relay::{Invalid, SealSession, Table};
+    ///
+    /// # let (clients, client, clock) = (Table::new(60)?, 7, 1_000);
+    /// # let mut drawn = [7, 8].into_iter();
+    /// # let mut random = || drawn.next().unwrap();
+    /// let session = loop {
+    ///     match SealSession::server(random(), client, clock, &clients) {
+    ///         Err(Invalid::SessionId { .. }) => continue,
+    ///         begun => break begun?,
+    ///     }
+    /// };
+    /// # assert_eq!(session.id(), 8);
+    /// # Ok::<(), Invalid>(())
+    /// ```
     ///
     /// # Errors
     ///
-    /// [`Invalid::SessionId`] if both have the same ID.
-    pub fn server(id: u64, client: u64) -> Result<Self, Invalid> {
-        ffi::session_begin_server(id, client)
+    /// [`Invalid::TableRetention`] if the table came from words whose retention is not
+    /// lawful; else [`Invalid::SessionId`] if the client or a session alive has the ID.
+    pub fn server(id: u64, client: u64, clock: u64, table: &Table) -> Result<Self, Invalid> {
+        ffi::session_begin_server(id, client, clock, table.words())
             .map(|words| Self { words })
-            .map_err(|_| Invalid::SessionId { id })
+            .map_err(|refusal| match refusal {
+                Refusal::Settings => Invalid::TableRetention {
+                    seconds: table.retention(),
+                },
+                _ => Invalid::SessionId { id },
+            })
     }
 
     /// Seals one datagram to the front of `out` and gives its length.

@@ -206,8 +206,8 @@ impl Network {
 
     fn mirror(&mut self, client: usize, timestamp: u64) {
         let own = self.clients[client].session.id();
-        let mut server =
-            SealSession::server(self.random.word(), own).expect("a random ID is another one");
+        // Nobody began it: it is a reply as the key's other holder might make it.
+        let mut server = SealSession::from_words(&[1, self.random.word(), own, 0]);
         let order = self.order(client, timestamp);
         let datagram = self.sealer.seal(&mut server, &order);
         self.arrive(client, datagram);

@@ -4,7 +4,7 @@ use std::collections::HashMap;
 use std::net::SocketAddr;
 use std::rc::Rc;
 
-use relay::{Header, Key, Peer, Refusal, Session, Table};
+use relay::{Header, Invalid, Key, Peer, Refusal, SealSession, Session, Table};
 
 use crate::book::{Book, Page};
 use crate::datagram::{Arrival, Origin};
@@ -170,6 +170,25 @@ impl Receiver {
     /// Where replies to a session go.
     pub fn peer_of(&self, session_id: u64, clock: u64) -> Option<SocketAddr> {
         self.table.peer_of(session_id, clock).map(SocketAddr::from)
+    }
+
+    /// Begins a session in reply to a client's, and holds the library to the rules: an
+    /// ID that the client or a page alive has is refused, every other one begins.
+    pub fn begin_reply(
+        &self,
+        id: u64,
+        client: u64,
+        clock: u64,
+    ) -> Result<Option<SealSession>, Disagreement> {
+        let is_taken = id == client || self.book.alive(clock).any(|(alive, _)| alive == id);
+        match SealSession::server(id, client, clock, &self.table) {
+            Ok(session) if !is_taken => Ok(Some(session)),
+            Err(Invalid::SessionId { .. }) if is_taken => Ok(None),
+            begun => disagree(format!(
+                "a reply session of ID {id:016x}: the library {}, and is_taken is {is_taken}",
+                said(begun.err().map(|invalid| Refusal::from(invalid).number()))
+            )),
+        }
     }
 
     /// Holds the table's sessions to the book's pages, and gives how many there are.

@@ -74,12 +74,20 @@ impl Replies {
     /// Acknowledges a message of a client's session.
     pub fn send(
         &mut self,
+        server: &Receiver,
         network: &mut Network,
         client: usize,
         session_id: u64,
         message: Message,
         clock: u64,
     ) -> Result<(), Disagreement> {
+        if !self.sessions.contains_key(&session_id) {
+            // Another client's ID first: whether it is free, the rules say.
+            let others = network.clients[(client + 1) % CLIENTS].session.id();
+            server.begin_reply(others, session_id, clock)?;
+            let session = self.begin(server, session_id, clock)?;
+            self.sessions.insert(session_id, session);
+        }
         let order = Order {
             client,
             message,
@@ -87,10 +95,7 @@ impl Replies {
             padding: 0,
             size: self.random.within(SIZES) as usize,
         };
-        let random = &mut self.random;
-        let session = self.sessions.entry(session_id).or_insert_with(|| {
-            SealSession::server(random.word(), session_id).expect("a random ID is another one")
-        });
+        let session = self.sessions.get_mut(&session_id).expect("it was begun");
         let reply = network.sealer.seal(session, &order);
         let copies = match self.random.weighted(&EVENTS) {
             Event::Fresh => vec![(client, reply)],
@@ -106,6 +111,21 @@ impl Replies {
             self.receive(client, own, reply, clock)?;
         }
         Ok(())
+    }
+
+    /// Draws IDs until one is no client's.
+    fn begin(
+        &mut self,
+        server: &Receiver,
+        session_id: u64,
+        clock: u64,
+    ) -> Result<SealSession, Disagreement> {
+        loop {
+            let id = self.random.word();
+            if let Some(session) = server.begin_reply(id, session_id, clock)? {
+                return Ok(session);
+            }
+        }
     }
 
     fn receive(

@@ -143,7 +143,14 @@ impl Soak {
             return disagree("replies do not go to where the datagram came from".to_string());
         }
         self.replies
-            .send(&mut self.network, client, session_id, message, clock)
+            .send(
+                &self.server,
+                &mut self.network,
+                client,
+                session_id,
+                message,
+                clock,
+            )
             .map_err(|fault| Disagreement(format!("a reply to it: {fault}")))
     }
 

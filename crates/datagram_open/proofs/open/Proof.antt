@@ -5,7 +5,8 @@ use borrow.Author.Needs.{needs}
 use Rattle.session_table.specs.Table.{lawful}
 use Rattle.datagram_open.specs.Deciding.{answerOf}
 use Rattle.datagram_read.proofs.ReadLaws.{Opens, answer-tells, opens-long, opens-room}
-use Rattle.datagram_open.proofs.CallLaws.{table-length, unlawful-call, refused-call, entered-call}
+use Rattle.session_table.proofs.TableLaws.{table-length}
+use Rattle.datagram_open.proofs.CallLaws.{unlawful-call, refused-call, entered-call}
 use Rattle.datagram_open.proofs.open.Statement.{statement}
 use Rattle.datagram_open.proofs.open.Tie as tie
 

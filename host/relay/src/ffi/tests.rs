@@ -56,6 +56,7 @@ fn in_rust(parameter: &str) -> String {
     let kind = match (kind.trim_end_matches([' ', '*']), pointer) {
         ("const uint8_t", true) => "*const u8",
         ("uint8_t", true) => "*mut u8",
+        ("const uint64_t", true) => "*const u64",
         ("uint64_t", true) => "*mut u64",
         ("uint64_t", false) => "u64",
         ("uint16_t", false) => "u16",

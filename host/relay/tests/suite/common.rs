@@ -71,6 +71,20 @@ pub fn sealed(method: Method, id: u64, packet_id: u64, clock: u64) -> Vec<u8> {
     out
 }
 
+/// A server's session in reply to the client's, begun on a table that has the client's.
+pub fn reply_session() -> SealSession {
+    let method = Method::Aes128Gcm;
+    let mut table = Table::new(60).unwrap();
+    open(
+        &mut table,
+        method,
+        CLOCK,
+        &sealed(method, CLIENT_ID, 0, CLOCK),
+    )
+    .unwrap();
+    SealSession::server(SERVER_ID, CLIENT_ID, CLOCK, &table).unwrap()
+}
+
 /// Opens a client's datagram into a buffer of its own.
 pub fn open(
     table: &mut Table,

@@ -47,7 +47,7 @@ fn a_clients_datagram_opens_at_the_server() {
 #[test]
 fn a_servers_datagram_opens_at_its_client() {
     for method in Method::ALL {
-        let mut session = SealSession::server(SERVER_ID, CLIENT_ID).unwrap();
+        let mut session = reply_session();
         let mut table = Table::new(3_600).unwrap();
         for address in addresses() {
             for (padding, length) in LENGTHS {
@@ -170,7 +170,7 @@ fn the_longest_datagram_is_sealed_and_opened() {
 
 #[test]
 fn a_sending_session_counts_its_packets() {
-    let mut session = SealSession::server(SERVER_ID, CLIENT_ID).unwrap();
+    let mut session = reply_session();
     assert_eq!(session.words(), &[1, SERVER_ID, CLIENT_ID, 0]);
     for packet_id in 0..10 {
         assert_eq!(session.next_packet(), packet_id);

@@ -123,7 +123,7 @@ fn a_full_table_and_another_clients_datagram_zero_the_plaintext() {
     assert_eq!(opened, Err(Refusal::Full));
     assert_eq!(out, zeroed(newcomer.len() - 32));
 
-    let mut session = SealSession::server(SERVER_ID, CLIENT_ID).unwrap();
+    let mut session = reply_session();
     let mut sealed = [0; ROOM];
     let length = session
         .seal(&key(METHOD), CLOCK, &short_address(), 0, b"", &mut sealed)

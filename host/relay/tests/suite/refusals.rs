@@ -336,7 +336,19 @@ fn number_11_counter() {
 
 #[test]
 fn number_12_argument() {
-    assert_eq!(number(SealSession::server(CLIENT_ID, CLIENT_ID)), Some(12));
+    let mut table = new_table();
+    let own = SealSession::server(CLIENT_ID, CLIENT_ID, CLOCK, &table);
+    assert_eq!(number(own), Some(12));
+    // An ID that another client has.
+    let datagram = sealed(METHOD, 9, 0, CLOCK);
+    assert_eq!(number(open(&mut table, METHOD, CLOCK, &datagram)), None);
+    let taken = SealSession::server(9, CLIENT_ID, CLOCK, &table);
+    assert_eq!(number(taken), Some(12));
+    // 1 comes first.
+    let mut words = *table.words();
+    words[0] = 59;
+    let unlawful = SealSession::server(9, 9, CLOCK, &Table::from_words(&words));
+    assert_eq!(number(unlawful), Some(1));
     let mut session = SealSession::from_words(&[1, CLIENT_ID, CLIENT_ID, 0]);
     let sealed = session.seal(&key(METHOD), CLOCK, &short_address(), 0, b"", &mut [0; 64]);
     assert_eq!(number(sealed), Some(12));

@@ -2,7 +2,7 @@
 
 use std::net::SocketAddr;
 
-use relay::{Invalid, Method, Peer, Refusal, Session, Table};
+use relay::{Invalid, Method, Peer, Refusal, SealSession, Session, Table};
 
 use crate::common::*;
 
@@ -224,6 +224,51 @@ fn counts_stop_at_the_largest_number() {
         assert_eq!(opened.err(), refused.then_some(Refusal::Replay));
     }
     assert_eq!(table.words()[1 + REPEATS - 1..][..2], [most, most]);
+}
+
+/// The IDs of all sessions alive are refused, those of forgotten ones are free.
+#[test]
+fn a_reply_session_has_no_clients_id() {
+    let mut table = Table::new(60).unwrap();
+    for id in 0..64 {
+        open(&mut table, METHOD, CLOCK, &sealed(METHOD, id, 0, CLOCK)).unwrap();
+    }
+    let words = *table.words();
+    let begun = |id, client, clock| SealSession::server(id, client, clock, &table);
+    for id in [0, 1, 62, 63] {
+        let refused = Invalid::SessionId { id };
+        assert_eq!(begun(id, 7, CLOCK + 60).unwrap_err(), refused);
+        // At a clock that went back it is alive, too; past the retention it is not.
+        assert_eq!(begun(id, 7, 0).unwrap_err(), refused);
+        assert_eq!(begun(id, 7, CLOCK + 61).unwrap().id(), id);
+    }
+    // Its own client's, whether that is alive, forgotten or was never there.
+    for (id, clock) in [(7, CLOCK), (7, CLOCK + 61), (64, CLOCK)] {
+        assert_eq!(begun(id, id, clock).unwrap_err(), Invalid::SessionId { id });
+    }
+    assert_eq!(begun(64, 99, CLOCK).unwrap().client_id(), Some(99));
+    assert_eq!(table.words(), &words);
+    // A client that comes later with such an ID is accepted.
+    let clock = CLOCK + 61;
+    open(&mut table, METHOD, clock, &sealed(METHOD, 64, 0, clock)).unwrap();
+}
+
+/// Not the lowest record of an ID alone: every one that is alive.
+#[test]
+fn a_reply_session_has_no_id_of_a_record_behind_dead_ones() {
+    let mut words = [0; Table::WORDS];
+    words[0] = 60;
+    for (place, last_time) in [(3, CLOCK - 61), (63, CLOCK - 60)] {
+        let record = [9, 5, 0, last_time, 0, 0, 0, 0, 0, 0, 0, 1, 0];
+        words[1 + place * RECORD..][..RECORD].copy_from_slice(&record);
+    }
+    let table = Table::from_words(&words);
+    let begun = |clock| SealSession::server(5, 6, clock, &table);
+    assert_eq!(begun(CLOCK).unwrap_err(), Invalid::SessionId { id: 5 });
+    assert!(begun(CLOCK + 1).is_ok());
+    words[1 + 63 * RECORD] = 0;
+    let table = Table::from_words(&words);
+    assert!(SealSession::server(5, 6, CLOCK, &table).is_ok());
 }
 
 /// Of two alive records with one ID the first counts, here as in the opener.

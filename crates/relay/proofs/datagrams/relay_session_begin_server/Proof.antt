@@ -9,7 +9,7 @@ returns : tie.Need-returns
 returns c =
     let b = c .before .before in
     let d = b .before .before in
-    b .begin .ensures ∙ ap (λ (x : Begun). begins x (d .before .before .args .session .now)) (d .server .ensures)
+    b .begin .ensures ∙ ap (λ (x : Begun). begins x (d .before .before .before .args .session .now)) (d .begin-reply .ensures)
 
 pub relay-session-begin-server-spec : {M : Type 1} → statement M
 relay-session-begin-server-spec = tie.close (tie.spec (λ c κs. search needs) (λ c κs. search needs) (λ c. search needs) returns)
