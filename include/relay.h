@@ -169,6 +169,10 @@ static inline const char *relay_refusal_name(uint64_t number)
 /* anything sealed */
 #define RELAY_AT_SEALED_LENGTH 0 /* bytes written to `out` */
 
+/* plans */
+#define RELAY_AT_DATAGRAMS 0 /* how many the plan made has */
+#define RELAY_AT_GOOD 0      /* 1 for a good plan, else 0 */
+
 /* RELAY_REFUSED_MORE */
 #define RELAY_AT_WANTED 0 /* bytes wanted in all, from the first one of the call */
 
@@ -456,6 +460,45 @@ uint64_t relay_stream_seal_chunk(uint64_t *stream, size_t stream_len, const uint
 uint64_t relay_stream_open_chunk(uint64_t *stream, size_t stream_len, const uint8_t *bytes,
                                  size_t bytes_len, uint8_t *out, size_t out_len, uint64_t *answer,
                                  size_t answer_len);
+
+/* ---- plans: a long report in a client's datagrams under a path limit */
+
+/*
+ * Plans a report, in two words for each datagram: how many bytes of the report
+ * go into it, its piece, and how many bytes of padding.
+ *
+ * A plan is good when its pieces add up to the report's length, none is empty,
+ * no datagram is over the limit, and no other such plan has fewer datagrams.
+ * Sealed from a client's session, no datagram of a good plan is refused with 2.
+ *
+ * method   1 to 5. Methods 3 to 5 are section 4's of SIP022: 24 bytes more in
+ *          each datagram. They are planned for, and nothing else here knows them
+ * address  the target of every datagram, exactly one SOCKS5 address
+ * limit    bytes of a datagram, up to 65,507; with any report at least 44 and
+ *          the address (68 by methods 3 to 5)
+ * length   bytes of the report; 0 takes no datagram
+ * plan     a good plan is written to the front: full datagrams, the last one
+ *          shorter, no padding. Words behind it are left
+ * answer   RELAY_AT_DATAGRAMS
+ *
+ * Refusals, in this order: 1 (length of the answer, method), 12 (address,
+ * limit), 3 (plan has fewer words than a good plan). They write nothing.
+ */
+uint64_t relay_plan_make(uint64_t method, const uint8_t *address, size_t address_len,
+                         uint64_t limit, uint64_t length, uint64_t *plan, size_t plan_len,
+                         uint64_t *answer, size_t answer_len);
+
+/*
+ * Tells whether words are a good plan, whoever made it: as above, and
+ *
+ * plan     all of it is looked at; an odd number of words is no plan
+ * answer   RELAY_AT_GOOD
+ *
+ * Refusals, in this order: 1, 12. A plan that is not good is none.
+ */
+uint64_t relay_plan_check(uint64_t method, const uint8_t *address, size_t address_len,
+                          uint64_t limit, uint64_t length, const uint64_t *plan, size_t plan_len,
+                          uint64_t *answer, size_t answer_len);
 
 #ifdef __cplusplus
 }

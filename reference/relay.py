@@ -22,6 +22,7 @@ import aes  # noqa: E402
 import datagram  # noqa: E402
 import gcm  # noqa: E402
 import openssl  # noqa: E402
+import plans  # noqa: E402
 import sessions  # noqa: E402
 import streams  # noqa: E402
 from datagram import KEY_LENGTHS, SETTINGS  # noqa: E402
@@ -318,6 +319,29 @@ def stream_open_chunk(stream: Words, bytes: bytes, out: bytes, answer: Words) ->
     )
 
 
+# Plans.
+
+
+def plan_make(
+    method: int, address: bytes, limit: int, length: int, plan: Words, answer: Words
+) -> Left:
+    if len(answer) != ANSWER_WORDS:
+        return refused(SETTINGS)
+    number, made = plans.make(method, address, limit, length, len(plan))
+    if number:
+        return refused(number)
+    return accepted(plan=made + plan[len(made) :], answer=front(answer, len(made) // 2))
+
+
+def plan_check(
+    method: int, address: bytes, limit: int, length: int, plan: Words, answer: Words
+) -> Left:
+    if len(answer) != ANSWER_WORDS:
+        return refused(SETTINGS)
+    number, good = plans.check(method, address, limit, length, plan)
+    return refused(number) if number else accepted(answer=front(answer, int(good)))
+
+
 # Each function with the numbers that it may return.
 
 NUMBERS = {
@@ -334,6 +358,8 @@ NUMBERS = {
     stream_open_response: {0, 1, 4, 6, 7, 10, 13, 14},
     stream_seal_chunk: {0, 1, 2, 3, 4, 11, 14},
     stream_open_chunk: {0, 1, 3, 4, 10, 11, 14},
+    plan_make: {0, 1, 3, 12},
+    plan_check: {0, 1, 12},
 }
 
 FUNCTIONS = {f"relay_{function.__name__}": function for function in NUMBERS}
@@ -443,10 +469,22 @@ def response_examples():
     yield "answer's length", stream_seal_response(*said, ANSWER[1:]) == refused(1)
 
 
+def plan_examples():
+    said = 1, datagram.V4, 1_500, 2_901
+    made = plan_make(*said, (9,) * 7, ANSWER)
+    plan = (1_450, 0, 1_450, 0, 1, 0)
+    yield "plan", made == accepted(plan=(*plan, 9), answer=(3, *ANSWER[1:]))
+    yield "no room for a plan", plan_make(*said, (9,) * 5, ANSWER) == refused(3)
+    yield "good", plan_check(*said, plan, ANSWER) == accepted(answer=(1, *ANSWER[1:]))
+    yield "not good", plan_check(*said, (*plan, 9), ANSWER) == accepted(answer=(0, *ANSWER[1:]))
+    yield "a plan's answer", plan_check(6, b"", 0, 0, (), ANSWER[1:]) == refused(1)
+
+
 def selftest() -> list[str]:
     """The names of the examples that this code fails."""
     checks = itertools.chain(datagram_examples(), stream_examples(), response_examples())
-    return [name for name, holds in checks if not holds]
+    checks = itertools.chain(checks, plan_examples())
+    return plans.selftest() + [name for name, holds in checks if not holds]
 
 
 if __name__ == "__main__":

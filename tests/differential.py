@@ -7,7 +7,8 @@
 Every call is made of target/staticlib/librelay.a and of reference/relay.py. Compared are the
 number returned and all that was lent, each buffer whole: what is to be written, what is to be
 left alone, and the memory on both sides of it. First come the calls of the program vectors,
-then sequences by dice. At the end every number that a function may return must have been seen.
+then sequences by dice; then the same of plans. At the end every number that a function may return
+must have been seen.
 """
 
 from __future__ import annotations
@@ -28,12 +29,14 @@ from library import ROOT, Library, Value  # noqa: E402
 
 sys.path.insert(0, str(ROOT / "reference"))
 import openssl  # noqa: E402
+import planning  # noqa: E402
 import relay  # noqa: E402
 import recorded  # noqa: E402
 from oddities import odd  # noqa: E402
 from scenarios import SCENARIOS  # noqa: E402
 
 CALLS = 60_000
+PLAN_CALLS = 10_000  # by dice, beside these
 SEQUENCE = 150  # steps of a scenario
 ODD_PERCENT = 6  # of the calls by dice have one thing odd
 FREESTANDING = {"memcpy", "memmove", "memset", "memcmp", "bcmp"}  # what a compiler may put in
@@ -140,7 +143,7 @@ def check_openssl() -> list[str]:
     return openssl.differences((*range(0, 40, 3), 1_400, 9_000))
 
 
-def by_dice(calls: Comparison, seed: str, count: int) -> None:
+def by_dice(calls: Comparison, seed: str, count: int, scenarios: tuple = SCENARIOS) -> None:
     """Sequences until so many calls are made in all."""
     for number in itertools.count():
         dice = random.Random(f"{seed} {number}")
@@ -151,7 +154,7 @@ def by_dice(calls: Comparison, seed: str, count: int) -> None:
                 values[each.name] = odd(dice, each, values[each.name])
             return calls.run(name, **values)
 
-        scenario = SCENARIOS[number % len(SCENARIOS)](run, dice)
+        scenario = scenarios[number % len(scenarios)](run, dice)
         for _ in range(SEQUENCE):
             if calls.calls >= count:
                 return
@@ -167,6 +170,9 @@ def compare(seed: str, count: int) -> bool:
     for name, values in recorded.calls():
         calls.run(name, **values)
     by_dice(calls, seed, count)
+    for name, values in planning.calls():
+        calls.run(name, **values)
+    by_dice(calls, seed, calls.calls + PLAN_CALLS, (planning.Planning,))
     whole = calls.report()
     print(f"seed {seed}: {calls.calls} calls, 0 differ")
     return whole

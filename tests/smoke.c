@@ -350,6 +350,34 @@ static void response(void)
     printf("response: head and 1 chunk, %zu bytes; refused for another request\n", len);
 }
 
+/* ---- a plan */
+
+static void plans(void)
+{
+    uint64_t plan[7], answer[RELAY_ANSWER_WORDS];
+    const size_t limit = 43 + ADDRESS_LEN + 1450;
+    for (size_t i = 0; i < 7; i++)
+        plan[i] = 9;
+    check_number(relay_plan_make(METHOD, ADDRESS, ADDRESS_LEN, limit, 2901, plan, 5, answer,
+                                 RELAY_ANSWER_WORDS),
+                 RELAY_REFUSED_ROOM, "a plan in five words");
+    check(plan[0] == 9, "nothing is written");
+    check_number(relay_plan_make(METHOD, ADDRESS, ADDRESS_LEN, limit, 2901, plan, 7, answer,
+                                 RELAY_ANSWER_WORDS),
+                 RELAY_OK, "a plan in seven words");
+    check(answer[RELAY_AT_DATAGRAMS] == 3 && plan[0] == 1450 && plan[4] == 1 && plan[6] == 9,
+          "three datagrams, and the word behind them");
+    check_number(relay_plan_check(METHOD, ADDRESS, ADDRESS_LEN, limit, 2901, plan, 6, answer,
+                                  RELAY_ANSWER_WORDS),
+                 RELAY_OK, "checking it");
+    check(answer[RELAY_AT_GOOD] == 1, "it is good");
+    check_number(relay_plan_check(METHOD, ADDRESS, ADDRESS_LEN, limit, 2901, plan, 7, answer,
+                                  RELAY_ANSWER_WORDS),
+                 RELAY_OK, "checking an odd number of words");
+    check(answer[RELAY_AT_GOOD] == 0, "they are no plan");
+    printf("plan: 2901 bytes in 3 datagrams of at most %zu\n", limit);
+}
+
 /* ---- names and version */
 
 static void names(void)
@@ -395,6 +423,7 @@ int main(void)
     server_to_client();
     request();
     response();
+    plans();
     wrong_lengths();
     names();
     printf("smoke test passed\n");

@@ -21,6 +21,7 @@
 #define STACK_BYTES (4 * LIMIT)
 #define LONGEST 65507
 #define CLOCK 1700000000
+#define PLAN_WORDS 100
 
 static const uint8_t KEY[32] = "thirty-two bytes to serve as key";
 static const uint8_t SALT[32] = "thirty-two bytes to do for salt!";
@@ -30,6 +31,7 @@ static const uint8_t ADDRESS[] = {1, 192, 0, 2, 1, 0, 53};
 static uint64_t method, table[RELAY_TABLE_WORDS], pool[RELAY_POOL_WORDS];
 static uint64_t session[RELAY_SESSION_WORDS], sender[RELAY_STREAM_WORDS];
 static uint64_t receiver[RELAY_STREAM_WORDS], answer[RELAY_ANSWER_WORDS];
+static uint64_t plan[PLAN_WORDS];
 static uint8_t payload[LONGEST], sealed[LONGEST + 200], out[LONGEST + 200];
 static size_t payload_len, sealed_len, key_len, used;
 
@@ -120,6 +122,18 @@ static void stream_open_chunk(void)
                                      out, sizeof out, answer, RELAY_ANSWER_WORDS);
 }
 
+static void plan_make(void)
+{
+    number = relay_plan_make(method, ADDRESS, sizeof ADDRESS, 1500, payload_len, plan, PLAN_WORDS,
+                             answer, RELAY_ANSWER_WORDS);
+}
+
+static void plan_check(void)
+{
+    number = relay_plan_check(method, ADDRESS, sizeof ADDRESS, 1500, payload_len, plan,
+                              2 * (size_t)answer[RELAY_AT_DATAGRAMS], answer, RELAY_ANSWER_WORDS);
+}
+
 /* With the most stack that each was seen to take. */
 static struct function {
     const char *name;
@@ -139,6 +153,8 @@ static struct function {
     {"relay_stream_open_response", stream_open_response, 0},
     {"relay_stream_seal_chunk", stream_seal_chunk, 0},
     {"relay_stream_open_chunk", stream_open_chunk, 0},
+    {"relay_plan_make", plan_make, 0},
+    {"relay_plan_check", plan_check, 0},
 };
 
 enum { FUNCTIONS = sizeof functions / sizeof functions[0] };
@@ -230,6 +246,9 @@ static void try_streams(void)
     used = (size_t)answer[RELAY_AT_USED];
     open_chunk(RELAY_OK);
     open_chunk(RELAY_REFUSED_MORE);
+
+    measure(plan_make, RELAY_OK);
+    measure(plan_check, RELAY_OK);
 }
 
 /* A line for each function; the last one names the deepest. */

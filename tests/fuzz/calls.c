@@ -39,6 +39,9 @@ static const struct {
                     SETTINGS_ONLY | N(2) | N(3) | N(4) | N(11) | N(14)},
     [OPEN_CHUNK] = {"relay_stream_open_chunk", B(STREAM) | B(INPUT) | B(OUT) | B(ANSWER),
                     SETTINGS_ONLY | N(3) | N(4) | N(10) | N(11) | N(14)},
+    [PLAN_MAKE] = {"relay_plan_make", B(ADDRESS) | B(PLAN) | B(ANSWER),
+                   SETTINGS_ONLY | N(3) | N(12)},
+    [PLAN_CHECK] = {"relay_plan_check", B(ADDRESS) | B(PLAN) | B(ANSWER), SETTINGS_ONLY | N(12)},
 };
 
 const char *name_of(enum function function)
@@ -59,17 +62,19 @@ unsigned numbers_of(enum function function)
 size_t size_of(enum buffer buffer, size_t len)
 {
     int words = buffer == TABLE || buffer == POOL || buffer == SESSION || buffer == STREAM ||
-                buffer == ANSWER;
+                buffer == ANSWER || buffer == PLAN;
     return words ? len * sizeof(uint64_t) : len;
 }
 
-/* Heads write their stream and never read it; out and answer are written only; a reply session
- * begins on a table that is only read. */
+/* Heads write their stream and never read it; out, answer and a plan made are written only; a reply
+ * session begins on a table that is only read, and a plan is checked on words that are. */
 static enum lend_use use_of(enum function function, enum buffer buffer)
 {
+    if (function == PLAN_CHECK)
+        return buffer == ANSWER ? LEND_WRITE : LEND_READ;
     if (buffer <= INPUT || (function == BEGIN_SERVER && buffer == TABLE))
         return LEND_READ;
-    if (buffer == OUT || buffer == ANSWER || function <= BEGIN_SERVER)
+    if (buffer == OUT || buffer == ANSWER || buffer == PLAN || function <= BEGIN_SERVER)
         return LEND_WRITE;
     int chunk = function == SEAL_CHUNK || function == OPEN_CHUNK;
     return buffer == STREAM && !chunk ? LEND_WRITE : LEND_CHANGE;
@@ -132,6 +137,15 @@ static uint64_t call_streams(const struct call *c, const struct left *left)
     }
 }
 
+static uint64_t call_plans(const struct call *c, const struct left *left)
+{
+    if (c->function == PLAN_MAKE)
+        return relay_plan_make(c->method, BYTES(ADDRESS), c->limit, c->length, WORDS(PLAN),
+                               WORDS(ANSWER));
+    return relay_plan_check(c->method, BYTES(ADDRESS), c->limit, c->length, WORDS(PLAN),
+                            WORDS(ANSWER));
+}
+
 struct left make_call(const struct call *call, size_t input_there)
 {
     struct left left = {0};
@@ -147,6 +161,9 @@ struct left make_call(const struct call *call, size_t input_there)
         left.lent[b] = lend(b, use_of(call->function, b), call->buffers[b].data, len, at_start);
     }
     int about_streams = call->function == POOL_NEW || call->function >= SEAL_REQUEST;
-    left.number = about_streams ? call_streams(call, &left) : call_datagrams(call, &left);
+    if (call->function >= PLAN_MAKE)
+        left.number = call_plans(call, &left);
+    else
+        left.number = about_streams ? call_streams(call, &left) : call_datagrams(call, &left);
     return left;
 }

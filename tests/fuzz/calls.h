@@ -24,6 +24,8 @@ enum function {
     OPEN_RESPONSE,
     SEAL_CHUNK,
     OPEN_CHUNK,
+    PLAN_MAKE,
+    PLAN_CHECK,
     FUNCTIONS
 };
 
@@ -41,6 +43,7 @@ enum buffer {
     STREAM,
     OUT,
     ANSWER,
+    PLAN,
     BUFFERS
 };
 
@@ -56,6 +59,7 @@ struct call {
     uint64_t method, clock, id, client, first, second, retention;
     uint16_t port;
     size_t padding;
+    uint64_t limit, length; /* of a plan */
     struct lending buffers[BUFFERS]; /* as they are before the call */
     unsigned edges;                  /* bit b: buffer b is lent at the start of its place */
 };

@@ -596,7 +596,8 @@ struct expectation expect(const struct call *call)
         [OPEN_CLIENT] = expect_opened,      [SEAL_REQUEST] = expect_sealed_request,
         [OPEN_REQUEST] = expect_request,    [SEAL_RESPONSE] = expect_sealed_response,
         [OPEN_RESPONSE] = expect_response,  [SEAL_CHUNK] = expect_sealed_chunk,
-        [OPEN_CHUNK] = expect_opened_chunk,
+        [OPEN_CHUNK] = expect_opened_chunk, [PLAN_MAKE] = expect_plan,
+        [PLAN_CHECK] = expect_plan,
     };
     struct expectation e = {0};
     if (!lawful(call))

@@ -20,9 +20,14 @@ struct expectation {
     size_t record_at;    /* the words of the table or pool that are written */
     uint64_t record[RECORD_WORDS_MAX];
     size_t record_len; /* 0: none */
+    const uint64_t *plan; /* the plan that is written, in so many words */
+    size_t plan_len;
 };
 
 struct expectation expect(const struct call *call);
+
+/* Of a call about plans whose answer has its length: the number, and what is written. */
+uint64_t expect_plan(const struct call *call, struct expectation *e);
 
 /* The length of the address that the bytes begin with; 0 for none. */
 size_t address_length(const uint8_t *bytes, size_t len);

@@ -16,6 +16,7 @@ enum {
     DATAGRAMS = 4,
     SALTS = 4,
     PATCHES = 8,
+    PLAN_WORDS = 64,
     SPARE = 8, /* words or bytes behind a state, so that one more than its length can be lent */
     LONG_MESSAGES = 2, /* of one input */
     MESSAGE_LEN = LEND_SIZE - 1024,
@@ -63,6 +64,8 @@ struct host {
     uint64_t pool[RELAY_POOL_WORDS + SPARE];
     uint64_t sessions[SESSIONS][RELAY_SESSION_WORDS + SPARE];
     uint64_t streams[STREAMS][RELAY_STREAM_WORDS + SPARE];
+    uint64_t plan[PLAN_WORDS + SPARE]; /* the last one made, of so many words */
+    size_t plan_len;
     struct patch patches[PATCHES];
     unsigned patch_count, next_datagram, long_messages;
 };

@@ -116,6 +116,17 @@ static void check_made(const struct call *call, const struct left *left, enum bu
     lend_written(made, made->len);
 }
 
+/* The plan that was made; the words behind it, and those of a check, stay. */
+static void check_plan(const struct call *call, const struct left *left,
+                       const struct expectation *e)
+{
+    const struct lent *plan = &left->lent[PLAN];
+    size_t written = e->plan_len * sizeof(uint64_t);
+    promise(written == 0 || memcmp(plan->ours, e->plan, written) == 0, "another plan");
+    promise(untouched(call, left, PLAN, written, plan->len), "words behind the plan were written");
+    lend_written(plan, written);
+}
+
 static void check_buffers(const struct call *call, const struct left *left)
 {
     for (enum buffer b = 0; b < BUFFERS; b++) {
@@ -159,6 +170,8 @@ struct left checked_call(const struct call *call)
         check_state(call, &left, SESSION, &e);
     if (takes(f, STREAM))
         check_state(call, &left, STREAM, &e);
+    if (takes(f, PLAN))
+        check_plan(call, &left, &e);
     enum buffer records = takes(f, TABLE) ? TABLE : POOL;
     if (f == BEGIN_SERVER)
         promise(untouched(call, &left, TABLE, 0, left.lent[TABLE].len),

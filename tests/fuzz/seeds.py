@@ -341,7 +341,49 @@ def chunks():
     ]
 
 
+# Plans: method who % 8 % 5 + 1, address who / 8; the low 10 bits of the place are the room that the
+# limit leaves, the next 3 the way of the limit (6 the longest, 7 a small one).
+
+LONGEST, SMALL = 6 << 10, 7 << 10
+ANY_LENGTH = 0xF000  # of the report: the value
+
+
+def plans():
+    for who in range(5):
+        yield [
+            step("PLAN_MAKE", who=who, length=2_900, place=1_023),
+            step("PLAN_CHECK", who=who, length=2_900, place=1_023),
+            *faulty("PLAN_MAKE", "ADDRESS", "PLAN", "ANSWER", who=who, place=7),
+            *faulty("PLAN_CHECK", "ADDRESS", "PLAN", "ANSWER", who=who, place=7),
+        ]
+    for address in range(8):
+        yield [
+            step("PLAN_MAKE", who=8 * address, length=n, place=room, how=how)
+            for n, room in ((0, 0), (0, 5), (1, 0), (1, 1), (10, 3), (9, 3), (30, 1), (33, 1))
+            for how in (0, MUCH_MORE, ONE_MORE, ONE_SHORT, NO_ROOM)
+        ]
+    yield [
+        step("PLAN_MAKE", length=n, place=place)
+        for n in (0, 1, 100)
+        for place in (LONGEST, LONGEST | 1, SMALL, SMALL | 50, SMALL | 51)
+    ]
+    yield [
+        step("PLAN_MAKE", length=ANY_LENGTH, place=1, value=value)
+        for value in (FROM_END, FROM_END | 1, 1 << 63, 3)
+    ]
+    yield [
+        step("PLAN_MAKE", length=10, place=4),
+        *(
+            step("PLAN_CHECK", length=10, place=4, how=word | moved, value=value)
+            for word in range(6)
+            for moved in (0, 0x80)
+            for value in (0, 1, 2, 65_536, 1 << 63, FROM_END)
+        ),
+    ]
+
+
 GROUPS = (
+    plans,
     settings,
     sealed_datagrams,
     refused_datagrams,

@@ -16,6 +16,10 @@ void open_request(const struct step *step);
 void open_response(const struct step *step);
 void open_chunk(const struct step *step);
 
+/* planning.c */
+void plan_report(const struct step *step);
+void check_plan_step(const struct step *step);
+
 /* crafting.c: messages and words that the library does not make */
 void craft_datagram_step(const struct step *step);
 void craft_head_step(const struct step *step);

@@ -14,7 +14,7 @@ ghost use Rattle.aes.specs.KeyExpansion.{aes};
 ghost use Rattle.aes.specs.Keyed.{nkOf};
 ghost use Rattle.gcm.specs.Gcm.{textOf};
 ghost use Rattle.datagram_parts.specs.Headers.{separateLength, separateHeader, serverFixed, fixedLength, fixedPart, plaintext};
-ghost use Rattle.datagram_parts.specs.Parts.{tagLength, maxDatagram, sealUnder};
+ghost use Rattle.datagram_parts.specs.Parts.{tagLength, maxDatagram, overheadOf, sealUnder};
 
 // The longest datagram: what UDP can carry over IPv4.
 pub const MAX_DATAGRAM: usize = 65507;
@@ -25,6 +25,11 @@ pub const SEPARATE: usize = 16;
 // How many bytes a datagram has more than its plaintext: the separate header and the tag.
 pub const OVERHEAD: usize = SEPARATE + TAG;
 
+// A datagram of methods 3 to 5 begins with a nonce.
+const NONCE: usize = 24;
+
+const OVERHEAD_WITH_NONCE: usize = NONCE + OVERHEAD;
+
 // The main header before its padding: type, time and padding length; a server's has a session ID more.
 const CLIENT_FIXED: usize = 11;
 
@@ -34,6 +39,23 @@ const SERVER_FIXED: usize = CLIENT_FIXED + 8;
 pub enum Side {
     Client,
     Server(u64),
+}
+
+// How many bytes a datagram of a method has besides main header, padding, address and payload: session ID, packet ID and tag,
+// and by methods 3 to 5 a nonce. 0 where there is no such method.
+pub fn overhead_of(method: u64) -> usize
+    ensures { λ r. ⌜ r ≡ overheadOf method ⌝ }
+{
+    if method == 0 {
+        return 0;
+    }
+    if method <= 2 {
+        return OVERHEAD;
+    }
+    if method <= 5 {
+        return OVERHEAD_WITH_NONCE;
+    }
+    0
 }
 
 // The separate header in the clear.

@@ -1,2 +1,3 @@
 pub mod Datagrams
+pub mod Plans
 pub mod Streams

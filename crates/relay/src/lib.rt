@@ -2,6 +2,7 @@
 // values into a lent answer. Whatever words and lengths a host lends have a meaning: nothing here has a `requires`. The words
 // of what a host holds, and of an answer, are in crate `words`.
 mod datagrams;
+mod plans;
 mod streams;
 
 // Refusal 1, which stands before every other.

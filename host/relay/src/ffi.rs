@@ -175,6 +175,28 @@ extern "C" {
         answer: *mut u64,
         answer_len: usize,
     ) -> u64;
+    fn relay_plan_make(
+        method: u64,
+        address: *const u8,
+        address_len: usize,
+        limit: u64,
+        length: u64,
+        plan: *mut u64,
+        plan_len: usize,
+        answer: *mut u64,
+        answer_len: usize,
+    ) -> u64;
+    fn relay_plan_check(
+        method: u64,
+        address: *const u8,
+        address_len: usize,
+        limit: u64,
+        length: u64,
+        plan: *const u64,
+        plan_len: usize,
+        answer: *mut u64,
+        answer_len: usize,
+    ) -> u64;
 }
 
 /// A new table, of all words.
@@ -496,6 +518,58 @@ pub(crate) fn stream_open_chunk(
             bytes.len(),
             out.as_mut_ptr(),
             out.len(),
+            answer.as_mut_ptr(),
+            answer.len(),
+        )
+    };
+    answer::checked(number, answer)
+}
+
+/// Plans a report.
+pub(crate) fn plan_make(
+    method: Method,
+    address: &[u8],
+    limit: u64,
+    length: u64,
+    plan: &mut [u64],
+) -> Result<Answer, Refusal> {
+    let mut answer = NO_ANSWER;
+    // SAFETY: the rule of lending.
+    let number = unsafe {
+        relay_plan_make(
+            method.number(),
+            address.as_ptr(),
+            address.len(),
+            limit,
+            length,
+            plan.as_mut_ptr(),
+            plan.len(),
+            answer.as_mut_ptr(),
+            answer.len(),
+        )
+    };
+    answer::checked(number, answer)
+}
+
+/// Tells whether words are a good plan.
+pub(crate) fn plan_check(
+    method: Method,
+    address: &[u8],
+    limit: u64,
+    length: u64,
+    plan: &[u64],
+) -> Result<Answer, Refusal> {
+    let mut answer = NO_ANSWER;
+    // SAFETY: the rule of lending.
+    let number = unsafe {
+        relay_plan_check(
+            method.number(),
+            address.as_ptr(),
+            address.len(),
+            limit,
+            length,
+            plan.as_ptr(),
+            plan.len(),
             answer.as_mut_ptr(),
             answer.len(),
         )

@@ -12,6 +12,7 @@
 //! | open datagrams, once each | [`Table`], which gives a [`Header`] |
 //! | seal or open a stream from client to server | [`RequestStream`], with a [`Pool`] at the server |
 //! | seal or open a stream from server to client | [`ResponseStream`] |
+//! | plan a long report in datagrams | [`Plan`] |
 //!
 //! # A datagram
 //!
@@ -139,6 +140,7 @@ mod invalid;
 mod key;
 mod method;
 mod peer;
+mod plan;
 mod pool;
 mod refusal;
 mod seal_session;
@@ -154,6 +156,7 @@ pub use invalid::Invalid;
 pub use key::Key;
 pub use method::{Method, UnknownMethod};
 pub use peer::Peer;
+pub use plan::{Piece, Pieces, Plan};
 pub use pool::Pool;
 pub use refusal::Refusal;
 pub use seal_session::SealSession;

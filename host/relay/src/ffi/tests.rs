@@ -78,7 +78,7 @@ fn list(parameters: &str) -> Vec<String> {
 fn every_function_is_declared_as_in_the_header() {
     let in_header = parameters(&header(), "uint64_t");
     let here = parameters(include_str!("../ffi.rs"), "fn");
-    assert_eq!(in_header.len(), 13);
+    assert_eq!(in_header.len(), 15);
     assert_eq!(here.len(), in_header.len());
     for (name, parameters) in in_header {
         let expected: Vec<String> = list(&parameters).iter().map(|p| in_rust(p)).collect();
@@ -177,6 +177,7 @@ fn answers_have_the_headers_order() {
         places(&["USED", "CHUNK_LENGTH", "SEALED_LENGTH", "WANTED"]),
         [0, 1, 0, 0]
     );
+    assert_eq!(places(&["DATAGRAMS", "GOOD"]), [0, 0]);
 }
 
 #[test]

@@ -6,6 +6,7 @@ mod datagrams;
 mod edges;
 mod outputs;
 mod plain;
+mod plans;
 mod pools;
 mod refusals;
 mod sessions;

@@ -1,0 +1,7 @@
+pub mod PlanLaws
+pub mod CaseLaws
+pub mod ExactlyLaws
+pub mod DemandLaws
+pub mod PlanOrders
+pub mod SealsLaws
+pub mod ReceivedLaws

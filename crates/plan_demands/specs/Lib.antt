@@ -1,0 +1,4 @@
+pub mod Plans
+pub mod PlanOrders
+pub mod Seals
+pub mod Received
