@@ -46,8 +46,8 @@
  * STACK
  *   A call takes up to 8,664 bytes of the caller's stack, its arguments
  *   included: opening a datagram. tests/stack.c measured it on x86-64, by the
- *   deepest byte that a call changes of a painted stack. There is no recursion.
- *   Allow 16 KiB.
+ *   deepest byte that a call changes of a painted stack. The only recursion is
+ *   over the digits of a number of a comparison, five at most. Allow 16 KiB.
  *
  * NOT CONSTANT TIME
  *   AES and GHASH look up tables by secret bytes. Do not share the processor
@@ -499,6 +499,39 @@ uint64_t relay_plan_make(uint64_t method, const uint8_t *address, size_t address
 uint64_t relay_plan_check(uint64_t method, const uint8_t *address, size_t address_len,
                           uint64_t limit, uint64_t length, const uint64_t *plan, size_t plan_len,
                           uint64_t *answer, size_t answer_len);
+
+/* ---- recordings of datagrams
+ *
+ * A recording is a count of entries (4 bytes, at most 4,096); for each entry
+ * the offset of its body in the file (4), its length (2, at most 65,507), a
+ * direction (1: 0, 1, or 2 for unknown) and a clock (8), big-endian; then the
+ * bodies back to back, the first one right behind these contents. Bytes behind
+ * the last body are no part of it.
+ */
+
+#define RELAY_MAX_COMPARED 32768 /* bytes of a recording that is compared */
+
+/* a comparison */
+#define RELAY_AT_TEXT_LENGTH 0 /* bytes written to `out` */
+
+/*
+ * Writes where two recordings differ, as lines of text, to the front of `out`:
+ * `entries A B` with both counts, then one line for each index from 0 that
+ * differs, the first that fits of `length I LA LB`, `meta I` (direction or
+ * clock) and `differ I byte P` (the first byte that differs, from 0), or
+ * `first-only I`, `second-only I`. Each line ends with byte 10. Offsets are not
+ * compared.
+ *
+ * first, second  two recordings
+ * out            room for the text; 65,536 bytes hold every one
+ * answer         RELAY_AT_TEXT_LENGTH
+ *
+ * Refusals, in this order: 1 (answer), 2 (either is over RELAY_MAX_COMPARED
+ * bytes), 5 (either is no well-formed recording), 3. A refusal writes nothing.
+ */
+uint64_t relay_recording_compare(const uint8_t *first, size_t first_len, const uint8_t *second,
+                                 size_t second_len, uint8_t *out, size_t out_len, uint64_t *answer,
+                                 size_t answer_len);
 
 #ifdef __cplusplus
 }

@@ -5,8 +5,8 @@ A buffer of bytes is bytes, one of words a tuple of numbers. The parameters have
 names that they have in the header, without the lengths, and stand in the same order.
 
 The functions here only sort the words that a host lends into states and back, and
-answers into words: what is sealed, opened and refused, datagram.py, sessions.py and
-streams.py say.
+answers into words: what is sealed, opened and refused, datagram.py, sessions.py,
+streams.py and recordings.py say.
 
     python3 reference/relay.py --selftest
 """
@@ -23,6 +23,7 @@ import datagram  # noqa: E402
 import gcm  # noqa: E402
 import openssl  # noqa: E402
 import plans  # noqa: E402
+import recordings  # noqa: E402
 import sessions  # noqa: E402
 import streams  # noqa: E402
 from datagram import KEY_LENGTHS, SETTINGS  # noqa: E402
@@ -342,6 +343,20 @@ def plan_check(
     return refused(number) if number else accepted(answer=front(answer, int(good)))
 
 
+# Recordings.
+
+
+def recording_compare(first: bytes, second: bytes, out: bytes, answer: Words) -> Left:
+    if len(answer) != ANSWER_WORDS:
+        return refused(SETTINGS)
+    number, text = recordings.compare(first, second)
+    if number:
+        return refused(number)
+    if len(out) < len(text):
+        return refused(recordings.ROOM)
+    return accepted(out=text + out[len(text) :], answer=front(answer, len(text)))
+
+
 # Each function with the numbers that it may return.
 
 NUMBERS = {
@@ -360,6 +375,7 @@ NUMBERS = {
     stream_open_chunk: {0, 1, 3, 4, 10, 11, 14},
     plan_make: {0, 1, 3, 12},
     plan_check: {0, 1, 12},
+    recording_compare: {0, 1, 2, 3, 5},
 }
 
 FUNCTIONS = {f"relay_{function.__name__}": function for function in NUMBERS}
@@ -480,10 +496,21 @@ def plan_examples():
     yield "a plan's answer", plan_check(6, b"", 0, 0, (), ANSWER[1:]) == refused(1)
 
 
+def recording_examples():
+    first, second = recordings.example()
+    text = b"entries 2 3\ndiffer 1 byte 17\nsecond-only 2\n"
+    said = recording_compare(first, second, FILLED, ANSWER)
+    yield "compared", said.wrote["out"] == text + FILLED[len(text) :]
+    yield "its length", said.wrote["answer"] == (len(text), *ANSWER[1:])
+    yield "no room", recording_compare(first, second, text[1:], ANSWER) == refused(3)
+    yield "ill-formed", recording_compare(first, second[:-1], b"", ANSWER) == refused(5)
+    yield "answer's length", recording_compare(first, bytes(40_000), FILLED, ()) == refused(1)
+
+
 def selftest() -> list[str]:
     """The names of the examples that this code fails."""
     checks = itertools.chain(datagram_examples(), stream_examples(), response_examples())
-    checks = itertools.chain(checks, plan_examples())
+    checks = itertools.chain(checks, plan_examples(), recording_examples())
     return plans.selftest() + [name for name, holds in checks if not holds]
 
 

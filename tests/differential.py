@@ -33,6 +33,7 @@ import planning  # noqa: E402
 import relay  # noqa: E402
 import recorded  # noqa: E402
 from oddities import odd  # noqa: E402
+from recording_scenarios import Recordings  # noqa: E402
 from scenarios import SCENARIOS  # noqa: E402
 
 CALLS = 60_000
@@ -143,7 +144,7 @@ def check_openssl() -> list[str]:
     return openssl.differences((*range(0, 40, 3), 1_400, 9_000))
 
 
-def by_dice(calls: Comparison, seed: str, count: int, scenarios: tuple = SCENARIOS) -> None:
+def by_dice(calls: Comparison, seed: str, count: int, scenarios: tuple) -> None:
     """Sequences until so many calls are made in all."""
     for number in itertools.count():
         dice = random.Random(f"{seed} {number}")
@@ -169,7 +170,7 @@ def compare(seed: str, count: int) -> bool:
         return False
     for name, values in recorded.calls():
         calls.run(name, **values)
-    by_dice(calls, seed, count)
+    by_dice(calls, seed, count, (*SCENARIOS, Recordings))
     for name, values in planning.calls():
         calls.run(name, **values)
     by_dice(calls, seed, calls.calls + PLAN_CALLS, (planning.Planning,))

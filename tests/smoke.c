@@ -417,6 +417,31 @@ static void wrong_lengths(void)
     printf("wrong lengths: refused, and nothing is written\n");
 }
 
+/* ---- recordings */
+
+static void compared(void)
+{
+    /* One entry: its body at 19, two bytes long, direction 0, clock 7. */
+    uint8_t first[] = {0, 0, 0, 1, 0, 0, 0, 19, 0, 2, 0, 0, 0, 0, 0, 0, 0, 0, 7, 'a', 'b'};
+    uint8_t second[sizeof first], out[64];
+    uint64_t answer[RELAY_ANSWER_WORDS];
+    const char *expected = "entries 1 1\ndiffer 0 byte 1\n";
+    memcpy(second, first, sizeof second);
+    second[20] = 'x';
+    check_number(relay_recording_compare(first, sizeof first, second, sizeof second, out,
+                                         sizeof out, answer, RELAY_ANSWER_WORDS),
+                 RELAY_OK, "two recordings");
+    check(answer[RELAY_AT_TEXT_LENGTH] == strlen(expected), "the length of their text");
+    check(memcmp(out, expected, strlen(expected)) == 0, "their text");
+    check_number(relay_recording_compare(first, sizeof first - 1, second, sizeof second, NULL, 0,
+                                         answer, RELAY_ANSWER_WORDS),
+                 RELAY_REFUSED_MALFORMED, "a recording that was cut");
+    check_number(relay_recording_compare(first, sizeof first, second, sizeof second, NULL, 0,
+                                         answer, RELAY_ANSWER_WORDS),
+                 RELAY_REFUSED_ROOM, "no room");
+    printf("recordings: differ 0 byte 1\n");
+}
+
 int main(void)
 {
     client_to_server();
@@ -424,6 +449,7 @@ int main(void)
     request();
     response();
     plans();
+    compared();
     wrong_lengths();
     names();
     printf("smoke test passed\n");

@@ -134,6 +134,23 @@ static void plan_check(void)
                               2 * (size_t)answer[RELAY_AT_DATAGRAMS], answer, RELAY_ANSWER_WORDS);
 }
 
+/* Recordings of one entry each, whose bodies have lengths of five digits. */
+static uint8_t first[19 + 12345], second[19 + 12346];
+
+static void record(uint8_t *recording, size_t body_len)
+{
+    const uint8_t contents[] = {0, 0, 0, 1, 0, 0, 0, 19};
+    memcpy(recording, contents, sizeof contents);
+    recording[8] = (uint8_t)(body_len >> 8);
+    recording[9] = (uint8_t)body_len;
+}
+
+static void recording_compare(void)
+{
+    number = relay_recording_compare(first, sizeof first, second, sizeof second, out, sizeof out,
+                                     answer, RELAY_ANSWER_WORDS);
+}
+
 /* With the most stack that each was seen to take. */
 static struct function {
     const char *name;
@@ -155,6 +172,7 @@ static struct function {
     {"relay_stream_open_chunk", stream_open_chunk, 0},
     {"relay_plan_make", plan_make, 0},
     {"relay_plan_check", plan_check, 0},
+    {"relay_recording_compare", recording_compare, 0},
 };
 
 enum { FUNCTIONS = sizeof functions / sizeof functions[0] };
@@ -246,9 +264,19 @@ static void try_streams(void)
     used = (size_t)answer[RELAY_AT_USED];
     open_chunk(RELAY_OK);
     open_chunk(RELAY_REFUSED_MORE);
+}
 
+static void try_plans_and_recordings(void)
+{
     measure(plan_make, RELAY_OK);
     measure(plan_check, RELAY_OK);
+
+    record(first, 12345);
+    record(second, 12346);
+    measure(recording_compare, RELAY_OK);
+    second[3] = 2;
+    measure(recording_compare, RELAY_REFUSED_MALFORMED);
+    second[3] = 1;
 }
 
 /* A line for each function; the last one names the deepest. */
@@ -277,6 +305,7 @@ int main(void)
             try_datagrams();
             if (payload_len > 0)
                 try_streams();
+            try_plans_and_recordings();
         }
     }
     report();

@@ -1,3 +1,4 @@
 pub mod DatagramLaws
 pub mod PlanLaws
 mod StreamLaws
+pub mod RecordingLaws

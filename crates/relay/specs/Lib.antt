@@ -1,3 +1,4 @@
 pub mod Datagrams
 pub mod Plans
 pub mod Streams
+pub mod Recordings

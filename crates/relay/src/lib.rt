@@ -3,6 +3,7 @@
 // of what a host holds, and of an answer, are in crate `words`.
 mod datagrams;
 mod plans;
+mod recordings;
 mod streams;
 
 // Refusal 1, which stands before every other.

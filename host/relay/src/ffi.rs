@@ -197,6 +197,16 @@ extern "C" {
         answer: *mut u64,
         answer_len: usize,
     ) -> u64;
+    fn relay_recording_compare(
+        first: *const u8,
+        first_len: usize,
+        second: *const u8,
+        second_len: usize,
+        out: *mut u8,
+        out_len: usize,
+        answer: *mut u64,
+        answer_len: usize,
+    ) -> u64;
 }
 
 /// A new table, of all words.
@@ -570,6 +580,29 @@ pub(crate) fn plan_check(
             length,
             plan.as_ptr(),
             plan.len(),
+            answer.as_mut_ptr(),
+            answer.len(),
+        )
+    };
+    answer::checked(number, answer)
+}
+
+/// Writes where two recordings differ.
+pub(crate) fn recording_compare(
+    first: &[u8],
+    second: &[u8],
+    out: &mut [u8],
+) -> Result<Answer, Refusal> {
+    let mut answer = NO_ANSWER;
+    // SAFETY: the rule of lending.
+    let number = unsafe {
+        relay_recording_compare(
+            first.as_ptr(),
+            first.len(),
+            second.as_ptr(),
+            second.len(),
+            out.as_mut_ptr(),
+            out.len(),
             answer.as_mut_ptr(),
             answer.len(),
         )

@@ -13,6 +13,7 @@
 //! | seal or open a stream from client to server | [`RequestStream`], with a [`Pool`] at the server |
 //! | seal or open a stream from server to client | [`ResponseStream`] |
 //! | plan a long report in datagrams | [`Plan`] |
+//! | tell where two recordings differ | [`recording::compare`] |
 //!
 //! # A datagram
 //!
@@ -142,6 +143,7 @@ mod method;
 mod peer;
 mod plan;
 mod pool;
+pub mod recording;
 mod refusal;
 mod seal_session;
 mod secret;

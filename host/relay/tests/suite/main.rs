@@ -8,6 +8,7 @@ mod outputs;
 mod plain;
 mod plans;
 mod pools;
+mod recordings;
 mod refusals;
 mod sessions;
 mod streams;

@@ -1,0 +1,4 @@
+pub mod Held
+pub mod EntryLaws
+pub mod WellFormedLaws
+pub mod WrittenLaws

@@ -1,0 +1,269 @@
+/*
+ * The fuzz target of recordings: an input makes two files, and what the library
+ * answers of them is held to a second account of the format, which is here.
+ * Buffers are lent beside pages that nobody may touch (lend.h).
+ *
+ * An input begins with a byte of ways and one of room. Then come the entries of
+ * both files, four bytes each, and patches of three bytes until its end.
+ */
+#include "lend.h"
+#include "relay.h"
+
+#include <stdarg.h>
+#include <stdio.h>
+#include <stdlib.h>
+#include <string.h>
+
+int LLVMFuzzerTestOneInput(const uint8_t *data, size_t size);
+
+enum {
+    FILE_ROOM = 40000,
+    TEXT_ROOM = 65536,
+    CONTENTS = 15,
+    NUMBERS = 6, /* 0 and the refusals up to 5 */
+    MAX_FILE = 32768,
+    MAX_ENTRIES = 4096,
+    MAX_BODY = 65507,
+};
+
+/* Ways of an input. */
+enum { SAME_ENTRIES = 1, LONG_FILE = 2, TOO_LONG = 4, BAD_ANSWER = 8, RAW = 16, AT_START = 32 };
+
+struct file {
+    uint8_t bytes[FILE_ROOM];
+    size_t len;
+};
+
+/* What is left of an input. */
+struct input {
+    const uint8_t *at;
+    size_t left;
+};
+
+static uint8_t next(struct input *input)
+{
+    if (input->left == 0)
+        return 0;
+    input->left--;
+    return *input->at++;
+}
+
+static void fail(const char *promise)
+{
+    fprintf(stderr, "broken: %s\n", promise);
+    abort();
+}
+
+/* ---- files */
+
+static void put(struct file *file, size_t at, uint64_t value, unsigned bytes)
+{
+    for (unsigned i = 0; i < bytes; i++)
+        file->bytes[at + i] = (uint8_t)(value >> 8 * (bytes - 1 - i));
+}
+
+static uint64_t number_at(const struct file *file, size_t at, unsigned bytes)
+{
+    uint64_t value = 0;
+    for (unsigned i = 0; i < bytes; i++)
+        value = value << 8 | file->bytes[at + i];
+    return value;
+}
+
+/* A well-formed recording of up to seven entries. */
+static void make_file(struct file *file, struct input *input)
+{
+    size_t count = next(input) % 8, place = 4 + CONTENTS * count;
+    put(file, 0, count, 4);
+    for (size_t i = 0; i < count; i++) {
+        uint8_t kind = next(input), clock = next(input), fill = next(input);
+        size_t at = 4 + CONTENTS * i, len = next(input) % 40;
+        put(file, at, place, 4);
+        put(file, at + 4, len, 2);
+        put(file, at + 6, kind % 3, 1);
+        put(file, at + 7, (uint64_t)clock << 56 | clock, 8);
+        memset(file->bytes + place, fill, len);
+        place += len;
+    }
+    file->len = place;
+}
+
+static void patch(struct file *file, struct input *input)
+{
+    size_t place = next(input);
+    uint8_t value = next(input);
+    if (place < file->len)
+        file->bytes[place] = value;
+}
+
+static void lengthen(struct file *file, size_t len)
+{
+    if (file->len < len) {
+        memset(file->bytes + file->len, 0, len - file->len);
+        file->len = len;
+    }
+}
+
+/* ---- what should be */
+
+static int well_formed(const struct file *file)
+{
+    if (file->len < 4)
+        return 0;
+    uint64_t count = number_at(file, 0, 4), place = 4 + CONTENTS * count;
+    if (count > MAX_ENTRIES || place > file->len)
+        return 0;
+    for (size_t at = 4; at < 4 + CONTENTS * count; at += CONTENTS) {
+        if (number_at(file, at, 4) != place || number_at(file, at + 4, 2) > MAX_BODY ||
+            file->bytes[at + 6] > 2)
+            return 0;
+        place += number_at(file, at + 4, 2);
+    }
+    return place <= file->len;
+}
+
+static char expected[TEXT_ROOM];
+static size_t expected_len;
+
+static void line(const char *format, ...)
+{
+    va_list values;
+    va_start(values, format);
+    int len = vsnprintf(expected + expected_len, sizeof expected - expected_len, format, values);
+    va_end(values);
+    expected_len += (size_t)len;
+}
+
+static void expect_index(const struct file *a, const struct file *b, size_t i)
+{
+    size_t at = 4 + CONTENTS * i, len = (size_t)number_at(a, at + 4, 2);
+    size_t other = (size_t)number_at(b, at + 4, 2);
+    const uint8_t *x = a->bytes + number_at(a, at, 4), *y = b->bytes + number_at(b, at, 4);
+    if (len != other) {
+        line("length %zu %zu %zu\n", i, len, other);
+    } else if (memcmp(a->bytes + at + 6, b->bytes + at + 6, 9) != 0) {
+        line("meta %zu\n", i);
+    } else if (memcmp(x, y, len) != 0) {
+        size_t p = 0;
+        while (x[p] == y[p])
+            p++;
+        line("differ %zu byte %zu\n", i, p);
+    }
+}
+
+/* Whether both are compared; then the text. */
+static uint64_t expect_compare(const struct file *a, const struct file *b)
+{
+    if (a->len > MAX_FILE || b->len > MAX_FILE)
+        return RELAY_REFUSED_LENGTH;
+    if (!well_formed(a) || !well_formed(b))
+        return RELAY_REFUSED_MALFORMED;
+    size_t m = (size_t)number_at(a, 0, 4), n = (size_t)number_at(b, 0, 4);
+    expected_len = 0;
+    line("entries %zu %zu\n", m, n);
+    for (size_t i = 0; i < m || i < n; i++) {
+        if (i >= n)
+            line("first-only %zu\n", i);
+        else if (i >= m)
+            line("second-only %zu\n", i);
+        else
+            expect_index(a, b, i);
+    }
+    return RELAY_OK;
+}
+
+/* ---- calls */
+
+static uint64_t compares[NUMBERS];
+
+static void report(void)
+{
+    uint64_t calls = 0;
+    fprintf(stderr, "relay_recording_compare     ");
+    for (unsigned n = 0; n < NUMBERS; n++) {
+        calls += compares[n];
+        if (compares[n] > 0)
+            fprintf(stderr, " %u: %llu", n, (unsigned long long)compares[n]);
+        else if (n != 4)
+            fprintf(stderr, " %u: never", n);
+    }
+    fprintf(stderr, "\n%llu calls checked\n", (unsigned long long)calls);
+}
+
+/* The room given: exact, one more, one less, none, much. */
+static size_t room_of(uint8_t room, size_t due)
+{
+    const size_t rooms[8] = {due, due, due, due + 1, due ? due - 1 : 0, 0, due + 100, due};
+    return rooms[room % 8];
+}
+
+static void check_compare(const struct file *a, const struct file *b, uint8_t ways, uint8_t room)
+{
+    static uint8_t lent_out[TEXT_ROOM + 200];
+    uint64_t answer[RELAY_ANSWER_WORDS + 1];
+    int at_start = (ways & AT_START) != 0;
+    size_t words = RELAY_ANSWER_WORDS, due;
+    uint64_t number = expect_compare(a, b);
+    if (ways & BAD_ANSWER)
+        words = room % 2 ? RELAY_ANSWER_WORDS - 1 : RELAY_ANSWER_WORDS + 1;
+    due = room_of(room, number == RELAY_OK ? expected_len : 7);
+    memset(lent_out, 0xa5, sizeof lent_out);
+    memset(answer, 0x5a, sizeof answer);
+    if (words != RELAY_ANSWER_WORDS)
+        number = RELAY_REFUSED_SETTINGS;
+    else if (number == RELAY_OK && due < expected_len)
+        number = RELAY_REFUSED_ROOM;
+
+    struct lent first = lend(0, LEND_READ, a->bytes, a->len, at_start);
+    struct lent second = lend(1, LEND_READ, b->bytes, b->len, at_start);
+    struct lent out = lend(2, LEND_CHANGE, lent_out, due, at_start);
+    struct lent said = lend(3, LEND_CHANGE, answer, words * sizeof *answer, at_start);
+    uint64_t got =
+        relay_recording_compare(first.theirs, first.len, second.theirs, second.len, out.theirs,
+                                out.len, (uint64_t *)(void *)said.theirs, words);
+    if (got != number)
+        fail("the number");
+    compares[got]++;
+    if (number == RELAY_OK) {
+        memcpy(lent_out, expected, expected_len);
+        answer[RELAY_AT_TEXT_LENGTH] = expected_len;
+    }
+    if (memcmp(out.ours, lent_out, due) != 0)
+        fail("what is written to `out`");
+    if (memcmp(said.ours, answer, words * sizeof *answer) != 0)
+        fail("what is written to `answer`");
+    if (!lend_intact(&first) || !lend_intact(&second) || !lend_intact(&out) || !lend_intact(&said))
+        fail("nothing is written beside a buffer");
+}
+
+int LLVMFuzzerTestOneInput(const uint8_t *data, size_t size)
+{
+    static struct file a, b;
+    static int prepared;
+    struct input input = {data, size};
+    uint8_t ways = next(&input), room = next(&input);
+    if (!prepared) {
+        prepared = 1;
+        atexit(report);
+    }
+    if (ways & RAW) {
+        a.len = input.left / 2;
+        memcpy(a.bytes, input.at, a.len);
+        b.len = input.left - a.len;
+        memcpy(b.bytes, input.at + a.len, b.len);
+    } else {
+        make_file(&a, &input);
+        if (ways & SAME_ENTRIES)
+            b = a;
+        else
+            make_file(&b, &input);
+        while (input.left > 2)
+            patch(next(&input) % 2 ? &a : &b, &input);
+    }
+    if (ways & LONG_FILE)
+        lengthen(&a, MAX_FILE);
+    if (ways & TOO_LONG)
+        lengthen(&b, MAX_FILE + 1);
+    check_compare(&a, &b, ways, room);
+    return 0;
+}
