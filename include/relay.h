@@ -27,13 +27,15 @@
  *   pool, session, stream or answer of another length than its own; a table
  *   whose retention is not 60 to 3,600; a pool of another method; a session
  *   whose side is neither 0 nor 1; a stream at another turn than the call's,
- *   or with a length of 0 or above 65,535 at a payload. Nothing is written
+ *   with a length of 0 or above 65,535 at a payload, or with a length above
+ *   65,535 or another counter than 1 at a variable header. Nothing is written
  *   then.
  *
  * WHAT A REFUSAL WRITES
- *   No refusal changes a pool or a sending session. Of a table a datagram's
- *   RELAY_REFUSED_REPLAY changes one word, the repeats of the datagram's own
- *   session, and no other refusal changes any. A refusal before
+ *   No refusal changes a pool or a sending session; a salt that
+ *   relay_stream_open_request stored stays, whatever is refused behind it. Of a
+ *   table a datagram's RELAY_REFUSED_REPLAY changes one word, the repeats of the
+ *   datagram's own session, and no other refusal changes any. A refusal before
  *   the payload's tag is found good leaves `out` as it was; one after it
  *   sets the bytes that the plaintext would have filled to zero. Bytes of
  *   `out` behind those due are never written.
@@ -156,15 +158,16 @@ static inline const char *relay_refusal_name(uint64_t number)
 #define RELAY_AT_PADDING 7   /* bytes of it */
 #define RELAY_AT_PAYLOAD 8   /* place in `out`; it ends at the datagram's length less 32 */
 
-/* an opened request head: kind, first, second and port as above, and then */
+/* an opened variable header of a request: kind, first, second and port as above, and then */
 #define RELAY_AT_HEAD_PADDING 4 /* bytes of it */
 #define RELAY_AT_HEAD_PAYLOAD 5 /* place of the first payload in `out` */
-#define RELAY_AT_HEAD_USED 6    /* bytes used: the whole head */
+#define RELAY_AT_HEAD_USED 6    /* bytes used: the variable header with its tag */
 #define RELAY_AT_HEAD_LENGTH 7  /* bytes written to `out`, where the first payload ends */
 
-/* an opened response head, or one step of a stream */
+/* an opened front of a request, a response head, or one step of a stream */
 #define RELAY_AT_USED 0         /* bytes used */
-#define RELAY_AT_CHUNK_LENGTH 1 /* length of the payload that is next, or was opened */
+#define RELAY_AT_CHUNK_LENGTH 1 /* length of the piece that is next, or was opened */
+#define RELAY_AT_HEAD_TIME 2    /* the sender's clock; a step has none */
 
 /* anything sealed */
 #define RELAY_AT_SEALED_LENGTH 0 /* bytes written to `out` */
@@ -202,13 +205,14 @@ static inline const char *relay_refusal_name(uint64_t number)
 /* ---- words of a stream; the last four are secret */
 
 #define RELAY_STREAM_TURN 0    /* what the stream does next: */
-#define RELAY_TURN_ENDED 0     /*   nothing: a tag was wrong, or a length was 0 */
+#define RELAY_TURN_ENDED 0     /*   nothing: a tag or a variable header was wrong, or a length 0 */
 #define RELAY_TURN_LENGTH 1    /*   opens a length */
 #define RELAY_TURN_PAYLOAD 2   /*   opens a payload */
 #define RELAY_TURN_SEALING 3   /*   seals */
+#define RELAY_TURN_VARIABLE 4  /*   opens a request's variable header */
 #define RELAY_STREAM_METHOD 1
 #define RELAY_STREAM_COUNTER 2 /* of the next piece */
-#define RELAY_STREAM_LENGTH 3  /* of the payload that is next, 1 to 65,535; else 0 */
+#define RELAY_STREAM_LENGTH 3  /* of the payload (1 to 65,535) or variable header that is next */
 #define RELAY_STREAM_SUBKEY 4  /* 4 words, bytes big-endian; method 1 has zeros in the last two */
 
 /* ---- words of a salt pool: the method, then 256 records of 6 words, which are in use (not 0), time,
@@ -365,25 +369,47 @@ uint64_t relay_stream_seal_request(uint64_t method, const uint8_t *key, size_t k
                                    uint64_t *answer, size_t answer_len);
 
 /*
- * Opens a request's head, for a server, and begins the stream behind it.
+ * Opens the front of a request's head, for a server: the salt and the fixed
+ * header. It begins the stream, which has the variable header next: the call
+ * that follows is relay_stream_open_variable, on the bytes behind the front.
  *
- * bytes   what has come in so far; bytes behind the head are not read
- * pool    the salt enters it exactly when the head is accepted
- * out     room for the variable header: address, padding and first payload
- * stream  RELAY_STREAM_WORDS words, written when the head is accepted: a
- *         stream that opens, at a length
- * answer  RELAY_AT_KIND to RELAY_AT_PORT, RELAY_AT_HEAD_PADDING to
- *         RELAY_AT_HEAD_LENGTH; with RELAY_REFUSED_MORE, RELAY_AT_WANTED
+ * bytes   what has come in so far; bytes behind the front are not read
+ * pool    the salt enters it exactly when the front is accepted, with `clock`,
+ *         and stays, whatever the variable header turns out to be
+ * stream  RELAY_STREAM_WORDS words, written when the front is accepted: a
+ *         stream that opens, at the variable header
+ * answer  RELAY_AT_USED, RELAY_AT_CHUNK_LENGTH (of the variable header),
+ *         RELAY_AT_HEAD_TIME; with RELAY_REFUSED_MORE, RELAY_AT_WANTED
  *
- * Refusals, in this order: 1, 10 (fixed header), 4, 6, 7, 8, 9, 10 (variable
- * header), 3, 4, 5. Only the last 5 touches `out`: it zeroes the variable
- * header's length. A refused head gives no stream and stores no salt.
+ * Refusals, in this order: 1, 10, 4, 6, 7, 8, 9. A refused front gives no stream
+ * and stores no salt. The same bytes are 8 once they were accepted, so a host
+ * goes on with the second call and never makes the first one again.
  */
 uint64_t relay_stream_open_request(uint64_t method, const uint8_t *key, size_t key_len,
                                    uint64_t clock, const uint8_t *bytes, size_t bytes_len,
-                                   uint64_t *pool, size_t pool_len, uint8_t *out, size_t out_len,
-                                   uint64_t *stream, size_t stream_len, uint64_t *answer,
-                                   size_t answer_len);
+                                   uint64_t *pool, size_t pool_len, uint64_t *stream,
+                                   size_t stream_len, uint64_t *answer, size_t answer_len);
+
+/*
+ * Opens the variable header of a request, behind its front.
+ *
+ * stream  as relay_stream_open_request left it; at a length behind the call
+ * bytes   what has come in behind the front; bytes behind the variable header
+ *         are not read
+ * out     room for the variable header: address, padding and first payload
+ * answer  RELAY_AT_KIND to RELAY_AT_PORT, RELAY_AT_HEAD_PADDING to
+ *         RELAY_AT_HEAD_LENGTH; with RELAY_REFUSED_MORE, RELAY_AT_WANTED, which
+ *         counts from the first byte behind the front
+ *
+ * Refusals, in this order: 1 (lengths, method, a stream at another turn), 4 (a
+ * stream that has ended), 10, 3, 4, 5. Only 5 touches `out`: it zeroes the
+ * variable header's length. 4 and 5 end the stream: they write RELAY_TURN_ENDED,
+ * and from then on it is 4. The others leave the stream as it was, so the same
+ * call can be made again with more bytes or more room.
+ */
+uint64_t relay_stream_open_variable(uint64_t *stream, size_t stream_len, const uint8_t *bytes,
+                                    size_t bytes_len, uint8_t *out, size_t out_len,
+                                    uint64_t *answer, size_t answer_len);
 
 /*
  * Seals a response's head with its first payload, which a server sends first,
@@ -413,8 +439,8 @@ uint64_t relay_stream_seal_response(uint64_t method, const uint8_t *key, size_t 
  * bytes         what has come in so far; bytes behind the head are not read
  * stream        RELAY_STREAM_WORDS words, written when the head is accepted: a
  *               stream that opens, at a payload
- * answer        RELAY_AT_USED, RELAY_AT_CHUNK_LENGTH (of the first payload);
- *               with RELAY_REFUSED_MORE, RELAY_AT_WANTED
+ * answer        RELAY_AT_USED, RELAY_AT_CHUNK_LENGTH (of the first payload),
+ *               RELAY_AT_HEAD_TIME; with RELAY_REFUSED_MORE, RELAY_AT_WANTED
  *
  * Refusals, in this order: 1, 10, 4, 6, 7, 13, 14 (no first payload). A refused
  * head gives no stream.

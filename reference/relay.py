@@ -29,6 +29,7 @@ import streams  # noqa: E402
 from datagram import KEY_LENGTHS, SETTINGS  # noqa: E402
 from sessions import NOT_AUTHENTIC, Peer  # noqa: E402
 from streams import EMPTY, ENDED, LENGTH_NEXT, MAX_CHUNK, MORE, PAYLOAD_NEXT  # noqa: E402
+from streams import VARIABLE_NEXT  # noqa: E402
 
 TABLE_WORDS = sessions.TABLE_WORDS
 POOL_WORDS = streams.POOL_WORDS
@@ -223,24 +224,25 @@ def stream_open_request(
     clock: int,
     bytes: bytes,
     pool: Words,
-    out: bytes,
     stream: Words,
     answer: Words,
 ) -> Left:
     if not fits(stream, answer):
         return refused(SETTINGS)
-    given, pool = streams.open_request(method, key, clock, bytes, pool, out)
+    given, pool = streams.open_request(method, key, clock, bytes, pool)
+    return head_left(given, answer, pool=pool)
+
+
+def head_left(given: streams.Answer, answer: Words, **others: Words) -> Left:
+    """Of the call for a head: bytes used, the length of the piece behind it, and its time."""
     if given.number == MORE:
         return asks_more(answer, given.count)
     if given.number:
-        return Left(given.number, {"out": given.output})
-    said = given.said
-    words = (*target_words(said.target), said.port, said.padding, said.payload)
+        return refused(given.number)
     return accepted(
-        pool=pool,
-        out=given.output,
         stream=receiver_words(given.stream),
-        answer=front(answer, *words, given.count, said.length),
+        answer=front(answer, given.count, given.said.length, given.said.time),
+        **others,
     )
 
 
@@ -273,14 +275,7 @@ def stream_open_response(
     if not fits(stream, answer):
         return refused(SETTINGS)
     given = streams.open_response(method, key, clock, request_salt, bytes)
-    if given.number == MORE:
-        return asks_more(answer, given.count)
-    if given.number:
-        return refused(given.number)
-    return accepted(
-        stream=receiver_words(given.stream),
-        answer=front(answer, given.count, given.said.length),
-    )
+    return head_left(given, answer)
 
 
 def stream_seal_chunk(stream: Words, payload: bytes, out: bytes, answer: Words) -> Left:
@@ -298,21 +293,46 @@ def stream_seal_chunk(stream: Words, payload: bytes, out: bytes, answer: Words) 
 def opens(stream: Words) -> bool:
     """Whether a stream of the right length is at a turn of opening, or ended."""
     turn, length = stream[0], stream[3]
-    return turn in (ENDED, LENGTH_NEXT) or turn == PAYLOAD_NEXT and length <= MAX_CHUNK
+    measured = turn in (PAYLOAD_NEXT, VARIABLE_NEXT) and length <= MAX_CHUNK
+    return measured or turn in (ENDED, LENGTH_NEXT)
+
+
+def receiver_in(stream: Words) -> streams.Receiver:
+    turn, method, counter, length, *subkey = stream
+    return streams.Receiver(method, turn, length, counter, tuple(subkey))
+
+
+def opening_refused(given: streams.Answer, stream: Words, answer: Words) -> Left:
+    """What a refusal writes: the number wanted, the turn of a stream that it ends, the output."""
+    if given.number == MORE:
+        return asks_more(answer, given.count)
+    wrote = {"out": given.output}
+    if given.stream.turn == ENDED != stream[0]:
+        wrote["stream"] = (ENDED, *stream[1:])
+    return Left(given.number, wrote)
+
+
+def stream_open_variable(stream: Words, bytes: bytes, out: bytes, answer: Words) -> Left:
+    if not fits(stream, answer) or not opens(stream):
+        return refused(SETTINGS)
+    given = streams.open_variable(receiver_in(stream), bytes, out)
+    if given.number:
+        return opening_refused(given, stream, answer)
+    said = given.said
+    words = (*target_words(said.target), said.port, said.padding, said.payload)
+    return accepted(
+        out=given.output,
+        stream=receiver_words(given.stream),
+        answer=front(answer, *words, given.count, said.length),
+    )
 
 
 def stream_open_chunk(stream: Words, bytes: bytes, out: bytes, answer: Words) -> Left:
     if not fits(stream, answer) or not opens(stream):
         return refused(SETTINGS)
-    turn, method, counter, length, *subkey = stream
-    receiver = streams.Receiver(method, turn, length, counter, tuple(subkey))
-    given = streams.step(receiver, bytes, out)
-    if given.number == MORE:
-        return asks_more(answer, given.count)
-    if given.number in (NOT_AUTHENTIC, EMPTY):
-        return Left(given.number, {"stream": (ENDED, *stream[1:])})
+    given = streams.step(receiver_in(stream), bytes, out)
     if given.number:
-        return refused(given.number)
+        return opening_refused(given, stream, answer)
     return accepted(
         out=given.output,
         stream=receiver_words(given.stream),
@@ -368,7 +388,8 @@ NUMBERS = {
     datagram_open_server: set(range(10)),
     datagram_open_client: {*range(10), 13},
     stream_seal_request: {0, 1, 2, 3, 12},
-    stream_open_request: {0, 1, *range(3, 11)},
+    stream_open_request: {0, 1, 4, 6, 7, 8, 9, 10},
+    stream_open_variable: {0, 1, 3, 4, 5, 10},
     stream_seal_response: {0, 1, 2, 3, 14},
     stream_open_response: {0, 1, 4, 6, 7, 10, 13, 14},
     stream_seal_chunk: {0, 1, 2, 3, 4, 11, 14},
@@ -442,12 +463,25 @@ def stream_examples():
     wrote = stream_seal_request(*said).wrote
     head, sender = wrote["out"][: wrote["answer"][0]], wrote["stream"]
     yield "sealed", len(head) == 16 + 27 + 13 + 16 and sender[:4] == (3, 1, 2, 0)
-    short = stream_open_request(1, KEY, 1_000, head[:50], pool, FILLED, STREAM, ANSWER)
-    yield "more", short == Left(10, {"answer": (72, *ANSWER[1:])})
-    number, wrote = stream_open_request(1, KEY, 1_000, head, pool, FILLED, STREAM, ANSWER)
-    yield "opened", (number, wrote["answer"]) == (0, (3, 2, 1, 80, 3, 10, 72, 13, 9))
+    short = stream_open_request(1, KEY, 1_000, head[:42], pool, STREAM, ANSWER)
+    yield "more", short == Left(10, {"answer": (43, *ANSWER[1:])})
+    number, wrote = stream_open_request(1, KEY, 1_000, head, pool, STREAM, ANSWER)
+    yield "opened", (number, wrote["answer"]) == (0, (43, 13, 1_000, *ANSWER[3:]))
+    between = wrote["stream"]
+    yield "between", between == (4, 1, 1, 13, *sender[4:])
+    short = stream_open_variable(between, head[43:71], FILLED, ANSWER)
+    yield "more of it", short == Left(10, {"answer": (29, *ANSWER[1:])})
+    number, wrote = stream_open_variable(between, head[43:], FILLED, ANSWER)
+    yield "header", (number, wrote["answer"]) == (0, (3, 2, 1, 80, 3, 10, 29, 13, 9))
     receiver = wrote["stream"]
     yield "receiver", receiver == (1, 1, 2, 0, *sender[4:])
+    forged = stream_open_variable(between, bytes(29), FILLED, ANSWER)
+    yield "its end", forged == Left(4, {"out": FILLED, "stream": (0, *between[1:])})
+    yield "a step", stream_open_chunk(between, head[43:], FILLED, ANSWER)[0] == 1
+    yield "another turn", stream_open_variable(receiver, head[43:], FILLED, ANSWER)[0] == 1
+    for place, word in ((2, 2), (3, 65_536), (1, 3)):
+        odd = (*between[:place], word, *between[place + 1 :])
+        yield f"word {place}", stream_open_variable(odd, head[43:], FILLED, ANSWER)[0] == 1
     wrote = stream_seal_chunk(sender, b"abc", FILLED, ANSWER).wrote
     chunk = wrote["out"][: wrote["answer"][0]]
     yield "chunk", len(chunk) == 37 and wrote["stream"] == (3, 1, 4, 0, *sender[4:])
@@ -456,7 +490,7 @@ def stream_examples():
     receiver = wrote["stream"]
     yield "a payload is next", receiver == (2, 1, 3, 3, *sender[4:])
     forged = stream_open_chunk(receiver, bytes(19), FILLED, ANSWER)
-    yield "ended", forged == Left(4, {"stream": (0, *receiver[1:])})
+    yield "ended", forged == Left(4, {"out": FILLED, "stream": (0, *receiver[1:])})
     yield "turns", stream_seal_chunk(receiver, b"", FILLED, ANSWER) == refused(1)
     yield "too long", stream_open_chunk((2, 1, 3, 65_536, *sender[4:]), b"", b"", ANSWER)[0] == 1
     for stream in ((0, 1, *sender[2:]), (0, 3, *sender[2:])):
@@ -464,11 +498,11 @@ def stream_examples():
             number = stream_seal_chunk(stream, payload, FILLED, ANSWER).number
             yield "sealing, ended", number == (refusal if stream[1] == 1 else 1)
     none = stream_open_chunk((2, 1, 3, 0, *sender[4:]), bytes(16), b"", ANSWER)
-    yield "a payload of 0", none == refused(1)
+    yield "a payload of 0", none == Left(1, {"out": b""})
     empty = streams.sealed_piece(streams.subkey(KEY, SALT), 4, b"\0\0")
     stream = (1, 1, 4, 0, *sender[4:])
     given = stream_open_chunk(stream, empty, FILLED, ANSWER)
-    yield "a length of 0", given == Left(14, {"stream": (0, *stream[1:])})
+    yield "a length of 0", given == Left(14, {"out": FILLED, "stream": (0, *stream[1:])})
 
 
 def response_examples():
@@ -478,7 +512,7 @@ def response_examples():
     yield "length", len(head) == 16 + 43 + 19
     opened = stream_open_response(1, KEY, 1_000, OTHER_SALT, head, STREAM, ANSWER)
     stream = opened.wrote["stream"]
-    yield "opened", opened.wrote["answer"] == (59, 3, *ANSWER[2:])
+    yield "opened", opened.wrote["answer"] == (59, 3, 1_000, *ANSWER[3:])
     yield "its stream", stream == (2, 1, 1, 3, *wrote["stream"][4:])
     opened = stream_open_chunk(stream, head[59:], FILLED, ANSWER)
     yield "first payload", opened.wrote["out"] == b"abc" + FILLED[3:]

@@ -41,15 +41,17 @@ POOL_WORDS = 1 + SALTS * RECORD_WORDS
 KEPT = 60  # seconds
 
 # What a receiving stream opens next.
-ENDED, LENGTH_NEXT, PAYLOAD_NEXT = range(3)
+ENDED, LENGTH_NEXT, PAYLOAD_NEXT, _, VARIABLE_NEXT = range(5)
 
-# A stream behind its head. The subkey is four words; the length is the next payload's, or 0.
+# A stream behind its head, or between the two calls that open a request's. The subkey is four words;
+# the length is that of the next payload or variable chunk, or 0.
 Sender = collections.namedtuple("Sender", "method counter subkey")
 Receiver = collections.namedtuple("Receiver", "method turn length counter subkey")
 
-# What an accepted head or step says. A request's target: (1, number), (4, number, number) or
-# (3, place, length); its places are from the start of the variable chunk's plaintext.
-Request = collections.namedtuple("Request", "target port time padding payload length")
+# What an accepted head or step says. A variable chunk's target: (1, number), (4, number, number)
+# or (3, place, length); its places are from the start of its plaintext.
+Request = collections.namedtuple("Request", "time length")
+Variable = collections.namedtuple("Variable", "target port padding payload length")
 Response = collections.namedtuple("Response", "time length")
 Chunk = collections.namedtuple("Chunk", "length")
 
@@ -275,8 +277,8 @@ def seal_chunk(stream, payload, output):
 # Opening.
 
 
-def open_request(method, key, clock, data, pool, output):
-    """The answer, and the pool afterwards."""
+def open_request(method, key, clock, data, pool, output=b""):
+    """The salt and the fixed header: the answer, and the pool afterwards. Nothing is put out."""
     try:
         return accept_request(method, key, clock, data, pool, output)
     except Refused as refusal:
@@ -287,25 +289,45 @@ def accept_request(method, key, clock, data, pool, output):
     require_settings(method, key)
     require(lawful(pool, method), SETTINGS)
     fixed = SALT_LENGTHS[method]
-    variable = fixed + fixed_length(method, REQUEST) + TAG_LENGTH
-    require_bytes(data, variable)
+    end = fixed + fixed_length(method, REQUEST) + TAG_LENGTH
+    require_bytes(data, end)
     salt = data[:fixed]
     secret = subkey(key, salt)
-    time, _, length = read_fixed(REQUEST, clock, opened_piece(secret, 0, data[fixed:variable]))
+    time, _, length = read_fixed(REQUEST, clock, opened_piece(secret, 0, data[fixed:end]))
     require(salt not in salts_kept(pool, clock), REPLAY)
     record = free_record(pool, clock)
     require(record is not None, FULL)
-    end = variable + length + TAG_LENGTH
+    stream = Receiver(method, VARIABLE_NEXT, length, 1, words_from(secret))
+    answer = Answer(0, end, Request(time, length), stream, output)
+    return answer, stored(pool, record, clock, salt)
+
+
+def open_variable(stream, data, output):
+    """The variable chunk, behind the fixed header. Refusals 4 and 5 end the stream."""
+    try:
+        return accept_variable(stream, data, output)
+    except Refused as refusal:
+        return refusal.answer(left_by(refusal, stream), output)
+
+
+def accept_variable(stream, data, output):
+    require(stream.method in KEY_LENGTHS, SETTINGS)
+    require(stream.turn != ENDED, NOT_AUTHENTIC)
+    require(stream.turn == VARIABLE_NEXT and stream.counter == 1, SETTINGS)
+    length, end = stream.length, stream.length + TAG_LENGTH
     require_bytes(data, end)
     require(length <= len(output), ROOM)
-    text = opened_piece(secret, 1, data[variable:end])
+    text = opened_piece(secret_of(stream), 1, data[:end])
     said = read_variable(text)
     require(said is not None, MALFORMED, cleared=length)
-    target, port, padding, payload = said
-    request = Request(target, port, time, padding, payload, length)
-    stream = Receiver(method, LENGTH_NEXT, 0, 2, words_from(secret))
-    answer = Answer(0, end, request, stream, text + output[length:])
-    return answer, stored(pool, record, clock, salt)
+    later = stream._replace(turn=LENGTH_NEXT, length=0, counter=2)
+    return Answer(0, end, Variable(*said, length), later, text + output[length:])
+
+
+def left_by(refusal, stream):
+    """A stream as a refusal leaves it."""
+    ends = refusal.number in (NOT_AUTHENTIC, MALFORMED, EMPTY)
+    return stream._replace(turn=ENDED) if ends else stream
 
 
 def open_response(method, key, clock, request_salt, data, output=b""):
@@ -331,13 +353,12 @@ def step(stream, data, output):
     try:
         return accept_chunk(stream, data, output)
     except Refused as refusal:
-        if refusal.number in (NOT_AUTHENTIC, EMPTY):
-            stream = stream._replace(turn=ENDED)
-        return refusal.answer(stream, output)
+        return refusal.answer(left_by(refusal, stream), output)
 
 
 def accept_chunk(stream, data, output):
     require(stream.method in KEY_LENGTHS, SETTINGS)
+    require(stream.turn != VARIABLE_NEXT, SETTINGS)
     require(stream.turn != PAYLOAD_NEXT or stream.length, SETTINGS)
     require(stream.turn != ENDED, NOT_AUTHENTIC)
     require(stream.counter < LAST_COUNTER, COUNTER)
@@ -394,13 +415,19 @@ def response_of(method, payload, kind=RESPONSE, time=CLOCK, bound=None):
     return head(KEYS[method], SALTS_OF[method], fixed, payload)
 
 
-def opened(method, data, clock=CLOCK, pool=None, output=FILLED):
+def opened(method, data, clock=CLOCK, pool=None):
     pool = new_pool(method) if pool is None else pool
-    return open_request(method, KEYS[method], clock, data, pool, output)
+    return open_request(method, KEYS[method], clock, data, pool)
 
 
 def number_of(method, data, **others):
     return opened(method, data, **others)[0].number
+
+
+def between(method, data, output=FILLED):
+    """The second call on a request's bytes, from the stream that the first one handed on."""
+    answer, _ = opened(method, data)
+    return open_variable(answer.stream, data[answer.count :], output)
 
 
 def steps(stream, data):
@@ -433,11 +460,15 @@ def whole_streams():
         sealed = seal_request(method, key, salt, CLOCK, datagram.NAME, 3, b"abc", FILLED)
         data = sealed.output[: sealed.count] + chunks(sealed.stream, PAYLOADS)
         answer, pool = opened(method, data)
-        said = Request((3, 2, 1), 80, CLOCK, 3, 10, 13)
-        yield f"request {method}", answer.said == said and answer.count == sealed.count
-        yield f"its text {method}", answer.output[:13] == datagram.NAME + b"\0\3\0\0\0abc"
+        front, behind = answer.count, data[answer.count :]
+        yield f"request {method}", answer.said == (CLOCK, 13) and front == WANTED[method][0]
         yield f"its pool {method}", pool == new_pool(method, (1, CLOCK, salt))
-        left = steps(answer.stream, data[answer.count :])
+        answer = open_variable(answer.stream, behind, FILLED)
+        yield f"its header {method}", answer.said == Variable((3, 2, 1), 80, 3, 10, 13)
+        yield f"its bytes {method}", front + answer.count == sealed.count
+        yield f"its text {method}", answer.output[:13] == datagram.NAME + b"\0\3\0\0\0abc"
+        yield f"its stream {method}", answer.stream[1:4] == (LENGTH_NEXT, 0, 2)
+        left = steps(answer.stream, behind[answer.count :])
         yield f"its chunks {method}", left == (list(PAYLOADS), MORE, b"")
         sealed = seal_response(method, key, salt, bound, CLOCK, PAYLOADS[0], FILLED)
         data = sealed.output[: sealed.count] + chunks(sealed.stream, PAYLOADS[1:])
@@ -450,11 +481,17 @@ def whole_streams():
 def wanted_numbers():
     for method, (request, response) in WANTED.items():
         data, pool = request_of(method, datagram.NAME + b"\0\0x"), new_pool(method)
-        for length in range(len(data)):
+        for length in range(request):
             answer, after = opened(method, data[:length])
-            wanted = request if length < request else len(data)
-            same = answer == Answer(MORE, wanted, None, None, FILLED) and after == pool
+            same = answer == Answer(MORE, request, None, None, b"") and after == pool
             yield f"request {method} of {length} bytes", same
+        first, after = opened(method, data[:request])
+        yield f"stored {method}", after == new_pool(method, (1, CLOCK, SALTS_OF[method]))
+        for length in range(request, len(data)):
+            answer = open_variable(first.stream, data[request:length], FILLED)
+            same = answer == Answer(MORE, len(data) - request, None, first.stream, FILLED)
+            yield f"variable chunk {method} of {length} bytes", same
+        yield f"then {method}", open_variable(first.stream, data[request:], FILLED).number == 0
         data = response_of(method, b"abc")
         for length in range(response):
             answer = open_response(
@@ -472,11 +509,11 @@ def malformed_requests():
     texts = (b"", name, name + b"\0", name + b"\0\0", name + b"\0\1", name[:-1])
     texts += (name + u16(901) + bytes(901), b"\2" + name[1:] + b"\0\1\0")
     for text in texts:
-        answer, pool = opened(1, request_of(1, text), output=FILLED[: len(text) + 1])
-        same = answer == Answer(MALFORMED, 0, None, None, bytes(len(text)) + FILLED[:1])
-        yield f"malformed {text[:9]}", same and pool == new_pool(1)
+        answer = between(1, request_of(1, text), FILLED[: len(text) + 1])
+        same = answer[:3] == (MALFORMED, 0, None) and answer.stream.turn == ENDED
+        yield f"malformed {text[:9]}", same and answer.output == bytes(len(text)) + FILLED[:1]
     for text in (name + b"\0\1\0", name + b"\0\0\0", name + u16(900) + bytes(900)):
-        yield f"good {text[:9]}", number_of(1, request_of(1, text)) == 0
+        yield f"good {text[:9]}", between(1, request_of(1, text)).number == 0
 
 
 def order_examples():
@@ -491,12 +528,12 @@ def order_examples():
     yield "7 before 8", number_of(1, late, pool=known) == TIME
     data = request_of(1, name)
     yield "8 before 9", number_of(1, data[:43], pool=known[:7] + full[7:]) == REPLAY
-    yield "9 before 10", number_of(1, data[:43], pool=full) == FULL
-    yield "10 before 3", number_of(1, data[:-1], output=b"") == MORE
+    yield "9", number_of(1, data[:43], pool=full) == FULL
+    yield "10 before 3", between(1, data[:-1], b"").number == MORE
     damaged = datagram.flipped(data, len(data) - 1)
-    yield "3 before 4", number_of(1, damaged, output=b"") == ROOM
-    yield "4 before 5", number_of(1, damaged) == NOT_AUTHENTIC
-    yield "5", number_of(1, data) == MALFORMED
+    yield "3 before 4", between(1, damaged, b"").number == ROOM
+    yield "4 before 5", between(1, damaged).number == NOT_AUTHENTIC
+    yield "5", between(1, data).number == MALFORMED
     bad = response_of(1, b"", kind=0, time=0, bound=salt)
     yield "a response's 6", open_response(1, KEYS[1], CLOCK, SALTS_OF[1], bad).number == TYPE
     bad = response_of(1, b"", bound=salt)
@@ -504,6 +541,46 @@ def order_examples():
     yield "a response's 13", answer.number == BINDING
     answer = open_response(1, KEYS[1], CLOCK, REQUEST_SALTS[1], response_of(1, b""))
     yield "a response's 14", answer == Answer(EMPTY, 0, None, None, b"")
+
+
+def second_calls():
+    """What the second call leaves, and what the pool knows then."""
+    for method in KEYS:
+        data = request_of(method, datagram.NAME + b"\0\0x")
+        first, pool = opened(method, data)
+        stream, behind = first.stream, data[first.count :]
+        bare = request_of(method, datagram.NAME + b"\0\0")[first.count :]
+        short = stream._replace(length=len(bare) - TAG_LENGTH)
+        for name, state, sealed, output, number, turn in (
+            ("10", stream, behind[:-1], FILLED, MORE, VARIABLE_NEXT),
+            ("3", stream, behind, b"", ROOM, VARIABLE_NEXT),
+            ("4", stream, datagram.flipped(behind, 0), FILLED, NOT_AUTHENTIC, ENDED),
+            ("5", short, bare, FILLED, MALFORMED, ENDED),
+        ):
+            answer = open_variable(state, sealed, output)
+            left = answer.number == number and answer.stream.turn == turn
+            yield f"{name} of {method}", left and answer.stream[2:] == state[2:]
+            again = opened(method, data, pool=pool, clock=CLOCK + 30)
+            yield f"known after {name} of {method}", again == (Refused(REPLAY).answer(None, b""), pool)
+        yield f"again {method}", open_variable(stream, behind, FILLED).number == 0
+        yield f"forgotten {method}", opened(
+            method, request_of(method, b"", time=CLOCK + 61), pool=pool, clock=CLOCK + 61
+        )[0].number == 0
+        for turn, number in ((ENDED, 4), (LENGTH_NEXT, 1), (PAYLOAD_NEXT, 1)):
+            other = stream._replace(turn=turn)
+            answer = open_variable(other, behind, FILLED)
+            yield f"turn {turn} of {method}", answer == (number, 0, None, other, FILLED)
+        for counter in (0, 2, LAST_COUNTER):
+            other = stream._replace(counter=counter)
+            yield f"counter {counter}", open_variable(other, behind, FILLED).number == SETTINGS
+        yield f"a step {method}", step(stream, behind, FILLED) == (1, 0, None, stream, FILLED)
+        none = request_of(method, b"")
+        first, _ = opened(method, none)
+        yield f"length 0 of {method}", first.number == 0 and first.said.length == 0
+        answer = open_variable(first.stream, none[first.count : -1], b"")
+        yield f"wants 16 of {method}", answer[:2] == (MORE, 16)
+        answer = open_variable(first.stream, none[first.count :], b"")
+        yield f"then 5 of {method}", answer.number == MALFORMED and answer.stream.turn == ENDED
 
 
 def empty_chunks():
@@ -569,7 +646,7 @@ def counter_examples():
 def selftest():
     """The names of the examples that this code fails."""
     checks = (whole_streams(), wanted_numbers(), malformed_requests(), order_examples())
-    checks += (pool_examples(), counter_examples(), empty_chunks())
+    checks += (pool_examples(), counter_examples(), second_calls(), empty_chunks())
     return [name for name, holds in itertools.chain(*checks) if not holds]
 
 

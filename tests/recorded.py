@@ -98,6 +98,7 @@ NAMES = {
     stream_calls.OPEN_REQUEST: "relay_stream_open_request",
     stream_calls.OPEN_RESPONSE: "relay_stream_open_response",
     stream_calls.OPEN_CHUNK: "relay_stream_open_chunk",
+    stream_calls.OPEN_VARIABLE: "relay_stream_open_variable",
 }
 
 # Where a call's data and its other string go.

@@ -334,13 +334,11 @@ class Streams(Scenario):
         return flipped(self.dice, data) if self.often(5) else data
 
     def open_request(self, line: Line) -> None:
-        data = self.bytes_of(line)
-        room = self.room(max(0, len(line.data) - len(line.salt) - 43))
-        values = {"clock": self.clock, "bytes": data, "pool": self.pool, "out": room}
+        values = {"clock": self.clock, "bytes": self.bytes_of(line), "pool": self.pool}
         lent = {"stream": self.blank, "answer": self.answer}
         number, left = self.call("stream_open_request", **self.settings(), **values, **lent)
         if number == 0:
-            line.receiver, line.data = left["stream"], line.data[left["answer"][6] :]
+            line.receiver, line.data = left["stream"], line.data[left["answer"][0] :]
         if len(left["pool"]) == POOL_WORDS and left["pool"][0] == self.method:
             self.pool = left["pool"]
 
@@ -364,13 +362,16 @@ class Streams(Scenario):
             line.sender = left["stream"]
 
     def open_chunk(self, line: Line) -> None:
+        """The next piece, or a request's variable header; at times by the other's call."""
         stream = self.disturbed(line.receiver)
-        length = stream[3] if stream[0] == 2 else self.dice.choice((0, 2))
+        length = stream[3] if stream[0] in (2, 4) else self.dice.choice((0, 2))
         values = {"stream": stream, "bytes": self.bytes_of(line)}
         values["out"] = self.room(min(length, MAX_CHUNK))
-        number, left = self.call("stream_open_chunk", **values, answer=self.answer)
+        variable = (stream[0] == 4) != self.often(5)
+        name = "stream_open_variable" if variable else "stream_open_chunk"
+        number, left = self.call(name, **values, answer=self.answer)
         if number == 0:
-            line.data = line.data[left["answer"][0] :]
+            line.data = line.data[left["answer"][6 if variable else 0] :]
         if len(left["stream"]) == relay.STREAM_WORDS and (number == 0 or self.often(20)):
             line.receiver = left["stream"]
 
@@ -379,7 +380,7 @@ class Streams(Scenario):
         if self.often(2):
             return (*stream[:2], LAST - self.dice.randrange(4), *stream[3:])
         if self.often(3):
-            return (self.dice.choice((0, 1, 2, 3, 4, LAST)), *stream[1:])
+            return (self.dice.choice((0, 1, 2, 3, 4, 5, LAST)), *stream[1:])
         return few_changed(self.dice, stream) if self.often(2) else stream
 
     def at_counter(self) -> None:

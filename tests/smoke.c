@@ -246,12 +246,19 @@ static size_t seal_chunk(uint64_t *stream, const char *payload, uint8_t *out, si
     return (size_t)answer[RELAY_AT_SEALED_LENGTH];
 }
 
-static uint64_t open_request(const uint8_t *bytes, size_t len, uint64_t *pool, uint64_t *stream,
-                             uint64_t *answer, uint8_t *out, size_t room)
+static uint64_t open_front(const uint8_t *bytes, size_t len, uint64_t *pool, uint64_t *stream,
+                           uint64_t *answer)
 {
     return relay_stream_open_request(METHOD, KEY, sizeof KEY, CLOCK, bytes, len, pool,
-                                     RELAY_POOL_WORDS, out, room, stream, RELAY_STREAM_WORDS,
-                                     answer, RELAY_ANSWER_WORDS);
+                                     RELAY_POOL_WORDS, stream, RELAY_STREAM_WORDS, answer,
+                                     RELAY_ANSWER_WORDS);
+}
+
+static uint64_t open_variable(uint64_t *stream, const uint8_t *bytes, size_t len, uint8_t *out,
+                              size_t room, uint64_t *answer)
+{
+    return relay_stream_open_variable(stream, RELAY_STREAM_WORDS, bytes, len, out, room, answer,
+                                      RELAY_ANSWER_WORDS);
 }
 
 /* Seals a head with the first payload "GET", and two chunks. Gives the head's length. */
@@ -269,22 +276,35 @@ static size_t seal_request(uint8_t *bytes, size_t room, size_t *len)
     return head;
 }
 
-/* Bytes come in by and by. A head asks for its fixed part first, which says how long it is, and
- * then for all of it. */
+/* Bytes come in by and by. A head asks for its front first, which says how long the variable
+ * header is, and then for that. The front is opened once: from then on its salt is known. */
 static void open_head(const uint8_t *bytes, size_t len, size_t head, uint64_t *pool,
                       uint64_t *stream)
 {
     uint64_t answer[RELAY_ANSWER_WORDS];
     uint8_t out[100];
-    check_number(open_request(bytes, 10, pool, stream, answer, out, sizeof out), RELAY_REFUSED_MORE,
-                 "ten bytes");
+    check_number(open_front(bytes, 10, pool, stream, answer), RELAY_REFUSED_MORE, "ten bytes");
     check(answer[RELAY_AT_WANTED] == 16 + 11 + 16, "salt, fixed header and tag are wanted");
-    check_number(open_request(bytes, 43, pool, stream, answer, out, sizeof out), RELAY_REFUSED_MORE,
-                 "the fixed part");
-    check(answer[RELAY_AT_WANTED] == head, "the whole head is wanted");
-    check_number(open_request(bytes, len, pool, stream, answer, out, sizeof out), RELAY_OK,
-                 "opening a request's head");
-    check(answer[RELAY_AT_PORT] == 443 && answer[RELAY_AT_HEAD_USED] == head, "what the head says");
+    check_number(open_front(bytes, 43, pool, stream, answer), RELAY_OK, "opening the front");
+    size_t front = (size_t)answer[RELAY_AT_USED];
+    check(front == 43 && answer[RELAY_AT_CHUNK_LENGTH] == head - front - 16 &&
+              answer[RELAY_AT_HEAD_TIME] == CLOCK,
+          "what the front says");
+    check(stream[RELAY_STREAM_TURN] == RELAY_TURN_VARIABLE &&
+              stream[RELAY_STREAM_LENGTH] == head - front - 16,
+          "the variable header is next");
+    for (size_t come = 0; come < head - front; come++) {
+        check_number(open_variable(stream, bytes + front, come, out, sizeof out, answer),
+                     RELAY_REFUSED_MORE, "a part of the variable header");
+        check(answer[RELAY_AT_WANTED] == head - front, "all of it is wanted");
+    }
+    check_number(relay_stream_open_chunk(stream, RELAY_STREAM_WORDS, bytes + front, len - front,
+                                         out, sizeof out, answer, RELAY_ANSWER_WORDS),
+                 RELAY_REFUSED_SETTINGS, "a step in its place");
+    check_number(open_variable(stream, bytes + front, len - front, out, sizeof out, answer),
+                 RELAY_OK, "opening the variable header");
+    check(answer[RELAY_AT_PORT] == 443 && answer[RELAY_AT_HEAD_USED] == head - front,
+          "what it says");
     check(memcmp(out + answer[RELAY_AT_HEAD_PAYLOAD], "GET", 3) == 0 &&
               answer[RELAY_AT_HEAD_LENGTH] == answer[RELAY_AT_HEAD_PAYLOAD] + 3,
           "the first payload");
@@ -313,8 +333,10 @@ static void request(void)
                                              sizeof out, answer, RELAY_ANSWER_WORDS),
                      RELAY_REFUSED_NOT_AUTHENTIC, "a chunk that is none");
     check(stream[RELAY_STREAM_TURN] == RELAY_TURN_ENDED, "the stream has ended");
-    check_number(open_request(bytes, len, pool, stream, answer, out, sizeof out),
-                 RELAY_REFUSED_REPLAY, "the same head again");
+    check_number(open_variable(stream, bytes, len, out, sizeof out, answer),
+                 RELAY_REFUSED_NOT_AUTHENTIC, "a variable header of an ended stream");
+    check_number(open_front(bytes, len, pool, stream, answer), RELAY_REFUSED_REPLAY,
+                 "the same head again");
     printf("request: head and 2 chunks, %zu bytes; replayed head and forged chunk refused\n", len);
 }
 

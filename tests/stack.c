@@ -92,8 +92,15 @@ static void stream_seal_request(void)
 static void stream_open_request(void)
 {
     number = relay_stream_open_request(method, KEY, key_len, CLOCK, sealed, sealed_len, pool,
-                                       RELAY_POOL_WORDS, out, sizeof out, receiver,
-                                       RELAY_STREAM_WORDS, answer, RELAY_ANSWER_WORDS);
+                                       RELAY_POOL_WORDS, receiver, RELAY_STREAM_WORDS, answer,
+                                       RELAY_ANSWER_WORDS);
+}
+
+static void stream_open_variable(void)
+{
+    number = relay_stream_open_variable(receiver, RELAY_STREAM_WORDS, sealed + used,
+                                        sealed_len - used, out, sizeof out, answer,
+                                        RELAY_ANSWER_WORDS);
 }
 
 static void stream_seal_response(void)
@@ -166,6 +173,7 @@ static struct function {
     {"relay_pool_new", pool_new, 0},
     {"relay_stream_seal_request", stream_seal_request, 0},
     {"relay_stream_open_request", stream_open_request, 0},
+    {"relay_stream_open_variable", stream_open_variable, 0},
     {"relay_stream_seal_response", stream_seal_response, 0},
     {"relay_stream_open_response", stream_open_response, 0},
     {"relay_stream_seal_chunk", stream_seal_chunk, 0},
@@ -255,6 +263,9 @@ static void try_streams(void)
     seal(stream_seal_request);
     measure(stream_open_request, RELAY_OK);
     measure(stream_open_request, RELAY_REFUSED_REPLAY);
+    used = (size_t)answer[RELAY_AT_USED];
+    measure(stream_open_variable, RELAY_OK);
+    measure(stream_open_variable, RELAY_REFUSED_SETTINGS);
     seal(stream_seal_chunk);
     open_chunk(RELAY_OK);
     open_chunk(RELAY_OK);

@@ -8,7 +8,7 @@ import vectors  # noqa: E402
 import streams  # noqa: E402
 from datagram import LONG_NAME, NAME, V4, V6, u16, u64  # noqa: E402
 from streams import ENDED, KEYS, LENGTH_NEXT, PAYLOAD_NEXT, POOL_WORDS  # noqa: E402
-from streams import SALT_LENGTHS, SALTS, Receiver, Sender, new_pool  # noqa: E402
+from streams import SALT_LENGTHS, SALTS, VARIABLE_NEXT, Receiver, Sender, new_pool  # noqa: E402
 from vectors import BUFFER_LIMIT, NO_STREAM, STREAM_WORDS, STREAMS  # noqa: E402
 
 METHODS = {128: 1, 256: 2}
@@ -25,7 +25,9 @@ LONG = LONG_NAME[:2] + HOST_NAME + b"\xff\xff"
 ADDRESSES = (V4, V6, NAME, b"\3\x0bexample.com\x01\xbb", LONG, b"\1" + bytes(6), b"\4" + bytes(18))
 
 SEAL_REQUEST, SEAL_RESPONSE, SEAL_CHUNK, OPEN_REQUEST, OPEN_RESPONSE, OPEN_CHUNK = range(6)
+OPEN_VARIABLE = vectors.OPEN_VARIABLE - vectors.SEAL_REQUEST
 SEALING = (SEAL_REQUEST, SEAL_RESPONSE, SEAL_CHUNK)
+NO_OUTPUT = (OPEN_REQUEST, OPEN_RESPONSE)
 
 # The arguments of a call. The stream is in a slot; the salt is the call's own, or the request's
 # where a response is opened; the other string is an address or the request's salt; the data is
@@ -108,6 +110,8 @@ def answer_to(call, words):
         pool = words[: call.lent]
         answer, pool = streams.open_request(*settings, call.clock, data, pool, output)
         words = pool + words[call.lent :]
+    elif call.kind == OPEN_VARIABLE:
+        answer = streams.open_variable(stream, data, output)
     elif call.kind == OPEN_RESPONSE:
         answer = streams.open_response(*settings, call.clock, call.salt, data, output)
     else:
@@ -151,6 +155,16 @@ class Calls:
         self.records.append(Run(call, before, given, self.words))
         return given
 
+    def open_head(self, answer=0, data=b"", slot=0, room=None, cut=None, flip=(0, 0), **changes):
+        """Both calls on a request's bytes, the second on those behind its front; the answer is that
+        of the last one made. How many bytes were used, where both accept."""
+        data = flipped(cut_at(data, cut), flip)
+        first = self.run(OPEN_REQUEST, None, slot=slot, data=data, **changes)
+        if first.number:
+            return self.expect(data, first.number, answer)
+        behind = data[first.count :]
+        return first.count + self.run(OPEN_VARIABLE, answer, slot=slot, data=behind, room=room).count
+
     def sealed(self, kind, **changes):
         """The bytes of what is sealed."""
         given = self.run(kind, **changes)
@@ -181,16 +195,21 @@ def make_call(
     salt = salt_of(known) if salt is None else salt
     if other is None:
         other = salt_of(known, "of the request") if kind == SEAL_RESPONSE else NAME
-    if cut is not None:
-        data = (data + pattern(cut)[len(data) :])[:cut]
+    data = cut_at(data, cut)
     if room is None:
         room = default_room(kind, other, padding, data)
     return Call(kind, slot, method, clock, padding, lent, room, key, salt, other, data, flip)
 
 
+def cut_at(data, cut):
+    """Its first bytes, where it is shorter with the pattern behind it."""
+    return data if cut is None else (data + pattern(cut)[len(data) :])[:cut]
+
+
 def default_room(kind, other, padding, data):
-    """Room for what is due and some bytes behind it. A response that is opened has no output."""
-    if kind == OPEN_RESPONSE:
+    """Room for what is due and some bytes behind it. The front of a head that is opened has no
+    output."""
+    if kind in NO_OUTPUT:
         return 0
     if kind in SEALING:
         return min(150 + len(other) + min(padding, 900) + len(data), BUFFER_LIMIT)
@@ -232,6 +251,11 @@ def receiver(method, length=None, counter=2, number=0):
     """At the turn of a payload of this length, or of a length."""
     turn = LENGTH_NEXT if length is None else PAYLOAD_NEXT
     return Receiver(method, turn, length or 0, counter, subkey_of(method, number))
+
+
+def between(method, length, counter=1, number=0):
+    """At the turn of a request's variable chunk of this length."""
+    return Receiver(method, VARIABLE_NEXT, length, counter, subkey_of(method, number))
 
 
 def subkey_of(method, number=0):

@@ -9,13 +9,13 @@ from datagram import ARGUMENT, COUNTER, LENGTH, NAME, ROOM, SETTINGS, V6, u16  #
 from sessions import BINDING, FULL, MALFORMED, NOT_AUTHENTIC, REPLAY, TIME, TYPE  # noqa: E402
 from sessions import Dice  # noqa: E402
 from stream_calls import ADDRESSES, BEHIND, JUNK, LAST, LONG, METHODS  # noqa: E402
-from stream_calls import OPEN_CHUNK, OPEN_REQUEST, OPEN_RESPONSE  # noqa: E402
+from stream_calls import NO_OUTPUT, OPEN_CHUNK, OPEN_REQUEST, OPEN_RESPONSE, OPEN_VARIABLE  # noqa: E402
 from stream_calls import SEAL_CHUNK, SEAL_REQUEST, SEAL_RESPONSE, SEALING, WORD_LIMIT  # noqa: E402
-from stream_calls import Calls, flipped, front_of, full_pool, pattern, piece  # noqa: E402
+from stream_calls import Calls, between, flipped, front_of, full_pool, pattern, piece  # noqa: E402
 from stream_calls import receiver, request, response, salt_of, sender, subkey_of  # noqa: E402
-from stream_calls import text_of  # noqa: E402
+from stream_calls import slot_start, text_of  # noqa: E402
 from streams import EMPTY, ENDED, KEYS, MAX_CHUNK, MORE, POOL_WORDS, SALT_LENGTHS  # noqa: E402
-from streams import SALTS, new_pool  # noqa: E402
+from streams import LENGTH_NEXT, PAYLOAD_NEXT, SALTS, VARIABLE_NEXT, new_pool  # noqa: E402
 from vectors import BUFFER_LIMIT, STREAMS  # noqa: E402
 
 
@@ -45,8 +45,7 @@ def exchange(calls, number, address, padding, lengths):
     first = {"data": pattern(lengths[0]), "clock": 1_000 + number}
     head = calls.sealed(SEAL_REQUEST, salt=ours, other=address, padding=padding, **first)
     data = send(calls, 0, head, lengths[1:])
-    given = calls.run(OPEN_REQUEST, slot=1, data=data, clock=1_009)
-    receive(calls, 1, data[given.count :])
+    receive(calls, 1, data[calls.open_head(slot=1, data=data, clock=1_009) :])
     if lengths[0] == 0:  # a request may begin with padding alone, a response may not
         calls.run(SEAL_RESPONSE, EMPTY, slot=2, salt=theirs, other=ours, **first)
         first["data"] = pattern(1)
@@ -88,11 +87,11 @@ def head_groups():
             said = {"salt": salt_of(method, number), "other": address, "padding": padding}
             payload = pattern(number % 5 or int(padding == 0))
             data = calls.sealed(SEAL_REQUEST, data=payload, **said)
-            calls.run(OPEN_REQUEST, data=data + JUNK[:number], slot=1)
+            calls.open_head(data=data + JUNK[:number], slot=1)
         for clock in (0, 1, 255, 2**32, 2**63, LAST):
             said = {"salt": salt_of(method, f"at {clock}"), "clock": clock}
             data = calls.sealed(SEAL_REQUEST, **said)
-            calls.run(OPEN_REQUEST, data=data, clock=clock)
+            calls.open_head(data=data, clock=clock)
             data = calls.sealed(SEAL_RESPONSE, **said)
             bound = salt_of(method, "of the request")
             calls.run(OPEN_RESPONSE, data=data, clock=clock, salt=bound)
@@ -105,28 +104,33 @@ def head_groups():
 # Bytes that are not there yet.
 
 
-def cut_requests(calls, data, answer, wanted=None):
-    """The head cut at each place behind the fixed part is answered so."""
+def cut_fronts(calls, data, answer):
+    """The front cut at each place; from its whole length on it is answered so."""
     front = front_of(calls.method, 0)
-    for cut in range(len(data) if answer == MORE else len(data) + 2):
-        short = cut < front
-        count = front if short else wanted
-        calls.run(OPEN_REQUEST, MORE if short else answer, data=data, cut=cut, count=count)
+    for cut in range(front):
+        calls.run(OPEN_REQUEST, MORE, data=data, cut=cut, count=front)
+    for cut in (front, front + 1, len(data), len(data) + 1):
+        calls.run(OPEN_REQUEST, answer, data=data, cut=cut)
 
 
 def cut_request_groups():
     for bits, method in METHODS.items():
-        data = request(method, payload=b"abc")
-        calls = Calls(method)
-        cut_requests(calls, data, MORE, len(data))
-        calls.run(OPEN_REQUEST, 0, data=data)
-        cut_requests(calls, data, REPLAY)
+        data, front = request(method, payload=b"abc"), front_of(method, 0)
+        behind, calls = data[front:], Calls(method)
+        for cut in range(front):
+            calls.run(OPEN_REQUEST, MORE, data=data, cut=cut, count=front)
+        calls.run(OPEN_REQUEST, 0, data=data, cut=front, count=front)
+        for cut in range(len(behind)):
+            calls.run(OPEN_VARIABLE, MORE, data=behind, cut=cut, count=len(behind))
+        calls.run(OPEN_VARIABLE, 0, data=behind, count=len(behind))
+        cut_fronts(calls, data, REPLAY)
         calls.begin(full_pool(method))
-        cut_requests(calls, data, FULL)
+        cut_fronts(calls, data, FULL)
         later = {"data": request(method, payload=b"abc", time=1_061), "clock": 1_061}
-        for cut in (0, front_of(method, 0), len(data) - 1):
+        for cut in (0, front - 1):
             calls.run(OPEN_REQUEST, MORE, cut=cut, **later)
-        calls.run(OPEN_REQUEST, 0, **later)
+        calls.open_head(MORE, cut=len(data) - 1, **later)
+        calls.run(OPEN_VARIABLE, 0, data=later["data"][front:])
         yield f"{bits}, requests cut short", calls
 
 
@@ -163,14 +167,12 @@ def wanted_group():
         for length in (0, 1, 255, 256, 65_534, MAX_CHUNK):
             calls.begin(new_pool(method), s1=receiver(method, length))
             data = request(method, text=b"", length=length)[:-16]
-            wanted = len(data) + length + 16
-            for cut in (len(data), wanted - 1):
-                call = {"method": method, "data": data, "cut": cut, "room": 0}
-                calls.run(OPEN_REQUEST, MORE, count=wanted, **call)
+            calls.run(OPEN_REQUEST, 0, method=method, data=data, count=len(data))
             for cut in (0, 15, length + 15):
-                call = {"slot": 1, "data": b"", "cut": cut, "room": 0}
+                call = {"data": b"", "cut": cut, "room": 0}
+                calls.run(OPEN_VARIABLE, MORE, count=length + 16, **call)
                 call |= {"count": length + 16} if length else {}
-                calls.run(OPEN_CHUNK, MORE if length else SETTINGS, **call)
+                calls.run(OPEN_CHUNK, MORE if length else SETTINGS, slot=1, **call)
     return "numbers wanted", calls
 
 
@@ -251,14 +253,15 @@ def malformed_groups():
         calls = Calls(method)
         for number, text in enumerate(malformed_texts()):
             room = len(text) + (0, 1, BEHIND)[number % 3]
-            calls.run(OPEN_REQUEST, MALFORMED, data=request(method, text=text), room=room)
+            data = request(method, salt_of(method, f"malformed {number}"), text=text)
+            calls.open_head(MALFORMED, data=data, room=room)
+            calls.run(OPEN_VARIABLE, NOT_AUTHENTIC, data=data[front_of(method, 0) :])
         good = [text_of(padding=900), text_of(padding=900, payload=b""), text_of()]
         good += [text_of(padding=1, payload=b""), text_of(payload=bytes(900), said=900)]
         good += [text_of(payload=NAME + NAME), text_of(padding=5, payload=NAME)]
         good += [text_of(payload=b"\1" + NAME, said=1), text_of(padding=899, payload=b"", said=0)]
         for number, text in enumerate(good):
-            data = request(method, salt_of(method, number), text=text)
-            calls.run(OPEN_REQUEST, 0, data=data)
+            calls.open_head(data=request(method, salt_of(method, number), text=text))
         yield f"{bits}, malformed", calls
 
 
@@ -270,11 +273,19 @@ def forged_head_groups():
         calls = Calls(method)
         another = bytes(len(KEYS[method]))
         data, other = (request(method, payload=payload) for payload in (b"abc", b"abd"))
-        for place in range(len(data)):
+        front = front_of(method, 0)
+        for place in range(front):
             calls.run(OPEN_REQUEST, NOT_AUTHENTIC, data=data, flip=(place, mask))
-        calls.run(OPEN_REQUEST, NOT_AUTHENTIC, data=data[:-16] + other[-16:])
         calls.run(OPEN_REQUEST, NOT_AUTHENTIC, data=data, key=another)
-        calls.run(OPEN_REQUEST, 0, data=data + b"\0", flip=(len(data), mask))
+        calls.run(OPEN_REQUEST, 0, data=data, flip=(front, mask))
+        behind = data[front:]
+        forged = [flipped(behind, (place, mask)) for place in range(len(behind))]
+        for each in (*forged, behind[:-16] + other[-16:]):
+            calls.begin(s0=between(method, len(behind) - 16))
+            calls.run(OPEN_VARIABLE, NOT_AUTHENTIC, data=each)
+            calls.run(OPEN_VARIABLE, NOT_AUTHENTIC, data=behind)  # too late
+        calls.begin(s0=between(method, len(behind) - 16))
+        calls.run(OPEN_VARIABLE, 0, data=behind + b"\0", flip=(len(behind), mask))
         data, front = response(method), front_of(method, 1)
         for place in range(front):
             calls.run(OPEN_RESPONSE, NOT_AUTHENTIC, data=data, flip=(place, mask))
@@ -312,10 +323,34 @@ def ended_group():
             words = [0] * STREAMS + list(ended)
             answer = NOT_AUTHENTIC if method in METHODS.values() else SETTINGS
             calls.begin(words)
-            for data in (b"", good, good + JUNK):
-                calls.run(OPEN_CHUNK, answer, data=data, room=0)
-                calls.run(OPEN_CHUNK, answer, data=data)
+            for data, kind in itertools.product((b"", good, good + JUNK), (OPEN_CHUNK, OPEN_VARIABLE)):
+                calls.run(kind, answer, data=data, room=0)
+                calls.run(kind, answer, data=data)
     return "ended", calls
+
+
+def turn_group():
+    """Each call at the turn of another, and the second call's turn with another counter."""
+    calls = Calls(pool=False)
+    for method in METHODS.values():
+        text = text_of()
+        length, good = len(text), piece(method, text, 1)
+        for turn, counter in itertools.product((LENGTH_NEXT, PAYLOAD_NEXT), (1, 2, LAST)):
+            calls.begin(s0=between(method, length, counter)._replace(turn=turn))
+            for data in (b"", good):
+                calls.run(OPEN_VARIABLE, SETTINGS, data=data)
+        for counter in (0, 2, 3, 2**32 + 1, LAST - 1, LAST):
+            calls.begin(s0=between(method, length, counter))
+            for data in (b"", piece(method, text, counter), good):
+                calls.run(OPEN_VARIABLE, SETTINGS, data=data)
+                calls.run(OPEN_CHUNK, SETTINGS, data=data)
+        calls.begin(s0=between(method, length))
+        for data in (b"", good, piece(method, b"\0\5", 1)):
+            calls.run(OPEN_CHUNK, SETTINGS, data=data, room=0)
+        calls.run(OPEN_VARIABLE, 0, data=good, room=length)
+        calls.run(OPEN_VARIABLE, SETTINGS, data=good)
+        calls.run(OPEN_CHUNK, 0, data=piece(method, b"\0\5"))
+    return "turns", calls
 
 
 # Counters.
@@ -348,12 +383,13 @@ def state_group():
     for method in (0, 3, 257, 2**32 + 1, 2**32 + 2, LAST):
         odd = {"method": method}
         states = {"s0": sender(1)._replace(**odd), "s1": receiver(1)._replace(**odd)}
-        states |= {"s2": receiver(1, 3)._replace(**odd)}
+        states |= {"s2": receiver(1, 3)._replace(**odd), "s3": between(1, 3)._replace(**odd)}
         calls.begin(**states)
         for data in (b"", JUNK):
             calls.run(SEAL_CHUNK, SETTINGS, data=data)
             calls.run(OPEN_CHUNK, SETTINGS, data=data, slot=1)
             calls.run(OPEN_CHUNK, SETTINGS, data=data, slot=2)
+            calls.run(OPEN_VARIABLE, SETTINGS, data=data, slot=3)
     junk = (*subkey_of(1)[:2], 7, LAST)
     calls.begin(s0=sender(1)._replace(subkey=junk), s1=receiver(1)._replace(subkey=junk))
     receive(calls, 1, calls.sealed(SEAL_CHUNK, data=b"abc"))
@@ -407,7 +443,7 @@ def settings_groups():
         for first in (0, 3, 3 - method, 2**32 + method, LAST):
             calls.begin((first, *new_pool(method)[1:]))
             calls.run(OPEN_REQUEST, SETTINGS, method=method, data=data)
-            calls.run(OPEN_REQUEST, SETTINGS, method=method, data=b"", room=0)
+            calls.run(OPEN_REQUEST, SETTINGS, method=method, data=b"")
         calls.begin((*new_pool(method), LAST))
         calls.run(OPEN_REQUEST, 0, method=method, data=data)
     yield "pools of another length or method", calls
@@ -477,11 +513,12 @@ def room_groups():
     for method in METHODS.values():
         calls.make(method)
         data, due = request(method, payload=b"abcd"), len(text_of(payload=b"abcd"))
+        calls.run(OPEN_REQUEST, 0, method=method, data=data)
         for room in (0, 1, due - 1):
-            calls.run(OPEN_REQUEST, ROOM, method=method, data=data, room=room)
-        calls.run(OPEN_REQUEST, 0, method=method, data=data, room=due)
+            calls.run(OPEN_VARIABLE, ROOM, data=data[front_of(method, 0) :], room=room)
+        calls.run(OPEN_VARIABLE, 0, data=data[front_of(method, 0) :], room=due)
         empty = request(method, salt_of(method, 1), text=b"")
-        calls.run(OPEN_REQUEST, MALFORMED, method=method, data=empty, room=0)
+        calls.open_head(MALFORMED, method=method, data=empty, room=0)
         pieces = {None: piece(method, b"\0\5"), 1: piece(method, b"a"), 5: piece(method, b"abcde")}
         for length, sealed in pieces.items():
             calls.begin(new_pool(method), s0=receiver(method, length))
@@ -496,19 +533,14 @@ def room_groups():
 
 REQUEST_FAULTS = {
     SETTINGS: {"lent": 1_536},
-    "cut": {"cut": 42},
+    MORE: {"cut": 42},
     NOT_AUTHENTIC: {"flip": (20, 1)},
     TYPE: {"kind": 1},
     TIME: {"time": 969},
     REPLAY: {"salt": salt_of(1, "kept 255")},
     FULL: {},
-    MORE: {"short": 1},
-    ROOM: {"room": 3},
-    "forged": {"flip": (44, 1)},
-    MALFORMED: {"text": NAME + b"\0\0"},
 }
-ANSWERS = {"cut": MORE, "forged": NOT_AUTHENTIC}
-REQUEST_SAID = ("kind", "time", "salt", "text")
+REQUEST_SAID = ("kind", "time", "salt")
 SAID = ("kind", "time", "bound", "payload")
 
 
@@ -518,13 +550,9 @@ def faulty_request(calls, faults):
     for fault in faults:
         changes = REQUEST_FAULTS[fault] | changes
     said = {name: changes.pop(name) for name in REQUEST_SAID if name in changes}
-    data = request(1, **said)
-    if changes.pop("short", 0) and "cut" not in changes:
-        changes["cut"] = len(data) - 1
     kept = (1, 1_000, REQUEST_FAULTS[REPLAY]["salt"])
     calls.begin(full_pool(1, r255=kept) if FULL in faults else new_pool(1, kept))
-    answer = ANSWERS.get(faults[0], faults[0]) if faults else 0
-    calls.run(OPEN_REQUEST, answer, data=data, **changes)
+    calls.run(OPEN_REQUEST, faults[0] if faults else 0, data=request(1, **said), **changes)
 
 
 RESPONSE_FAULTS = {
@@ -541,10 +569,9 @@ RESPONSE_FAULTS = {
 def order_groups():
     calls = Calls(pool=False)
     order = list(REQUEST_FAULTS)
-    for place in range(len(order) + 1):
-        faulty_request(calls, order[place:])
-    for faults in itertools.combinations(order, 2):
-        faulty_request(calls, faults)
+    for count in range(len(order) + 1):
+        for faults in itertools.combinations(order, count):
+            faulty_request(calls, faults)
     yield "several faults of a request", calls
 
     calls = Calls(pool=False)
@@ -570,9 +597,11 @@ STEP_FAULTS = {
 STATE = ("method", "turn", "counter")
 LENGTH_FAULTS = STEP_FAULTS | {MORE: {"cut": 17}, EMPTY: {}}
 del LENGTH_FAULTS[ROOM]  # a length asks for none
+VARIABLE_FAULTS = STEP_FAULTS | {MORE: {"cut": 23}, ROOM: {"room": 7}, MALFORMED: {}}
+del VARIABLE_FAULTS[COUNTER]  # its counter is 1
 
 
-def step_order_group(name, possible, good, text_with):
+def step_order_group(name, possible, good, text_with, kind=OPEN_CHUNK):
     """Each choice of the possible faults, in a stream that is else the good one."""
     calls = Calls(pool=False)
     for count in range(len(possible) + 1):
@@ -585,9 +614,10 @@ def step_order_group(name, possible, good, text_with):
             words = (state.turn, state.method, state.counter, state.length, *state.subkey)
             calls.begin([0] * STREAMS + list(words))
             answer = (NOT_AUTHENTIC if faults[0] == "ended" else faults[0]) if faults else 0
-            calls.run(OPEN_CHUNK, answer, data=piece(1, text_with(faults)), **changes)
-            if answer in (NOT_AUTHENTIC, EMPTY):
-                calls.run(OPEN_CHUNK, NOT_AUTHENTIC, data=piece(1, text_with(())))
+            sealed, right = (piece(1, text_with(each), good.counter) for each in (faults, ()))
+            calls.run(kind, answer, data=sealed, **changes)
+            if answer in (NOT_AUTHENTIC, MALFORMED, EMPTY):
+                calls.run(kind, NOT_AUTHENTIC, data=right)
     return name, calls
 
 
@@ -600,6 +630,13 @@ def step_order_groups():
         LENGTH_FAULTS,
         receiver(1),
         lambda faults: b"\0\0" if EMPTY in faults else b"\0\1",
+    )
+    yield step_order_group(
+        "several faults of a variable chunk",
+        VARIABLE_FAULTS,
+        between(1, 8),
+        lambda faults: text_of(said=2 if MALFORMED in faults else 0),
+        OPEN_VARIABLE,
     )
 
 
@@ -672,23 +709,40 @@ def kept_groups():
     yield "stored with the clock", calls
 
 
-def refused_group():
-    """A head that is refused stores nothing, so that the good one is taken later."""
+def stored_group():
+    """A front that is refused stores nothing, so that the good one is taken later. The salt of an
+    accepted one stays, whatever the second call answers, and 10 and 3 leave that to be made
+    again."""
     calls = Calls()
     for method in METHODS.values():
         calls.make(method)
         data, front = request(method), front_of(method, 0)
         each = {"method": method, "data": data}
-        calls.run(OPEN_REQUEST, MORE, cut=front, **each)
+        calls.run(OPEN_REQUEST, MORE, cut=front - 1, **each)
         calls.run(OPEN_REQUEST, NOT_AUTHENTIC, flip=(front - 1, 1), **each)
-        calls.run(OPEN_REQUEST, NOT_AUTHENTIC, flip=(front, 1), **each)
-        calls.run(OPEN_REQUEST, ROOM, room=7, **each)
         calls.run(OPEN_REQUEST, TYPE, method=method, data=request(method, kind=1))
         calls.run(OPEN_REQUEST, TIME, clock=1_031, **each)
-        calls.run(OPEN_REQUEST, MALFORMED, method=method, data=request(method, payload=b""))
-        calls.run(OPEN_REQUEST, 0, **each)
+        calls.open_head(**each)
         calls.run(OPEN_REQUEST, REPLAY, **each)
-    return "refused heads store nothing", calls
+        for answer, fault in (
+            (MORE, {"cut": len(data) - 1}),
+            (ROOM, {"room": 7}),
+            (NOT_AUTHENTIC, {"flip": (front, 1)}),
+            (MALFORMED, {"said": 2}),
+        ):
+            said = {name: fault.pop(name) for name in ("said",) if name in fault}
+            bad = request(method, salt_of(method, f"bad {answer}"), **said)
+            calls.open_head(answer, method=method, data=bad, **fault)
+            again = {"method": method, "data": bad}
+            calls.run(OPEN_REQUEST, REPLAY, slot=1, **again)
+            calls.run(OPEN_REQUEST, REPLAY, slot=1, clock=1_030, **again)
+            kept = request(method, salt_of(method, f"bad {answer}"), time=1_060)
+            calls.run(OPEN_REQUEST, REPLAY, slot=1, method=method, data=kept, clock=1_060)
+            good = 0 if answer in (MORE, ROOM) else NOT_AUTHENTIC
+            calls.run(OPEN_VARIABLE, good, data=bad[front:])
+            late = request(method, salt_of(method, f"bad {answer}"), time=1_061)
+            calls.run(OPEN_REQUEST, 0, slot=1, method=method, data=late, clock=1_061)
+    return "salts stored by the first call", calls
 
 
 def full_groups():
@@ -825,11 +879,13 @@ class Host:
         data = self.dice.pick(self.heads[-6:])
         given = self.run(OPEN_REQUEST, slot=2, data=data, **self.damage(data))
         if given.number == 0:
-            self.waiting[2] = b""
+            self.waiting[2] = data[given.count :]
 
     def step(self):
-        data = self.waiting[2]
-        given = self.run(OPEN_CHUNK, slot=2, data=data, **self.damage(data))
+        data, turn = self.waiting[2], self.calls.words[slot_start(2)]
+        kind = OPEN_VARIABLE if turn == VARIABLE_NEXT else OPEN_CHUNK
+        kind = OPEN_VARIABLE + OPEN_CHUNK - kind if self.dice.often(20) else kind
+        given = self.run(kind, slot=2, data=data, **self.damage(data))
         if given.number == 0:
             self.waiting[2] = data[given.count :]
 
@@ -853,7 +909,7 @@ class Host:
     def run(self, kind, **changes):
         if self.dice.often(10):
             self.clock += self.dice.pick((1, 5, 29, 30, 31, 61))
-        if kind != OPEN_RESPONSE and self.dice.often(4):
+        if kind not in NO_OUTPUT and self.dice.often(4):
             changes["room"] = self.dice.below(60)
         return self.calls.run(kind, None, clock=self.clock, **changes)
 
@@ -897,10 +953,12 @@ def longest_request_group():
     said = {"other": V6, "padding": padding, "data": payload}
     room = front_of(2, 0) + MAX_CHUNK + 16
     data = calls.sealed(SEAL_REQUEST, room=room, **said)
-    calls.run(OPEN_REQUEST, MORE, data=data[:-1])
-    calls.run(OPEN_REQUEST, ROOM, data=data, room=MAX_CHUNK - 1)
-    calls.run(OPEN_REQUEST, 0, data=data, room=BUFFER_LIMIT)
-    calls.run(OPEN_REQUEST, REPLAY, data=data)
+    front = front_of(2, 0)
+    calls.run(OPEN_REQUEST, 0, data=data[:front])
+    calls.run(OPEN_VARIABLE, MORE, data=data[front:-1])
+    calls.run(OPEN_VARIABLE, ROOM, data=data[front:], room=MAX_CHUNK - 1)
+    calls.run(OPEN_VARIABLE, 0, data=data[front:], room=BUFFER_LIMIT)
+    calls.run(OPEN_REQUEST, REPLAY, data=data[:front])
     return "256, longest request", calls
 
 
@@ -908,7 +966,7 @@ def longest_malformed_group():
     """Its last byte of padding is not there; all of it is cleared."""
     calls = Calls(1)
     text = NAME + u16(901) + pattern(MAX_CHUNK)[7:]
-    calls.run(OPEN_REQUEST, MALFORMED, data=request(1, text=text), room=BUFFER_LIMIT)
+    calls.open_head(MALFORMED, data=request(1, text=text), room=BUFFER_LIMIT)
     return "128, longest malformed request", calls
 
 
@@ -941,6 +999,7 @@ def make_groups():
         *counter_groups(),
         state_group(),
         ended_group(),
+        turn_group(),
         *forged_chunk_groups(),
         *settings_groups(),
         *argument_groups(),
@@ -950,7 +1009,7 @@ def make_groups():
         *step_order_groups(),
         sealing_order_group(),
         *kept_groups(),
-        refused_group(),
+        stored_group(),
         *odd_groups(),
         *random_groups(),
         making_group(),

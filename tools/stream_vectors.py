@@ -8,7 +8,7 @@ sys.dont_write_bytecode = True  # no __pycache__ in the tree
 import vectors  # noqa: E402
 import stream_cases  # noqa: E402
 import streams  # noqa: E402
-from stream_calls import FILL, OPEN_REQUEST, OPEN_RESPONSE, SEALING  # noqa: E402
+from stream_calls import FILL, NO_OUTPUT, OPEN_VARIABLE, SEALING  # noqa: E402
 from stream_calls import Making, Run, Words, flipped, slot_start  # noqa: E402
 from vectors import Case  # noqa: E402
 
@@ -16,18 +16,17 @@ WANTED = 10  # the refusal that tells how many bytes are wanted
 
 
 def values_of(kind, answer):
-    """The values of an answer; a head's time stands in the last one."""
+    """The values of an answer."""
     said = answer.said
     if answer.number:
         return (answer.count,) if answer.number == WANTED else ()
     if kind in SEALING:
         return (answer.count,)
-    if kind == OPEN_REQUEST:
+    if kind == OPEN_VARIABLE:
         target = (*said.target, 0)[:3]
-        numbers = said.port, said.padding, said.payload, answer.count, said.length, said.time
-        return (*target, *numbers)
-    if kind == OPEN_RESPONSE:
-        return (answer.count, said.length, 0, 0, 0, 0, 0, 0, said.time)
+        return (*target, said.port, said.padding, said.payload, answer.count, said.length)
+    if kind in NO_OUTPUT:
+        return (answer.count, said.length, said.time)
     return (answer.count, said.length)
 
 

@@ -27,7 +27,10 @@ static const struct {
                       B(KEY) | B(SALT) | B(ADDRESS) | B(PAYLOAD) | B(OUT) | B(STREAM) | B(ANSWER),
                       SETTINGS_ONLY | N(2) | N(3) | N(12)},
     [OPEN_REQUEST] = {"relay_stream_open_request",
-                      B(KEY) | B(INPUT) | B(POOL) | B(OUT) | B(STREAM) | B(ANSWER), 0x7ff & ~N(2)},
+                      B(KEY) | B(INPUT) | B(POOL) | B(STREAM) | B(ANSWER),
+                      SETTINGS_ONLY | N(4) | N(6) | N(7) | N(8) | N(9) | N(10)},
+    [OPEN_VARIABLE] = {"relay_stream_open_variable", B(STREAM) | B(INPUT) | B(OUT) | B(ANSWER),
+                       SETTINGS_ONLY | N(3) | N(4) | N(5) | N(10)},
     [SEAL_RESPONSE] = {"relay_stream_seal_response",
                        B(KEY) | B(SALT) | B(REQUEST_SALT) | B(PAYLOAD) | B(OUT) | B(STREAM) |
                            B(ANSWER),
@@ -76,8 +79,8 @@ static enum lend_use use_of(enum function function, enum buffer buffer)
         return LEND_READ;
     if (buffer == OUT || buffer == ANSWER || buffer == PLAN || function <= BEGIN_SERVER)
         return LEND_WRITE;
-    int chunk = function == SEAL_CHUNK || function == OPEN_CHUNK;
-    return buffer == STREAM && !chunk ? LEND_WRITE : LEND_CHANGE;
+    int begun = function == SEAL_CHUNK || function == OPEN_CHUNK || function == OPEN_VARIABLE;
+    return buffer == STREAM && !begun ? LEND_WRITE : LEND_CHANGE;
 }
 
 /* A buffer as two arguments. */
@@ -120,7 +123,9 @@ static uint64_t call_streams(const struct call *c, const struct left *left)
                                          WORDS(STREAM), WORDS(ANSWER));
     case OPEN_REQUEST:
         return relay_stream_open_request(c->method, BYTES(KEY), c->clock, BYTES(INPUT), WORDS(POOL),
-                                         BYTES(OUT), WORDS(STREAM), WORDS(ANSWER));
+                                         WORDS(STREAM), WORDS(ANSWER));
+    case OPEN_VARIABLE:
+        return relay_stream_open_variable(WORDS(STREAM), BYTES(INPUT), BYTES(OUT), WORDS(ANSWER));
     case SEAL_RESPONSE:
         return relay_stream_seal_response(c->method, BYTES(KEY), BYTES(SALT), BYTES(REQUEST_SALT),
                                           c->clock, BYTES(PAYLOAD), BYTES(OUT), WORDS(STREAM),

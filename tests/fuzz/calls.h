@@ -20,6 +20,7 @@ enum function {
     OPEN_CLIENT,
     SEAL_REQUEST,
     OPEN_REQUEST,
+    OPEN_VARIABLE,
     SEAL_RESPONSE,
     OPEN_RESPONSE,
     SEAL_CHUNK,

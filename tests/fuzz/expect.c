@@ -94,6 +94,9 @@ static int lawful_turn(const struct call *c)
         return 0;
     if (c->function == SEAL_CHUNK)
         return w[0] == RELAY_TURN_SEALING || w[0] == RELAY_TURN_ENDED;
+    if (c->function == OPEN_VARIABLE)
+        return w[0] == RELAY_TURN_ENDED ||
+               (w[0] == RELAY_TURN_VARIABLE && w[2] == 1 && w[3] <= RELAY_MAX_CHUNK);
     return w[0] <= RELAY_TURN_LENGTH ||
            (w[0] == RELAY_TURN_PAYLOAD && w[3] > 0 && w[3] <= RELAY_MAX_CHUNK);
 }
@@ -107,7 +110,7 @@ static int lawful(const struct call *c)
         return c->retention == 0 || lawful_retention(c->retention);
     if (c->function == POOL_NEW)
         return key_length(c->method) != 0;
-    if (c->function == SEAL_CHUNK || c->function == OPEN_CHUNK)
+    if (c->function == SEAL_CHUNK || c->function == OPEN_CHUNK || c->function == OPEN_VARIABLE)
         return lawful_turn(c);
     return 1;
 }
@@ -473,6 +476,15 @@ static uint64_t expect_fixed(const struct call *c, struct expectation *e, size_t
     return RELAY_OK;
 }
 
+/* What the front of a head says. */
+static void set_front(struct expectation *e, size_t used, uint64_t length, uint64_t time)
+{
+    e->words[RELAY_AT_USED] = used;
+    e->words[RELAY_AT_CHUNK_LENGTH] = length;
+    e->words[RELAY_AT_HEAD_TIME] = time;
+    e->words_len = 3;
+}
+
 /* Refusals 8 and 9, and where the salt is stored. */
 static uint64_t expect_stored(const struct call *c, struct expectation *e)
 {
@@ -493,7 +505,7 @@ static uint64_t expect_stored(const struct call *c, struct expectation *e)
 }
 
 /* Refusal 5 of a variable header, and what it says. */
-static uint64_t expect_variable(struct expectation *e, size_t used)
+static uint64_t expect_header_text(struct expectation *e, size_t used)
 {
     size_t address = address_length(opened, e->due);
     if (address == 0 || e->due - address < 2)
@@ -509,7 +521,6 @@ static uint64_t expect_variable(struct expectation *e, size_t used)
     e->words[RELAY_AT_HEAD_LENGTH] = e->due;
     e->words_len = 8;
     e->text = opened;
-    e->record_len = SALT_WORDS;
     return RELAY_OK;
 }
 
@@ -519,21 +530,34 @@ static uint64_t expect_request(const struct call *c, struct expectation *e)
     uint64_t number = expect_fixed(c, e, 11, 0, subkey), words[4];
     if (number != RELAY_OK)
         return number;
-    size_t salt = key_length(c->method), fixed = salt + 11 + TAG_LEN;
-    size_t length = (size_t)get_number(opened + 9, 2);
+    uint64_t time = get_number(opened + 1, 8), length = get_number(opened + 9, 2);
     number = expect_stored(c, e);
     if (number != RELAY_OK)
         return number;
-    if (len_of(c, INPUT) < fixed + length + TAG_LEN)
-        return wants(e, fixed + length + TAG_LEN);
-    if (len_of(c, OUT) < length)
-        return RELAY_REFUSED_ROOM;
-    if (!piece_opens(subkey, salt, 1, bytes_of(c, INPUT) + fixed, length + TAG_LEN))
-        return RELAY_REFUSED_NOT_AUTHENTIC;
-    e->due = length;
     subkey_words(c, bytes_of(c, INPUT), words);
-    set_state(e, RELAY_TURN_LENGTH, c->method, 2, 0, words);
-    return expect_variable(e, fixed + length + TAG_LEN);
+    set_state(e, RELAY_TURN_VARIABLE, c->method, 1, length, words);
+    set_front(e, key_length(c->method) + 11 + TAG_LEN, length, time);
+    e->record_len = SALT_WORDS;
+    return RELAY_OK;
+}
+
+static uint64_t expect_variable(const struct call *c, struct expectation *e)
+{
+    const uint64_t *w = words_of(c, STREAM);
+    size_t len = (size_t)w[3];
+    uint8_t subkey[32];
+    if (w[0] == RELAY_TURN_ENDED)
+        return RELAY_REFUSED_NOT_AUTHENTIC;
+    if (len_of(c, INPUT) < len + TAG_LEN)
+        return wants(e, len + TAG_LEN);
+    if (len_of(c, OUT) < len)
+        return RELAY_REFUSED_ROOM;
+    stream_subkey(w, subkey);
+    if (!piece_opens(subkey, key_length(w[1]), 1, bytes_of(c, INPUT), len + TAG_LEN))
+        return RELAY_REFUSED_NOT_AUTHENTIC;
+    e->due = len;
+    set_state(e, RELAY_TURN_LENGTH, w[1], 2, 0, w + 4);
+    return expect_header_text(e, len + TAG_LEN);
 }
 
 static uint64_t expect_response(const struct call *c, struct expectation *e)
@@ -550,9 +574,7 @@ static uint64_t expect_response(const struct call *c, struct expectation *e)
         return RELAY_REFUSED_EMPTY;
     subkey_words(c, bytes_of(c, INPUT), words);
     set_state(e, RELAY_TURN_PAYLOAD, c->method, 1, length, words);
-    e->words[RELAY_AT_USED] = salt + fixed + TAG_LEN;
-    e->words[RELAY_AT_CHUNK_LENGTH] = length;
-    e->words_len = 2;
+    set_front(e, salt + fixed + TAG_LEN, length, get_number(opened + 1, 8));
     return RELAY_OK;
 }
 
@@ -596,8 +618,8 @@ struct expectation expect(const struct call *call)
         [OPEN_CLIENT] = expect_opened,      [SEAL_REQUEST] = expect_sealed_request,
         [OPEN_REQUEST] = expect_request,    [SEAL_RESPONSE] = expect_sealed_response,
         [OPEN_RESPONSE] = expect_response,  [SEAL_CHUNK] = expect_sealed_chunk,
-        [OPEN_CHUNK] = expect_opened_chunk, [PLAN_MAKE] = expect_plan,
-        [PLAN_CHECK] = expect_plan,
+        [OPEN_CHUNK] = expect_opened_chunk, [OPEN_VARIABLE] = expect_variable,
+        [PLAN_MAKE] = expect_plan,          [PLAN_CHECK] = expect_plan,
     };
     struct expectation e = {0};
     if (!lawful(call))

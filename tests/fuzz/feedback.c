@@ -43,7 +43,7 @@ void feedback(const struct call *call, const struct left *left)
     if (takes(f, INPUT))
         feature(INPUT_LENGTHS, left->number * 4 + magnitude(call->buffers[INPUT].len) / 5);
     if (takes(f, STREAM) && call->buffers[STREAM].len > 0)
-        feature(TURNS, left->number * 4 + ((const uint64_t *)call->buffers[STREAM].data)[0] % 4);
+        feature(TURNS, left->number * 5 + ((const uint64_t *)call->buffers[STREAM].data)[0] % 5);
     if (left->number != RELAY_OK)
         return;
     if (f == OPEN_SERVER || f == OPEN_CLIENT) {

@@ -1,6 +1,6 @@
 /*
- * Steps that open. A datagram or a request that was accepted is a replay when
- * it comes again at the same clock.
+ * Steps that open. A datagram or a request's front that was accepted is a
+ * replay when it comes again at the same clock.
  */
 #include "cipher.h"
 #include "promises.h"
@@ -33,15 +33,29 @@ void open_request(const struct step *step)
 {
     struct message *line = line_of(step);
     struct call call = new_call(step);
-    size_t around = key_length(host.method) + 27 + TAG_LEN;
     lend_to(&call, INPUT, line->bytes, line->len);
-    give_room(&call, step, line->len < around ? 0 : line->len - around);
     spoil(&call, step);
     struct left left = run(&call);
     if (left.number != RELAY_OK)
         return;
-    line->read = (size_t)answer_of(&left, RELAY_AT_HEAD_USED);
+    line->read = (size_t)answer_of(&left, RELAY_AT_USED);
+    static uint64_t another[RELAY_STREAM_WORDS]; /* the stream is to stay for its variable header */
+    lend_to(&call, STREAM, another, RELAY_STREAM_WORDS);
     must_be_replay(&call);
+}
+
+void open_variable(const struct step *step)
+{
+    struct message *line = line_of(step);
+    struct call call = new_call(step);
+    const uint64_t *stream = call.buffers[STREAM].data;
+    lend_to(&call, INPUT, line->bytes + line->read, line->len - line->read);
+    give_room(&call, step,
+              stream[RELAY_STREAM_TURN] == RELAY_TURN_VARIABLE ? stream[3] & 0x1ffff : 0);
+    spoil(&call, step);
+    struct left left = run(&call);
+    if (left.number == RELAY_OK)
+        line->read += (size_t)answer_of(&left, RELAY_AT_HEAD_USED);
 }
 
 void open_response(const struct step *step)

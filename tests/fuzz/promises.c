@@ -70,9 +70,10 @@ static void check_state(const struct call *call, const struct left *left, enum b
 {
     const struct lent *state = &left->lent[b];
     size_t written = e->state_len * sizeof(uint64_t);
-    int ends = e->number == RELAY_REFUSED_NOT_AUTHENTIC || e->number == RELAY_REFUSED_EMPTY;
-    if (call->function == OPEN_CHUNK && ends) {
-        promise(zero(state->ours, sizeof(uint64_t)), "refusal 4 or 14 did not end the stream");
+    int ends = e->number == RELAY_REFUSED_NOT_AUTHENTIC || e->number == RELAY_REFUSED_MALFORMED ||
+               e->number == RELAY_REFUSED_EMPTY;
+    if ((call->function == OPEN_CHUNK || call->function == OPEN_VARIABLE) && ends) {
+        promise(zero(state->ours, sizeof(uint64_t)), "refusal 4, 5 or 14 did not end the stream");
         written = sizeof(uint64_t);
     } else if (e->number != RELAY_OK) {
         written = 0;
@@ -141,9 +142,10 @@ static void check_buffers(const struct call *call, const struct left *left)
 /* How many bytes of the input a call may read: an accepted one no more than it uses. */
 static size_t readable(const struct call *call, const struct expectation *e)
 {
-    if (e->number == RELAY_OK && call->function == OPEN_REQUEST)
+    if (e->number == RELAY_OK && call->function == OPEN_VARIABLE)
         return (size_t)e->words[RELAY_AT_HEAD_USED];
-    if (e->number == RELAY_OK && (call->function == OPEN_RESPONSE || call->function == OPEN_CHUNK))
+    if (e->number == RELAY_OK && (call->function == OPEN_REQUEST ||
+                                  call->function == OPEN_RESPONSE || call->function == OPEN_CHUNK))
         return (size_t)e->words[RELAY_AT_USED];
     return call->buffers[INPUT].len;
 }

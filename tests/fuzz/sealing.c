@@ -62,6 +62,10 @@ static void request_back(const struct call *sealing, const struct message *line)
     call.function = OPEN_REQUEST;
     lend_to(&call, STREAM, stream, RELAY_STREAM_WORDS);
     lend_to(&call, INPUT, line->bytes, line->len);
+    struct left left = must_run(&call, RELAY_OK, "a request that was sealed does not open");
+    size_t used = (size_t)answer_of(&left, RELAY_AT_USED);
+    call.function = OPEN_VARIABLE;
+    lend_to(&call, INPUT, line->bytes + used, line->len - used);
     must_open(&call, payload_of(sealing), RELAY_AT_HEAD_PAYLOAD);
 }
 

@@ -90,6 +90,7 @@ def settings():
     yield begun() + faulty("SEAL_REQUEST", "KEY", "SALT", "STREAM", "ANSWER", place=1)
     head = step("SEAL_REQUEST", place=1, length=4)
     yield [*begun(), head, *faulty("OPEN_REQUEST", "KEY", "POOL", "STREAM", "ANSWER")]
+    yield [*begun(), head, step("OPEN_REQUEST"), *faulty("OPEN_VARIABLE", "STREAM", "ANSWER")]
     yield begun() + faulty("SEAL_RESPONSE", "KEY", "SALT", "REQUEST_SALT", "STREAM", "ANSWER")
     yield [
         step("SEAL_RESPONSE"),
@@ -229,7 +230,8 @@ def requests():
             step("SEAL_REQUEST", who=16 * address, length=5, place=3),
             step("SEAL_CHUNK", length=7),
             step("SEAL_CHUNK", how=ONE_MORE, length=0),
-            step("OPEN_REQUEST", who=1, how=ONE_MORE),
+            step("OPEN_REQUEST", who=1),
+            step("OPEN_VARIABLE", who=1, how=ONE_MORE),
             *[step("OPEN_CHUNK", who=1, how=MUCH_MORE)] * 5,
         ]
     yield begun() + [
@@ -243,9 +245,8 @@ def requests():
 def refused_requests():
     yield begun() + [
         step("SEAL_REQUEST", length=5),
-        *(step("OPEN_REQUEST", fault("INPUT", AT_LENGTH), length=n) for n in (0, 42, 43, 59, 60)),
-        *(step("OPEN_REQUEST", fault("INPUT", FLIPPED), place=place) for place in (0, 20, 71)),
-        step("OPEN_REQUEST", how=NO_ROOM),
+        *(step("OPEN_REQUEST", fault("INPUT", AT_LENGTH), length=n) for n in (0, 42)),
+        *(step("OPEN_REQUEST", fault("INPUT", FLIPPED), place=place) for place in (0, 20)),
         step("CLOCK", value=BEFORE | 31),
         step("OPEN_REQUEST"),
         step("CLOCK", value=AFTER | 31),
@@ -255,14 +256,55 @@ def refused_requests():
         step("POOL_NEW"),
         step("OPEN_REQUEST"),
     ]
+    both = [step("OPEN_REQUEST"), step("OPEN_VARIABLE")]
     steps = [step("PATCH", who=1, place=0x8000, value=1), step("CRAFT_HEAD", length=1)]
     for value, cut in enumerate((0, 6, 8, 10)):  # odd ones would be responses
-        steps.append(step("OPEN_REQUEST"))
+        steps += both
         steps.append(step("CRAFT_HEAD", how=CUT | cut, length=5, value=value))
-    steps.append(step("OPEN_REQUEST"))
+    steps += both
     steps.append(step("PATCH", who=2, place=7, value=0x8503))
     steps.append(step("CRAFT_HEAD", length=1_000))
-    yield [*begun(), *steps, step("OPEN_REQUEST")]
+    yield [*begun(), *steps, *both]
+
+
+def variable_headers():
+    """The second call: short of bytes and of room, at other turns, forged, and behind its end."""
+    yield begun() + [
+        step("SEAL_REQUEST", length=5),
+        step("OPEN_VARIABLE"),
+        step("OPEN_REQUEST"),
+        step("OPEN_CHUNK"),
+        *(step("OPEN_VARIABLE", fault("INPUT", AT_LENGTH), length=n) for n in (0, 15, 16)),
+        step("OPEN_VARIABLE", how=NO_ROOM),
+        step("SET_WORD", who=12, place=2, value=2),
+        step("OPEN_VARIABLE"),
+        step("SET_WORD", who=12, place=2, value=1),
+        step("OPEN_VARIABLE", how=ONE_MORE),
+        step("OPEN_VARIABLE"),
+    ]
+    for place in (0, 20):
+        yield begun() + [
+            step("SEAL_REQUEST", length=5),
+            step("OPEN_REQUEST"),
+            step("OPEN_VARIABLE", fault("INPUT", FLIPPED), place=place),
+            step("OPEN_VARIABLE"),
+            step("OPEN_CHUNK"),
+            step("OPEN_REQUEST"),
+        ]
+    yield begun() + [
+        step("SET_WORD", who=12, place=0, value=4),
+        step("SET_WORD", who=12, place=1, value=1),
+        step("SET_WORD", who=12, place=2, value=1),
+        *(
+            each
+            for length in (65_535, 65_536)
+            for each in (
+                step("SET_WORD", who=12, place=3, value=length),
+                step("OPEN_VARIABLE"),
+                step("OPEN_CHUNK"),
+            )
+        ),
+    ]
 
 
 def responses():
@@ -275,10 +317,10 @@ def responses():
         *[step("OPEN_CHUNK", who=1)] * 4,
         step("ANY_BYTES", how=1, length=40, place=3),
         *[step("OPEN_CHUNK", who=1)] * 2,
-        step("SEAL_CHUNK", who=1),
+        step("SEAL_CHUNK", who=1, length=1),
         step("SET_WORD", who=13, place=1, value=3),
         step("OPEN_CHUNK", who=1),
-        step("SEAL_CHUNK", who=1),
+        step("SEAL_CHUNK", who=1, length=1),
     ]
     yield [
         step("SEAL_RESPONSE", length=5),
@@ -289,7 +331,7 @@ def responses():
         step("PATCH", who=1, place=0x8000, value=0),
         step("CRAFT_HEAD", how=1),
         step("OPEN_RESPONSE"),
-        step("SEAL_RESPONSE", how=ONE_SHORT),
+        step("SEAL_RESPONSE", how=ONE_SHORT, length=1),
         *(step("SEAL_RESPONSE", length=0xFFFF - less) for less in (64, 65)),
     ]
     for length_at in (25, 41):  # by method: a first payload of 0 bytes
@@ -303,8 +345,8 @@ def responses():
 
 def chunks():
     yield [
-        step("SEAL_RESPONSE"),
-        step("SEAL_CHUNK", how=ONE_SHORT),
+        step("SEAL_RESPONSE", length=1),
+        step("SEAL_CHUNK", how=ONE_SHORT, length=3),
         *(step("SEAL_CHUNK", length=0xFFFF - less) for less in (64, 65)),
         *(
             each
@@ -393,6 +435,7 @@ GROUPS = (
     replies,
     requests,
     refused_requests,
+    variable_headers,
     responses,
     chunks,
 )

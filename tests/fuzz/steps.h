@@ -13,6 +13,7 @@ void seal_chunk(const struct step *step);
 /* opening.c */
 void open_datagram(const struct step *step);
 void open_request(const struct step *step);
+void open_variable(const struct step *step);
 void open_response(const struct step *step);
 void open_chunk(const struct step *step);
 

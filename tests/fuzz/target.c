@@ -25,6 +25,7 @@ static void (*const does[STEP_CODES])(const struct step *) = {
     [OPEN_CLIENT] = open_datagram,
     [SEAL_REQUEST] = seal_head,
     [OPEN_REQUEST] = open_request,
+    [OPEN_VARIABLE] = open_variable,
     [SEAL_RESPONSE] = seal_head,
     [OPEN_RESPONSE] = open_response,
     [SEAL_CHUNK] = seal_chunk,

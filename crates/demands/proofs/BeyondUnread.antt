@@ -10,20 +10,24 @@ use Rattle.octets.specs.Buffers.{put}
 use Rattle.octets.specs.Numbers.{be}
 use Rattle.protocol.specs.Subkey.{subkey}
 use Rattle.protocol.specs.Method.{saltLength}
-use Rattle.salt_pool.specs.Pool.{meet, store}
+use Rattle.salt_pool.specs.Pool.{store}
+use Rattle.salt_pool.specs.Runs.{Unkept}
 use Rattle.stream_pieces.specs.Pieces.{authenticAt, openAt, subkeyWords}
 use Rattle.stream_open.specs.declared.Turn.{Turn}
-use Rattle.stream_open.specs.declared.Turn.the-variants.{Length, Payload, Ended}
+use Rattle.stream_open.specs.declared.Turn.the-variants.{Variable, Length, Payload, Ended}
 use Rattle.stream_open.specs.declared.Receiver.{Receiver}
 use Rattle.stream_open.specs.declared.Chunk.{Chunk}
 use Rattle.stream_open_request.specs.declared.Request.{Request}
+use Rattle.stream_open_variable.specs.declared.VariableHeader.{VariableHeader}
 use Rattle.stream_open_response.specs.declared.Response.{Response}
 use Rattle.stream_heads.specs.Heads.{frontLength, fixedOf}
 use Rattle.stream_open_response.specs.Responses.{bindingOf}
 use Rattle.stream_open.specs.Chunks.{receiver, streamKey}
 use Rattle.demands.specs.StreamsKeep.{saltOf}
-use Rattle.demands.specs.StreamsOpen.{FixedOpens, ValidVariable, variableAt, RequestOpens, ResponseOpens, PieceOpens, TurnOpens, turnText, Begins, BeyondUnread}
-use Rattle.demands.proofs.HeadTells.{request-exactly-when, response-exactly-when}
+use Rattle.demands.specs.StreamsOpen.{FixedOpens, RequestOpens, ValidVariable, variableAt, VariableOpens, ResponseOpens, PieceOpens, TurnOpens, turnText, Begins, BeyondUnread}
+use Rattle.demands.proofs.RequestTells.{request-exactly-when}
+use Rattle.demands.proofs.VariableTells.{variable-exactly-when}
+use Rattle.demands.proofs.HeadTells.{response-exactly-when}
 use Rattle.demands.proofs.StreamTells.{step-exactly-when}
 
 -- ---- a part within the first n bytes
@@ -61,12 +65,9 @@ module _ (method : ℕ) (key : List ℕ) (clock : ℕ) (s t : List ℕ) where
       subst (λ (k : List ℕ). FixedOpens k kind clock (fixedOf (saltLength method) b t) time size) (key-kept es)
       (subst (λ (f : List ℕ). FixedOpens (subkey key (saltOf method s)) kind clock f time size) (sym ef) d)
 
-  module _ (pool out : List ℕ) (h : Request) (st : Receiver) (d : RequestOpens method key clock s pool (length out) h st) (e : Begins (h .used) s t) where
-    abbrev size : ℕ
-    size = d .head .size
-
-    used : h .used ≡ frontLength (saltLength method) 0 + size + 16
-    used = ap (λ (x : Request). x .used) (d .head .variable-valid .says)
+  module _ (pool : List ℕ) (h : Request) (st : Receiver) (d : RequestOpens method key clock s pool h st) (e : Begins (h .used) s t) where
+    used : h .used ≡ frontLength (saltLength method) 0
+    used = ap (λ (x : Request). x .used) (d .says)
 
     salt-kept : saltOf method t ≡ saltOf method s
     salt-kept = beginning (h .used) s t e (saltLength method) (omega (arith, used))
@@ -74,35 +75,22 @@ module _ (method : ℕ) (key : List ℕ) (clock : ℕ) (s t : List ℕ) where
     front-kept : fixedOf (saltLength method) 0 t ≡ fixedOf (saltLength method) 0 s
     front-kept = part (h .used) s t e (saltLength method) (27 + 0) (omega (arith, used))
 
-    variable-kept : variableAt (saltLength method) size t ≡ variableAt (saltLength method) size s
-    variable-kept = part (h .used) s t e (frontLength (saltLength method) 0) (size + 16) (omega (arith, used))
-
     whole : h .used ≤ length t
-    whole = long (h .used) s t e (omega (arith, used, d .head .whole))
+    whole = long (h .used) s t e (omega (arith, used, d .front-whole))
 
-    text-kept : openAt (subkey key (saltOf method t)) 1 (variableAt (saltLength method) size t)
-        ≡ openAt (subkey key (saltOf method s)) 1 (variableAt (saltLength method) size s)
-    text-kept = λ i. openAt (subkey key (salt-kept i)) 1 (variable-kept i)
-
-    request-kept : RequestOpens method key clock t pool (length out) h st
+    request-kept : RequestOpens method key clock t pool h st
     request-kept =
         record {
+          lawful-settings = d .lawful-settings;
           front-whole = omega (arith, used, whole);
-          head =
-              record {
-                time = d .head .time;
-                size = size;
-                fixed-opens = fixed-kept 0 0 (d .head .time) size salt-kept front-kept (d .head .fixed-opens);
-                place = d .head .place;
-                new-salt = ap (meet pool clock) salt-kept ∙ d .head .new-salt;
-                whole = omega (arith, used, whole);
-                has-room = d .head .has-room;
-                authentic = (λ i. authenticAt (subkey key (salt-kept i)) 1 (variable-kept i)) ∙ d .head .authentic;
-                variable-valid =
-                    subst (λ (x : List ℕ). ValidVariable (d .head .time) size (frontLength (saltLength method) 0 + size + 16) x h) (sym text-kept)
-                    (d .head .variable-valid);
-              };
-          stream = d .stream ∙ ap (λ (x : List ℕ). receiver method Length 2 (subkeyWords (subkey key x))) (sym salt-kept);
+          time = d .time;
+          size = d .size;
+          fixed-opens = fixed-kept 0 0 (d .time) (d .size) salt-kept front-kept (d .fixed-opens);
+          place = d .place;
+          new-salt = subst (Unkept pool clock) (sym salt-kept) (d .new-salt);
+          free-place = d .free-place;
+          says = d .says;
+          stream = d .stream ∙ ap (λ (x : List ℕ). receiver method (Variable (d .size)) 1 (subkeyWords (subkey key x))) (sym salt-kept);
         }
 
   module _ (requestSalt : List ℕ) (h : Response) (st : Receiver) (d : ResponseOpens method key clock requestSalt s h st) (e : Begins (h .used) s t) where
@@ -132,6 +120,25 @@ module _ (method : ℕ) (key : List ℕ) (clock : ℕ) (s t : List ℕ) where
               d .stream ∙ ap (λ (x : List ℕ). receiver method (Payload (d .size)) 1 (subkeyWords (subkey key x))) (sym response-salt);
         }
 
+-- ---- a variable header
+
+module _ (st : Receiver) (s t : List ℕ) (room : ℕ) (h : VariableHeader) (d : VariableOpens st s room h) (e : Begins (h .used) s t) where
+  piece-same : variableAt (d .size) t ≡ variableAt (d .size) s
+  piece-same = subst (λ (n : ℕ). Begins n s t) (ap (λ (x : VariableHeader). x .used) (d .valid .says)) e
+
+  variable-kept : VariableOpens st t room h
+  variable-kept =
+      record {
+        known = d .known;
+        size = d .size;
+        at-turn = d .at-turn;
+        counts = d .counts;
+        whole = long (d .size + 16) s t piece-same (d .whole);
+        has-room = d .has-room;
+        authentic = ap (authenticAt (streamKey st) 1) piece-same ∙ d .authentic;
+        valid = subst (λ (x : List ℕ). ValidVariable (d .size) (openAt (streamKey st) 1 x) h) (sym piece-same) (d .valid);
+      }
+
 -- ---- steps
 
 module _ (key : List ℕ) (counter m : ℕ) (s t : List ℕ) (e : Begins (m + 16) s t) where
@@ -156,23 +163,29 @@ turn-kept key counter (Payload n) s t out c d e =
     let u : Begins (n + 16) s t = subst (λ (k : ℕ). Begins k s t) (ap (λ (x : Chunk). x .used) (d .1 .1)) e in
     ((piece-kept key counter n s t u n (length out) (d .0), d .1), ap (λ (x : List ℕ). put out 0 (openAt key counter x)) u)
 turn-kept key counter Ended s t out c d e = absurd d
+turn-kept key counter (Variable n) s t out c d e = absurd d
 
 -- ---- the whole
 
 pub beyond-unread : BeyondUnread
-unfolding request-kept
+unfolding request-kept variable-kept
 beyond-unread =
     record {
-      requests = λ method key clock s t pool out h st lawful a e.
-          let x = request-exactly-when method key clock s pool out lawful h st in
-          let y = request-exactly-when method key clock t pool out lawful h st in
+      requests = λ method key clock s t pool h st a e.
+          let x = request-exactly-when method key clock s pool h st in
+          let y = request-exactly-when method key clock t pool h st in
           let d = x .only-when a in
-          let k = request-kept method key clock s t pool out h st d e in (
+          let k = request-kept method key clock s t pool h st d e in (
             y .always-when k,
-            (
-              y .opened-text k ∙ ap (put out 0) (text-kept method key clock s t pool out h st d e) ∙ sym (x .opened-text d),
-              y .salt-stored k ∙ ap (store pool (d .head .place) clock) (salt-kept method key clock s t pool out h st d e) ∙ sym (x .salt-stored d),
-            ),
+            y .salt-stored k ∙ ap (store pool (d .place) clock) (salt-kept method key clock s t pool h st d e) ∙ sym (x .salt-stored d),
+          );
+      variable-headers = λ st s t out h a e.
+          let x = variable-exactly-when st s out h in
+          let y = variable-exactly-when st t out h in
+          let d = x .only-when a in
+          let k = variable-kept st s t (length out) h d e in (
+            y .always-when k,
+            y .opened-text k ∙ ap (λ (p : List ℕ). put out 0 (openAt (streamKey st) 1 p)) (piece-same st s t (length out) h d e) ∙ sym (x .opened-text d),
           );
       responses = λ method key clock requestSalt s t h st fits size a e.
           let x = response-exactly-when method key clock requestSalt s fits size h st in

@@ -7,8 +7,10 @@ pub mod RequestReadBack
 pub mod ResponseReadBack
 pub mod StreamTells
 pub mod HeadTells
+pub mod RequestTells
+pub mod VariableTells
 pub mod WholeStreams
-pub mod SaltsOnce
+pub mod SaltsStay
 pub mod StreamDemands
 pub mod BeyondUnread
 pub mod OrderLaws

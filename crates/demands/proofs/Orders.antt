@@ -17,7 +17,7 @@ use Rattle.session_table.specs.Table.{Record, recordAt, lawful, freshIn, accept
 use Rattle.session_book.specs.Call.{Call, Outcome}
 use Rattle.session_book.specs.Runs.{report, tableOutcomeBy}
 use Rattle.protocol.specs.declared.Refusal.{Refusal}
-use Rattle.protocol.specs.declared.Refusal.the-variants.{Length as Long, Room as Narrow, NotAuthentic, WrongType, WrongTime}
+use Rattle.protocol.specs.declared.Refusal.the-variants.{Length as Long, Room as Narrow, NotAuthentic, WrongType, WrongTime, Replay, Full}
 use Rattle.protocol.specs.Method.{keyFits, keyLength, saltLength}
 use Rattle.protocol.specs.Subkey.{subkey}
 use Rattle.protocol.specs.Time.{timeValid}
@@ -44,7 +44,7 @@ use Rattle.stream_pieces.specs.Pieces.{authenticAt, openAt, subkeyWords, maxChu
 use Rattle.stream_seal.specs.Sealing.{moved, sizeAnswer, chunkAnswer}
 use Rattle.stream_seal_heads.specs.HeadSealing.{variableLength, begun, sizesFit, paddingLawful, requestAnswer, responseAnswer}
 use Rattle.stream_open.specs.declared.Turn.{Turn}
-use Rattle.stream_open.specs.declared.Turn.the-variants.{Length, Payload, Ended}
+use Rattle.stream_open.specs.declared.Turn.the-variants.{Variable, Length, Payload, Ended}
 use Rattle.stream_open.specs.declared.Receiver.{Receiver}
 use Rattle.stream_open.specs.declared.Chunk.{Chunk}
 use Rattle.stream_open.specs.declared.Stepped.{Stepped}
@@ -56,11 +56,12 @@ use Rattle.stream_open_response.specs.declared.Response.{Response}
 use Rattle.stream_heads.specs.Heads.{frontLength, fieldsOf, readFixed, openFixed}
 use Rattle.stream_open_response.specs.Responses.{boundAs, boundOf, responseAt, openedResponse}
 use Rattle.stream_open_request.specs.declared.Request.{Request}
-use Rattle.stream_open_request.specs.declared.RequestRead.{RequestRead}
-use Rattle.stream_open_request.specs.Requests.{paddingAt, paddingFits, headerWith as requestHeaderWith, readVariable, openVariable, openedAs, metAs, fixedAs, readHead, settings, openedRequest}
+use Rattle.stream_open_request.specs.Requests.{metAs, fixedAs, readFront, settings, openedAs, openedRequest}
+use Rattle.stream_open_variable.specs.declared.VariableHeader.{VariableHeader}
+use Rattle.stream_open_variable.specs.Variable.{paddingAt, paddingFits, headerWith as variableWith, readVariable, headerAnswer, turnVariable, variableAnswer}
 use Rattle.stream_pieces.proofs.LengthLaws.{length-openAt}
 use Rattle.demands.specs.Datagrams.{tagGood}
-use Rattle.demands.specs.Orders.{Rule, rule, more, Said, first, refusesWith, otherMethod, otherKey, addressIn, noAddress, othersDatagram, notFresh, noRoom, saidOpened, openOrder, openedHeader, isReplay, isFull, badVariable, saidRequest, requestOrder, requestOpened, saidResponse, responseOrder, responseOpened, isEnded, atNothing, emptyLength, textBytes, dueBytes, lengthTold, saidStep, stepOrder, chunkOpened, ownHeader, saidSealed, datagramBytes, sealOrder, saidPiece, sealRequestOrder, requestSealed, sealResponseOrder, responseSealed, sealChunkOrder, chunkSealed, saidBegun, isAlive, beginOrder, sessionBegun, Orders}
+use Rattle.demands.specs.Orders.{Rule, rule, more, Said, gives, first, refusesWith, otherMethod, otherKey, addressIn, noAddress, othersDatagram, notFresh, noRoom, saidOpened, openOrder, openedHeader, isReplay, isFull, badVariable, saidRequest, requestOrder, requestOpened, otherTurn, headerSize, saidVariable, variableOrder, headerOpened, saidResponse, responseOrder, responseOpened, isEnded, noStep, emptyLength, textBytes, dueBytes, lengthTold, saidStep, stepOrder, chunkOpened, ownHeader, saidSealed, datagramBytes, sealOrder, saidPiece, sealRequestOrder, requestSealed, sealResponseOrder, responseSealed, sealChunkOrder, chunkSealed, saidBegun, isAlive, beginOrder, sessionBegun, Orders}
 use Rattle.demands.proofs.OrderLaws.{next, unless, done, stops, passes, split, not-and, under, under-or-over, other-key, other-method, unsuited, unsuited-both, bad-padding, same-ids, bad-behind}
 
 -- ---- opening a datagram
@@ -193,11 +194,11 @@ module _ (st : Receiver) (s : List ℕ) (room : ℕ) where
   step-order =
       (unless saidStep (eqb (keyLength (st .method)) 0) (rule 1 (otherMethod (st .method))) _ (chunkOpened st s room) (other-method (st .method)) refl λ _.
       at (st .turn))
-      ∙ split 1 (otherMethod (st .method)) (atNothing (st .turn)) _ _
+      ∙ split 1 (otherMethod (st .method)) (noStep (st .turn)) _ _
     where
       at : (u : Turn) → saidStep (turnAnswer u st s room)
           ≡ first
-          (rule 1 (atNothing u) ∷ rule 4 (isEnded u) ∷ rule 11 (eqb (st .counter) (2 ^ 64 - 1)) ∷ more (textBytes u + 16) (ltb (length s) (textBytes u + 16))
+          (rule 1 (noStep u) ∷ rule 4 (isEnded u) ∷ rule 11 (eqb (st .counter) (2 ^ 64 - 1)) ∷ more (textBytes u + 16) (ltb (length s) (textBytes u + 16))
           ∷ rule 3 (ltb room (dueBytes u)) ∷ rule 4 (not (authenticAt (streamKey st) (st .counter) (take (textBytes u + 16) s)))
           ∷ rule 14 (emptyLength u (be 2 (openAt (streamKey st) (st .counter) (take (textBytes u + 16) s)))) ∷ [])
           (record {
@@ -210,6 +211,7 @@ module _ (st : Receiver) (s : List ℕ) (room : ℕ) where
       at (Payload m) =
           unless saidStep (eqb m 0) _ _ _ refl refl λ _. piece-order m m _ _ _ (done _ ∙ passes 14 [] _) ∙ passes 4 _ _
       at Ended = stops 4 _ _ ∙ passes 1 _ _
+      at (Variable m) = stops 1 _ _
 
 -- ---- sealing
 
@@ -357,7 +359,14 @@ module _ (method : ℕ) (key : List ℕ) (clock : ℕ) (requestSalt s : List ℕ
       unless saidResponse (nothing (length fixed - 2) .when) (nothing (length fixed - 2)) [] (answered (length fixed - 2)) refl refl λ _. done _)
       ∙ ap (λ (m : ℕ). first (rule 13 (not ours) ∷ nothing m ∷ []) (answered m)) (length-place k n n s (leb-true (n + 27 + n) (length s) e)))
 
-module _ (method : ℕ) (key : List ℕ) (clock : ℕ) (s pool out : List ℕ) where
+-- 8 and 9
+met-order : {B : Type 0} (said : FixedRead → Said B) (f : Fixed) (v : B) → said (Fields f) ≡ gives v → ((r : Refusal) → said (Unread r) ≡ refusesWith r)
+    → (m : Met) → said (metAs m f) ≡ first (rule 8 (isReplay m) ∷ rule 9 (isFull m) ∷ []) v
+met-order said f v e refused (Free i) = e ∙ done v ∙ passes 9 _ _ ∙ passes 8 _ _
+met-order said f v e refused Known = refused Replay ∙ stops 8 _ _
+met-order said f v e refused NoRoom = refused Full ∙ stops 9 _ _ ∙ passes 8 _ _
+
+module _ (method : ℕ) (key : List ℕ) (clock : ℕ) (s pool : List ℕ) where
   abbrev bytes : ℕ
   bytes = saltLength method
 
@@ -370,99 +379,101 @@ module _ (method : ℕ) (key : List ℕ) (clock : ℕ) (s pool out : List ℕ) w
   abbrev met : Met
   met = meetSalt pool clock (take bytes s)
 
-  -- the variable header, behind so many bytes, where the fixed header gives it this length
-  module _ (before size : ℕ) where
-    abbrev lastPiece : List ℕ
-    lastPiece = take (size + 16) (drop before s)
+  -- the value, where the length stands at the place m and the front has so many bytes
+  abbrev begun-by : (m before : ℕ) → Request × Receiver
+  begun-by m before = (
+    record { time = be 8 (drop 1 front); length = be 2 (drop m front); used = before },
+    record { method = method; turn = Variable (be 2 (drop m front)); counter = 1; subkey = subkeyWords streamKeyOf },
+  )
 
-    abbrev variable : List ℕ
-    variable = openAt streamKeyOf 1 lastPiece
-
-    abbrev opened : Parsed → Request × Receiver
-    opened a = (
-      record {
-        target = addressIn a .target;
-        port = addressIn a .port;
-        time = be 8 (drop 1 front);
-        padding = be 2 (drop (addressIn a .end) variable);
-        payload = addressIn a .end + 2 + be 2 (drop (addressIn a .end) variable);
-        length = size;
-        used = before + size + 16;
-      },
-      record { method = method; turn = Length; counter = 2; subkey = subkeyWords streamKeyOf },
-    )
-
-    abbrev variableRules : List Rule
-    variableRules =
-        more (before + size + 16) (ltb (length s) (before + size + 16)) ∷ rule 3 (ltb (length out) size)
-        ∷ rule 4 (not (authenticAt streamKeyOf 1 lastPiece)) ∷ rule 5 (badVariable (parseAt variable 0) variable) ∷ []
-
-    abbrev rules : List Rule
-    rules =
-        rule 1 (otherKey method (length key) || not (lawfulPool pool method))
-        ∷ more before (ltb (length s) before)
-        ∷ rule 4 (not (authenticAt streamKeyOf 0 (take 27 (drop bytes s))))
-        ∷ rule 6 (not (eqb (getD front 0 0) 0))
-        ∷ rule 7 (not (timeValid (be 8 (drop 1 front)) clock))
-        ∷ rule 8 (isReplay met) ∷ rule 9 (isFull met) ∷ variableRules
-
-    abbrev fieldsWith : Fixed
-    fieldsWith = record { time = be 8 (drop 1 front); length = size }
-
-  abbrev saidRead : RequestRead → Said (Request × Receiver)
-  saidRead r = saidRequest (openedAs method (subkeyWords streamKeyOf) r)
+  abbrev rules : (before : ℕ) → List Rule
+  rules before =
+      rule 1 (otherKey method (length key) || not (lawfulPool pool method))
+      ∷ more before (ltb (length s) before)
+      ∷ rule 4 (not (authenticAt streamKeyOf 0 (take 27 (drop bytes s))))
+      ∷ rule 6 (not (eqb (getD front 0 0) 0))
+      ∷ rule 7 (not (timeValid (be 8 (drop 1 front)) clock))
+      ∷ rule 8 (isReplay met)
+      ∷ rule 9 (isFull met)
+      ∷ []
 
   -- as the definitions count the front
   abbrev frontBytes : ℕ
   frontBytes = frontLength bytes 0
 
-  module _ (size : ℕ) where
-    abbrev plainHeader : List ℕ
-    plainHeader = variable frontBytes size
+  abbrev saidFront : FixedRead → Said (Request × Receiver)
+  saidFront x = saidRequest (openedAs method (subkeyWords streamKeyOf) frontBytes x)
 
-    headed-order : (a : Parsed) → saidRead (requestHeaderWith (fieldsWith frontBytes size) (frontBytes + size + 16) plainHeader a)
-        ≡ first (rule 5 (badVariable a plainHeader) ∷ []) (opened frontBytes size a)
-    unfolding paddingFits
-    headed-order (Found a) =
-        next saidRead (paddingFits (a .end) plainHeader) _ [] _
-        (bad-behind (length plainHeader) (a .end) (paddingAt (a .end) plainHeader)) refl λ _. done _
-    headed-order Malformed = stops 5 [] _
-
-    variable-order : saidRead (openVariable streamKeyOf bytes (fieldsWith frontBytes size) s (length out))
-        ≡ first (variableRules frontBytes size) (opened frontBytes size (parseAt plainHeader 0))
-    unfolding openVariable readVariable
-    variable-order =
-        next saidRead (leb (frontBytes + size + 16) (length s)) _ _ _ (under (length s) (frontBytes + size + 16)) refl λ _.
-        next saidRead (leb size (length out)) _ _ _ (under (length out) size) refl λ _.
-        next saidRead (authenticAt streamKeyOf 1 (lastPiece frontBytes size)) _ _ _ refl refl λ _. headed-order (parseAt plainHeader 0)
-
-    met-order : (m : Met) → saidRead (metAs m (openVariable streamKeyOf bytes (fieldsWith frontBytes size) s (length out)))
-        ≡ first (rule 8 (isReplay m) ∷ rule 9 (isFull m) ∷ variableRules frontBytes size) (opened frontBytes size (parseAt plainHeader 0))
-    met-order (Free i) = variable-order ∙ passes 9 _ _ ∙ passes 8 _ _
-    met-order Known = stops 8 _ _
-    met-order NoRoom = stops 9 _ _ ∙ passes 8 _ _
-
-  request-order : saidRequest (openedRequest method key clock s pool out)
-      ≡ first (requestOrder method key clock s pool out) (requestOpened method key clock s pool out)
-  unfolding openedRequest settings readHead
+  request-order : saidRequest (openedRequest method key clock s pool) ≡ first (requestOrder method key clock s pool) (requestOpened method key clock s pool)
+  unfolding openedRequest settings readFront
   request-order =
       next saidRequest (keyFits method (length key) && lawfulPool pool method) _ _ _
       (ap (λ (b : Bool). b || not (lawfulPool pool method)) (other-key method (length key)) ∙ not-and (keyFits method (length key)) (lawfulPool pool method))
       refl
       (λ _. next saidRequest (leb frontBytes (length s)) _ _ _ (under (length s) frontBytes) refl λ e.
-      fixed-order (λ (f : FixedRead). saidRead (fixedAs streamKeyOf bytes met f s (length out))) streamKeyOf 0 clock (take 27 (drop bytes s)) _ _ (λ r. refl)
-      (met-order (be 2 (drop (length front - 2) front)) met
-      ∙ ap
-      (λ (m : ℕ). let z = be 2 (drop m front) in
-      first (rule 8 (isReplay met) ∷ rule 9 (isFull met) ∷ variableRules frontBytes z) (opened frontBytes z (parseAt (variable frontBytes z) 0)))
+      fixed-order (λ (f : FixedRead). saidFront (fixedAs met f)) streamKeyOf 0 clock (take 27 (drop bytes s)) _ _ (λ r. refl)
+      (met-order saidFront (fieldsOf front) (begun-by (length front - 2) frontBytes) refl (λ r. refl) met
+      ∙ ap (λ (m : ℕ). first (rule 8 (isReplay met) ∷ rule 9 (isFull met) ∷ []) (begun-by m frontBytes))
       (length-place streamKeyOf bytes 0 s (leb-true frontBytes (length s) e))))
-      ∙ ap (λ (b : ℕ). first (rules b size) (opened b size (parseAt (variable b size) 0))) same-front
+      ∙ ap (λ (b : ℕ). first (rules b) (begun-by 9 b)) same-front
     where
-      size : ℕ
-      size = be 2 (drop 9 front)
-
       same-front : frontBytes ≡ bytes + 27
       same-front = omega arith
+
+-- ---- a variable header
+
+module _ (st : Receiver) (s : List ℕ) (room : ℕ) where
+  -- of n bytes
+  module _ (n : ℕ) where
+    abbrev plainHeader : List ℕ
+    plainHeader = openAt (streamKey st) 1 (take (n + 16) s)
+
+    abbrev headerRules : List Rule
+    headerRules =
+        more (n + 16) (ltb (length s) (n + 16)) ∷ rule 3 (ltb room n)
+        ∷ rule 4 (not (authenticAt (streamKey st) 1 (take (n + 16) s))) ∷ rule 5 (badVariable (parseAt plainHeader 0) plainHeader) ∷ []
+
+    abbrev saidBy : Parsed → VariableHeader
+    saidBy a =
+        record {
+          target = addressIn a .target;
+          port = addressIn a .port;
+          padding = be 2 (drop (addressIn a .end) plainHeader);
+          payload = addressIn a .end + 2 + be 2 (drop (addressIn a .end) plainHeader);
+          length = n;
+          used = n + 16;
+        }
+
+    headed-order : (a : Parsed) → saidVariable (variableWith n plainHeader a) ≡ first (rule 5 (badVariable a plainHeader) ∷ []) (saidBy a)
+    unfolding paddingFits
+    headed-order (Found a) =
+        next saidVariable (paddingFits (a .end) plainHeader) _ [] _
+        (bad-behind (length plainHeader) (a .end) (paddingAt (a .end) plainHeader)) refl λ _. done _
+    headed-order Malformed = stops 5 [] _
+
+    piece-header : saidVariable (headerAnswer (streamKey st) n s room) ≡ first headerRules (saidBy (parseAt plainHeader 0))
+    unfolding headerAnswer readVariable
+    piece-header =
+        next saidVariable (leb (n + 16) (length s)) _ _ _ (under (length s) (n + 16)) refl λ _.
+        next saidVariable (leb n room) _ _ _ (under room n) refl λ _.
+        next saidVariable (authenticAt (streamKey st) 1 (take (n + 16) s)) _ _ _ refl refl λ _. headed-order (parseAt plainHeader 0)
+
+  -- by the turn: 1 and 4, and the piece's
+  turn-order : (u : Turn) → saidVariable (turnVariable u st s room)
+      ≡ first (rule 1 (otherTurn u (st .counter)) ∷ rule 4 (isEnded u) ∷ headerRules (headerSize u))
+      (saidBy (headerSize u) (parseAt (plainHeader (headerSize u)) 0))
+  turn-order (Variable n) =
+      next saidVariable (eqb (st .counter) 1) (rule 1 (not (eqb (st .counter) 1))) _ _ refl refl λ _. piece-header n ∙ passes 4 _ _
+  turn-order Length = stops 1 _ _
+  turn-order (Payload m) = stops 1 _ _
+  turn-order Ended = stops 4 _ _ ∙ passes 1 _ _
+
+  variable-order : saidVariable (variableAnswer st s room) ≡ first (variableOrder st s room) (headerOpened st s room)
+  unfolding variableAnswer
+  variable-order =
+      unless saidVariable (eqb (keyLength (st .method)) 0) (rule 1 (otherMethod (st .method))) _ _ (other-method (st .method)) refl
+      (λ _. turn-order (st .turn))
+      ∙ split 1 (otherMethod (st .method)) (otherTurn (st .turn) (st .counter)) _ _
 
 -- ---- all of them
 
@@ -471,6 +482,7 @@ orders =
     record {
       datagram-opened = open-order;
       request-opened = request-order;
+      variable-opened = variable-order;
       response-opened = response-order;
       step = step-order;
       datagram-sealed = seal-order;

@@ -1,7 +1,8 @@
 -- What the head of a request was sealed from is read back from it: each field, the payload, and the stream's state.
 -- Assumes nothing.
 use mathlib.Core.Path.{_≡_, refl, sym, ap, ap₂, _∙_}
-use mathlib.Core.Bool.{true, cond, _&&_, and-eq-true-iff}
+use mathlib.Core.Bool.{true, false, cond, _&&_, and-eq-true-iff}
+use mathlib.Core.Logic.{⊎-elim}
 use mathlib.Core.List.{List, [], _++_, append-assoc}
 use Prim.Native.Nat.{ℕ, _+_, _^_, _≤_, _<_}
 use native.Mathlib.Nat.{zero-add}
@@ -9,14 +10,15 @@ use native.Mathlib.Omega.{arith}
 use lib.Dec.{eqb, leb, ltb}
 use lib.ListN.{length, take, drop, replicate, length-append, length-replicate}
 use lib.Seq.{take-at, drop-at, drop-drop, drop-append-seam}
-use borrow.Author.Tests.{le-leb, lt-ltb, leb-true, ltb-true, eqb-true}
+use borrow.Author.Tests.{ne-eqb, le-leb, lt-ltb, leb-true, ltb-true, eqb-true}
 use Rattle.octets.specs.Buffers.{put}
 use Rattle.octets.specs.Numbers.{be, toBe}
 use Rattle.octets.proofs.NumberLaws.{length-toBe, be-front}
-use Rattle.protocol.specs.Method.{keyFits, saltLength}
+use Rattle.protocol.specs.Method.{keyFits, keyLength, saltLength}
 use Rattle.protocol.specs.Subkey.{subkey}
+use Rattle.protocol.proofs.MethodLaws.{fits-sizes}
 use Rattle.protocol.specs.Time.{timeValid}
-use Rattle.protocol.specs.declared.Refusal.the-variants.{Settings, Room, NotAuthentic, More, Malformed}
+use Rattle.protocol.specs.declared.Refusal.the-variants.{Settings, More, Malformed}
 use Rattle.socks5.specs.declared.Address.{Address}
 use Rattle.socks5.specs.declared.Target.{Target}
 use Rattle.socks5.specs.declared.Target.the-variants.{V4, V6, Name}
@@ -30,19 +32,23 @@ use Rattle.stream_seal.specs.declared.Sealed.the-variants.{Bytes}
 use Rattle.stream_pieces.specs.Pieces.{sealAt, authenticAt, openAt, subkeyWords, maxChunk}
 use Rattle.stream_heads.specs.Heads.{maxPadding, frontLength, fixedOf, openFixed}
 use Rattle.stream_seal_heads.specs.HeadSealing.{front, variablePart, variableLength, requestAt, request, begun, sizesFit, paddingLawful, requestAnswer}
-use Rattle.stream_open.specs.declared.Turn.the-variants.{Length}
+use Rattle.stream_open.specs.declared.Turn.the-variants.{Variable, Length}
+use Rattle.stream_open.specs.declared.Receiver.{Receiver}
 use Rattle.stream_heads.specs.declared.FixedRead.the-variants.{Read}
 use Rattle.stream_heads.specs.declared.Fixed.{Fixed}
-use Rattle.stream_open_request.specs.declared.Request.{Request}
-use Rattle.stream_open_request.specs.declared.RequestRead.{RequestRead}
-use Rattle.stream_open_request.specs.declared.RequestRead.the-variants.{Header, Refused as Unheaded}
 use Rattle.stream_open_request.specs.declared.RequestOpened.the-variants.{Accepted, Refused as NoRequest}
-use Rattle.stream_open.specs.Chunks.{receiver}
-use Rattle.stream_open_request.specs.Requests.{paddingAt, paddingFits, headerWith, readVariable, headLength, variableOf, openVariable, settled, variableOut, openedAs, fixedAs, readHead, fixedOut, headOut, storedIn, headPool, settings, openedRequest, requestOut, requestPool}
-use Rattle.demands.specs.StreamsBack.{partner, requestHeader, RequestBack, RequestsGivenBack}
+use Rattle.stream_open.specs.Chunks.{receiver, streamKey}
+use Rattle.stream_open_request.specs.Requests.{fixedAs, readFront, fixedPool, frontPool, settings, openedAs, openedRequest, requestPool}
+use Rattle.stream_open_variable.specs.declared.VariableHeader.{VariableHeader}
+use Rattle.stream_open_variable.specs.declared.VariableOpened.{VariableOpened}
+use Rattle.stream_open_variable.specs.declared.VariableOpened.the-variants.{Header, Refused as Unheaded}
+use Rattle.stream_open_variable.specs.Variable.{paddingAt, paddingFits, headerWith, readVariable, settled, variableAnswer, variableOut}
+use Rattle.demands.specs.StreamsOpen.{variableAt}
+use Rattle.demands.specs.StreamsBack.{sealedHeader, RequestBack, RequestsGivenBack}
 use Rattle.stream_pieces.proofs.LengthLaws.{length-sealAt}
-use Rattle.stream_seal_heads.proofs.HeadLengthLaws.{length-front, length-variablePart, length-requestAt}
-use Rattle.demands.proofs.StreamReadBack.{piece-back, answers, Sized, sized, salt-back, front-whole, behind-front, fixed-back}
+use Rattle.stream_seal_heads.proofs.HeadLengthLaws.{length-variablePart, length-requestAt}
+use Rattle.demands.proofs.StreamReadBack.{piece-back, answers, Sized, sized, salt-back, front-whole, behind-front, fixed-back, stream-key}
+use Rattle.demands.proofs.VariableTells.{header-by, text-by}
 
 -- ---- the variable header of a request
 
@@ -94,22 +100,19 @@ module _ (address : List ℕ) (padding : ℕ) (payload : List ℕ) (padding-shor
         let e₄ = lt-ltb (length address + 2) (length variable) (omega (arith, l)) in
         λ i. e₁ i && (e₂ i && (e₃ i && e₄ i))
 
-    variable-reads : (time used : ℕ) → readVariable (record { time = time; length = length variable }) used variable
-        ≡ Header (requestHeader time (length address) a padding (length payload) used)
+    variable-reads : readVariable (length variable) variable ≡ Header (sealedHeader (length address) a padding (length payload))
     unfolding readVariable variableLength
-    variable-reads time used =
-        let f : Fixed = record { time = time; length = length variable } in
-        ap (headerWith f used variable) address-back
+    variable-reads =
+        ap (headerWith (length variable) variable) address-back
         ∙ (λ i. cond (fits-back i)
         (Header
         (record {
           target = a .target;
           port = a .port;
-          time = time;
           padding = padding-back i;
           payload = length address + 2 + padding-back i;
           length = variable-long i;
-          used = used;
+          used = variable-long i + 16;
         }))
         (Unheaded Malformed))
 
@@ -193,62 +196,10 @@ module _ (method : ℕ) (key salt : List ℕ) (time : ℕ) (address : List ℕ) 
       header-here : (clock : ℕ) → timeValid time clock ≡ true → openFixed request-key 0 clock (fixedOf salts 0 all) ≡ Read fields
       header-here = fixed-back request-key salt 0 time [] (length text) (body ++ rest) salts 0 (request-facts .salt-fits) refl time-fits text-long
 
-      abbrev header : Request
-      header = requestHeader time (length address) (target .address) padding (length payload) n
+      -- the front, on a pool with room for the salt
 
-      -- the variable part
-
-      used-all : headLength salts fields ≡ n
-      used-all = omega (arith, request-facts .sizes .count, request-facts .salt-fits, length-variablePart address padding payload)
-
-      variable-there : variableOf salts fields all ≡ body
-      variable-there =
-          ap (take (length text + 16)) behind-here ∙ take-at body rest (length text + 16) (length-sealAt request-key 1 text)
-
-      long-here : leb (headLength salts fields) (length all) ≡ true
-      long-here =
-          le-leb (headLength salts fields) (length all)
-          (omega (
-            arith,
-            length-append (front request-key salt 0 time [] (length text)) (body ++ rest),
-            length-append body rest,
-            length-front request-key salt 0 time [] (length text),
-            length-sealAt request-key 1 text,
-            request-facts .salt-fits,
-          ))
-
-      reads-here : readVariable fields (headLength salts fields) text ≡ Header header
-      reads-here =
-          ap (λ (u : ℕ). readVariable fields u text) used-all
-          ∙ variable-reads address padding payload (request-facts .padding-short) (request-facts .filled) (request-facts .one-address)
-          (target .address) (target .found) time n
-
-      authentic-here : authenticAt request-key 1 (variableOf salts fields all) ≡ true
-      authentic-here = ap (authenticAt request-key 1) variable-there ∙ piece-back request-key 1 text .0
-
-      opens-here : openAt request-key 1 (variableOf salts fields all) ≡ text
-      opens-here = ap (openAt request-key 1) variable-there ∙ piece-back request-key 1 text .1
-
-      variable-opened : (room : ℕ) → length text ≤ room → openVariable request-key salts fields all room ≡ Header header
-      unfolding openVariable
-      variable-opened room h =
-          (λ i. cond (long-here i)
-          (cond (le-leb (length text) room h i)
-          (cond (authentic-here i) (readVariable fields (headLength salts fields) (opens-here i)) (Unheaded NotAuthentic)) (Unheaded Room))
-          (Unheaded (More (headLength salts fields))))
-          ∙ reads-here
-
-      variable-written : (out : List ℕ) → length text ≤ length out → variableOut request-key salts fields all out ≡ put out 0 text
-      unfolding variableOut
-      variable-written out h =
-          (λ i. cond (long-here i && (le-leb (length text) (length out) h i && authentic-here i))
-          (settled (readVariable fields (headLength salts fields) (opens-here i)) (length text) (put out 0 (opens-here i))) out)
-          ∙ ap (λ (x : RequestRead). settled x (length text) (put out 0 text)) reads-here
-
-      -- the whole, on a pool with room for the salt
-
-      module _ (later : ℕ) (valid : timeValid time later ≡ true) (pool out : List ℕ) (made : lawful pool method ≡ true) (place : ℕ)
-          (free : meet pool later salt ≡ Free place) (room : length text ≤ length out) where
+      module _ (later : ℕ) (valid : timeValid time later ≡ true) (pool : List ℕ) (made : lawful pool method ≡ true) (place : ℕ)
+          (free : meet pool later salt ≡ Free place) where
         lawful-settings : settings method (length key) pool ≡ true
         unfolding settings
         lawful-settings = λ i. request-facts .fits i && made i
@@ -256,58 +207,107 @@ module _ (method : ℕ) (key salt : List ℕ) (time : ℕ) (address : List ℕ) 
         met-here : meet pool later (take salts all) ≡ Free place
         met-here = ap (meet pool later) salt-here ∙ free
 
-        head-read : readHead request-key later salts all pool (length out) ≡ Header header
-        unfolding readHead
-        head-read =
-            (λ i. fixedAs request-key salts (met-here i) (header-here later valid i) all (length out)) ∙ variable-opened (length out) room
+        front-key : subkey key (take salts all) ≡ request-key
+        front-key = ap (subkey key) salt-here
 
-        head-written : headOut request-key later salts all pool out ≡ put out 0 text
-        unfolding headOut
-        head-written = (λ i. fixedOut request-key salts (met-here i) (header-here later valid i) all out) ∙ variable-written out room
+        fixed-here : openFixed (subkey key (take salts all)) 0 later (fixedOf salts 0 all) ≡ Read fields
+        fixed-here = ap (λ (x : List ℕ). openFixed x 0 later (fixedOf salts 0 all)) front-key ∙ header-here later valid
 
-        head-stored : headPool request-key later salts all pool (length out) ≡ store pool place later salt
-        unfolding headPool
-        head-stored = λ i. storedIn (met-here i) (head-read i) later (salt-here i) pool
-
-        all-accepted : openedRequest method key later all pool out ≡ Accepted header (receiver method Length 2 (subkeyWords request-key))
-        unfolding openedRequest
+        all-accepted : openedRequest method key later all pool
+            ≡ Accepted (record { time = time; length = length text; used = frontLength salts 0 })
+            (receiver method (Variable (length text)) 1 (subkeyWords request-key))
+        unfolding openedRequest readFront
         all-accepted =
             (λ i. cond (lawful-settings i)
-            (cond (whole-here i)
-            (openedAs method (subkeyWords (subkey key (salt-here i))) (readHead (subkey key (salt-here i)) later salts all pool (length out)))
+            (cond (whole-here i) (openedAs method (subkeyWords (front-key i)) (frontLength salts 0) (fixedAs (met-here i) (fixed-here i)))
             (NoRequest (More (frontLength salts 0)))) (NoRequest Settings))
-            ∙ ap (openedAs method (subkeyWords request-key)) head-read
 
-        all-written : requestOut method key later all pool out ≡ put out 0 text
-        unfolding requestOut
-        all-written =
-            (λ i. cond (lawful-settings i && whole-here i) (headOut (subkey key (salt-here i)) later salts all pool out) out) ∙ head-written
-
-        all-stored : requestPool method key later all pool out ≡ store pool place later salt
-        unfolding requestPool
+        all-stored : requestPool method key later all pool ≡ store pool place later salt
+        unfolding requestPool frontPool
         all-stored =
-            (λ i. cond (lawful-settings i && whole-here i) (headPool (subkey key (salt-here i)) later salts all pool (length out)) pool)
-            ∙ head-stored
+            (λ i. cond (lawful-settings i && whole-here i) (fixedPool (met-here i) (fixed-here i) later (salt-here i) pool) pool)
 
-        request-given : RequestBack method key salt time address padding payload n next later rest pool place out
-        request-given =
-            record {
-              sealed-length = request-length;
-              target = target .address;
-              target-sealed = target .found;
-              accepted =
-                  ap (λ (s : List ℕ). openedRequest method key later s pool out) (request-split rest) ∙ all-accepted
-                  ∙ ap (λ (x : Sender). Accepted header (partner x)) (sym (request-facts .sizes .after));
-              counter-two = ap (λ (x : Sender). x .counter) (request-facts .sizes .after);
-              text = ap (λ (s : List ℕ). requestOut method key later s pool out) (request-split rest) ∙ all-written;
-              payload-there =
-                  payload-back address padding payload (request-facts .padding-short) (request-facts .filled) (request-facts .one-address)
-                  (target .address) (target .found);
-              stored = ap (λ (s : List ℕ). requestPool method key later s pool out) (request-split rest) ∙ all-stored;
-              left =
-                  ap₂ drop (sym request-length) refl
-                  ∙ drop-append-seam (request key salt time address padding payload) rest;
-            }
+      -- the variable header, from the bytes behind the front
+
+      variable-there : variableAt (length text) (body ++ rest) ≡ body
+      variable-there = take-at body rest (length text + 16) (length-sealAt request-key 1 text)
+
+      abbrev waiting : Receiver
+      waiting = receiver method (Variable (length text)) 1 (subkeyWords request-key)
+
+      -- the key that the state holds as words
+      key-here : streamKey waiting ≡ request-key
+      key-here = stream-key method key salt (request-facts .fits)
+
+      known-method : eqb (keyLength method) 0 ≡ false
+      known-method =
+          let z = fits-sizes method (length key) (request-facts .fits) in
+          ne-eqb (keyLength method) 0 (λ e. ⊎-elim (λ f. omega (arith, z .key-is, e, f)) (λ f. omega (arith, z .key-is, e, f)) (z .either))
+
+      long-here : length text + 16 ≤ length (body ++ rest)
+      long-here = omega (arith, length-append body rest, length-sealAt request-key 1 text)
+
+      authentic-here : authenticAt (streamKey waiting) 1 (variableAt (length text) (body ++ rest)) ≡ true
+      authentic-here = (λ i. authenticAt (key-here i) 1 (variable-there i)) ∙ piece-back request-key 1 text .0
+
+      opens-here : openAt (streamKey waiting) 1 (variableAt (length text) (body ++ rest)) ≡ text
+      opens-here = (λ i. openAt (key-here i) 1 (variable-there i)) ∙ piece-back request-key 1 text .1
+
+      abbrev header : VariableHeader
+      header = sealedHeader (length address) (target .address) padding (length payload)
+
+      reads-here : readVariable (length text) text ≡ Header header
+      reads-here =
+          variable-reads address padding payload (request-facts .padding-short) (request-facts .filled) (request-facts .one-address)
+          (target .address) (target .found)
+
+      module _ (out : List ℕ) (room : length text ≤ length out) where
+        variable-answered : variableAnswer waiting (body ++ rest) (length out) ≡ Header header
+        variable-answered =
+            header-by waiting (body ++ rest) out (length text) true true true true known-method refl refl
+            (le-leb (length text + 16) (length (body ++ rest)) long-here) (le-leb (length text) (length out) room) authentic-here
+            ∙ ap (readVariable (length text)) opens-here ∙ reads-here
+
+        variable-written : variableOut waiting (body ++ rest) out ≡ put out 0 text
+        variable-written =
+            text-by waiting (body ++ rest) out (length text) true true true true known-method refl refl
+            (le-leb (length text + 16) (length (body ++ rest)) long-here) (le-leb (length text) (length out) room) authentic-here
+            ∙ (λ i. settled (readVariable (length text) (opens-here i)) (length text) (put out 0 (opens-here i)))
+            ∙ ap (λ (x : VariableOpened). settled x (length text) (put out 0 text)) reads-here
+
+      -- both calls
+
+      request-given : (later : ℕ) → timeValid time later ≡ true → (pool out : List ℕ) → lawful pool method ≡ true → (place : ℕ)
+          → meet pool later salt ≡ Free place → length text ≤ length out
+          → RequestBack method key salt time address padding payload n next later rest pool place out
+      unfolding variableLength
+      request-given later valid pool out made place free room =
+          let size : length text ≡ length address + 2 + padding + length payload = length-variablePart address padding payload in
+          let used : length salt + 27 ≡ frontLength salts 0 = omega (arith, request-facts .salt-fits) in
+          let there : drop (length salt + 27) (request key salt time address padding payload ++ rest) ≡ body ++ rest =
+          ap₂ drop used (request-split rest) ∙ behind-here in
+          let words : subkeyWords request-key ≡ next .subkey = sym (ap (λ (x : Sender). x .subkey) (request-facts .sizes .after)) in
+          record {
+            sealed-length = request-length;
+            accepted =
+                ap (λ (s : List ℕ). openedRequest method key later s pool) (request-split rest) ∙ all-accepted later valid pool made place free
+                ∙ (λ i. Accepted (record { time = time; length = size i; used = sym used i }) (receiver method (Variable (size i)) 1 (words i)));
+            stored = ap (λ (s : List ℕ). requestPool method key later s pool) (request-split rest) ∙ all-stored later valid pool made place free;
+            target = target .address;
+            target-sealed = target .found;
+            variable-read =
+                (λ i. variableAnswer (receiver method (Variable (sym size i)) 1 (sym words i)) (there i) (length out)) ∙ variable-answered out room;
+            text = (λ i. variableOut (receiver method (Variable (sym size i)) 1 (sym words i)) (there i) out) ∙ variable-written out room;
+            payload-there =
+                payload-back address padding payload (request-facts .padding-short) (request-facts .filled) (request-facts .one-address)
+                (target .address) (target .found);
+            variable-next = λ i. receiver (sym (request-facts .sizes .after) i .method) Length (sym (request-facts .sizes .after) i .counter) (next .subkey);
+            counter-two = ap (λ (x : Sender). x .counter) (request-facts .sizes .after);
+            used-all = omega (arith, request-facts .sizes .count);
+            left =
+                ap₂ drop (ap (λ (k : ℕ). k + 16) (sym size)) there
+                ∙ drop-at body rest (length text + 16) (length-sealAt request-key 1 text);
+          }
 
 pub request-back : RequestsGivenBack
 request-back method key salt time address padding payload space n next answered time-fits later valid pool made place free rest out room =

@@ -2,14 +2,14 @@
 -- Assumes nothing.
 use mathlib.Core.Path.{_≡_, refl, sym, ap, ap₂, _∙_, subst}
 use mathlib.Core.Bool.{Bool, true, false, cond, _&&_}
-use mathlib.Core.List.{List}
+use mathlib.Core.List.{List, _++_}
 use Prim.Native.Nat.{ℕ, _+_, _-_, _≤_}
 use native.Mathlib.Nat.{zero-add}
 use native.Mathlib.Omega.{arith}
 use lib.Dec.{eqb, leb, ltb}
 use lib.ListN.{length, take, drop, replicate, length-replicate}
 use lib.Seq.{length-take-le}
-use borrow.Author.Tests.{eq-eqb, ne-eqb, eqb-true, eqb-false, not-true}
+use borrow.Author.Tests.{eq-eqb, ne-eqb, eqb-true}
 use Rattle.octets.specs.Buffers.{put}
 use Rattle.octets.proofs.BufferLaws.{length-put, drop-put}
 use Rattle.protocol.specs.declared.Refusal.{Refusal}
@@ -25,18 +25,17 @@ use Rattle.stream_pieces.specs.Pieces.{authenticAt, openAt, maxChunk, isEmpty, 
 use Rattle.stream_seal.specs.Sealing.{chunk, moved, senderKey, sizeAnswer, chunkAnswer, sealOut}
 use Rattle.stream_seal_heads.specs.HeadSealing.{variableLength, request, response, begun, sizesFit, paddingLawful, requestAnswer, responseAnswer}
 use Rattle.stream_open.specs.declared.Turn.{Turn}
-use Rattle.stream_open.specs.declared.Turn.the-variants.{Length, Payload, Ended}
+use Rattle.stream_open.specs.declared.Turn.the-variants.{Variable, Length, Payload, Ended}
 use Rattle.stream_open.specs.declared.Receiver.{Receiver}
-use Rattle.stream_heads.specs.declared.Fixed.{Fixed}
 use Rattle.stream_open.specs.declared.Chunk.{Chunk}
 use Rattle.stream_open.specs.declared.Stepped.{Stepped}
 use Rattle.stream_open.specs.declared.Stepped.the-variants.{Opened, Refused as Unopened}
-use Rattle.stream_open_request.specs.declared.RequestOpened.{RequestOpened}
-use Rattle.stream_open_request.specs.declared.RequestOpened.the-variants.{Accepted, Refused}
-use Rattle.stream_open_request.specs.Requests.{variableOf, openedRequest, requestOut, requestPool}
+use Rattle.stream_open_variable.specs.declared.VariableOpened.{VariableOpened}
+use Rattle.stream_open_variable.specs.declared.VariableOpened.the-variants.{Refused}
+use Rattle.stream_open_variable.specs.Variable.{headerAnswer, variableAnswer, variableOut, variableNext}
 use Rattle.stream_open.specs.Chunks.{streamKey, pieceAnswer, lengthRead, lengthAnswer, turnAnswer, writtenBy, payloadPiece, stepAnswer, stepOut, ended, stepNext}
-use Rattle.demands.specs.StreamsKeep.{among, saltOf, ofStep, requestSealer, responseSealer, chunkSealer, dueOf, RequestAnswered, accepted-request, refused-request, RequestKeeps, StepAnswered, opened-step, refused-step, dueAt, StepKeeps, SealAnswered, sealed-text, refused-text, SealKeeps, SealersKeep, StreamsDemand1}
-use Rattle.demands.specs.StreamsOpen.{TurnOpens, turnText}
+use Rattle.demands.specs.StreamsKeep.{among, ofVariable, ofStep, requestSealer, responseSealer, chunkSealer, endsVariable, VariableAnswered, opened-variable, refused-variable, dueVariable, VariableKeeps, MoreAsksAgain, Turns, StepAnswered, opened-step, refused-step, dueAt, StepKeeps, SealAnswered, sealed-text, refused-text, SealKeeps, SealersKeep, StreamsDemand1}
+use Rattle.demands.specs.StreamsOpen.{variableAt, TurnOpens, turnText}
 use Rattle.demands.specs.StreamsBack.{EmptyUnsealed, StreamsDemand2}
 use Rattle.stream_pieces.proofs.LengthLaws.{length-openAt}
 use Rattle.stream_seal.proofs.LengthLaws.{length-chunk}
@@ -48,7 +47,9 @@ use Rattle.demands.proofs.ResponseReadBack.{responds, response-back}
 use Rattle.demands.proofs.RequestReadBack.{requests, request-back}
 use Rattle.demands.proofs.WholeStreams.{stream-back, own-counters, request-stream, response-stream}
 use Rattle.demands.proofs.StreamTells.{step-tells, step-text, step-exactly-when, step-empty-exactly-when, no-empty-chunk, nonce-injective, own-nonce}
-use Rattle.demands.proofs.HeadTells.{spares, length-plain, not-accepted, Way, refused, zeroed, accepted, way, request-exactly-when, response-keeps, response-exactly-when, response-empty-exactly-when}
+use Rattle.demands.proofs.RequestTells.{request-keeps, request-exactly-when}
+use Rattle.demands.proofs.VariableTells.{not-header, same-refusal, not-five, length-plain, Way, refused, missing, zeroed, opened, way, more-tells, answer-by, variable-exactly-when}
+use Rattle.demands.proofs.HeadTells.{response-keeps, response-exactly-when, response-empty-exactly-when}
 
 -- ---- buffers
 
@@ -72,89 +73,197 @@ front-same n written out x e f = record { past = ap (drop n) e ∙ f .past; size
 front-none : (n : ℕ) (written out : List ℕ) → written ≡ out → Front n written out
 front-none n written out e = record { past = ap (drop n) e; size = ap length e }
 
--- ---- a request's head
+-- ---- a variable header
 
-not-five : (r : Refusal) → spares r ≡ true → refusalNumber r ≡ 5 → ⊥
-not-five r e f = eqb-false (refusalNumber r) 5 (not-true (eqb (refusalNumber r) 5) e) f
+-- of the refusals that it gives, those that end a stream are 4 and 5
+ends-alike : (r : Refusal) → (ofVariable r && endsStream r) ≡ (ofVariable r && endsVariable r)
+ends-alike Settings = refl
+ends-alike TooLong = refl
+ends-alike Room = refl
+ends-alike NotAuthentic = refl
+ends-alike Malformed = refl
+ends-alike WrongType = refl
+ends-alike WrongTime = refl
+ends-alike Replay = refl
+ends-alike Full = refl
+ends-alike (More wanted) = refl
+ends-alike Counter = refl
+ends-alike Argument = refl
+ends-alike Binding = refl
+ends-alike Empty = refl
 
-abbrev numberIn : RequestOpened → ℕ
-numberIn (Accepted h st) = 0
-numberIn (Refused r) = refusalNumber r
-
-same-number : (a : RequestOpened) (r t : Refusal) → a ≡ Refused r → a ≡ Refused t → refusalNumber r ≡ refusalNumber t
-same-number a r t e f = ap numberIn (sym e ∙ f)
-
-module _ (method : ℕ) (key : List ℕ) (clock : ℕ) (s pool out : List ℕ) where
-  abbrev answer : RequestOpened
-  answer = openedRequest method key clock s pool out
+module _ (st : Receiver) (s out : List ℕ) where
+  abbrev answer : VariableOpened
+  answer = variableAnswer st s (length out)
 
   abbrev buffer : List ℕ
-  buffer = requestOut method key clock s pool out
+  buffer = variableOut st s out
+
+  abbrev due : ℕ
+  due = dueVariable (st .turn)
 
   abbrev Ways : Type 0
-  Ways = Way method key clock s pool out
+  Ways = Way st s out
 
   here : Ways
-  here = way method key clock s pool out
+  here = way st s out
 
-  answered : RequestAnswered answer
+  answered : VariableAnswered answer
   answered = go here
     where
-      go : Ways → RequestAnswered answer
-      go (refused r o p er eo ep) = refused-request r o er
-      go (zeroed room er eo ep) = refused-request Malformed refl er
-      go (accepted h st d q) = accepted-request h st (q .accepts)
-
-  refused-keeps-pool : (r : Refusal) → answer ≡ Refused r → requestPool method key clock s pool out ≡ pool
-  refused-keeps-pool r e = go here
-    where
-      go : Ways → requestPool method key clock s pool out ≡ pool
-      go (refused t o p er eo ep) = ep
-      go (zeroed room er eo ep) = ep
-      go (accepted h st d q) = absurd (not-accepted answer r h st e (q .accepts))
+      go : Ways → VariableAnswered answer
+      go (refused r o p er eo) = refused-variable r o er
+      go (missing n eu short er eo) = refused-variable (More (n + 16)) refl er
+      go (zeroed n eu room er eo) = refused-variable Malformed refl er
+      go (opened h d q) = opened-variable h (q .answers)
 
   untouched : (r : Refusal) → answer ≡ Refused r → (refusalNumber r ≡ 5 → ⊥) → buffer ≡ out
   untouched r e other = go here
     where
       go : Ways → buffer ≡ out
-      go (refused t o p er eo ep) = eo
-      go (zeroed room er eo ep) = absurd (other (same-number answer r Malformed e er))
-      go (accepted h st d q) = absurd (not-accepted answer r h st e (q .accepts))
+      go (refused t o p er eo) = eo
+      go (missing n eu short er eo) = eo
+      go (zeroed n eu room er eo) = absurd (other (ap refusalNumber (same-refusal answer r Malformed e er)))
+      go (opened h d q) = absurd (not-header answer r h e (q .answers))
 
-  cleared : answer ≡ Refused Malformed → (dueOf method key s ≤ length out) × (buffer ≡ put out 0 (replicate (dueOf method key s) 0))
+  -- what a turn of n bytes owes
+  owed : (n : ℕ) → st .turn ≡ Variable n → n ≡ due
+  owed n eu = ap dueVariable (sym eu)
+
+  cleared : answer ≡ Refused Malformed → (due ≤ length out) × (buffer ≡ put out 0 (replicate due 0))
   cleared e = go here
     where
-      go : Ways → (dueOf method key s ≤ length out) × (buffer ≡ put out 0 (replicate (dueOf method key s) 0))
-      go (refused t o p er eo ep) = absurd (not-five t p (same-number answer t Malformed er e))
-      go (zeroed room er eo ep) = (room, eo)
-      go (accepted h st d q) = absurd (not-accepted answer Malformed h st e (q .accepts))
+      go : Ways → (due ≤ length out) × (buffer ≡ put out 0 (replicate due 0))
+      go (refused t o p er eo) = absurd (not-five t p (ap refusalNumber (same-refusal answer t Malformed er e)))
+      go (missing n eu short er eo) =
+          absurd (let z : _≡_ {A = ℕ} 10 5 = ap refusalNumber (same-refusal answer (More (n + 16)) Malformed er e) in omega arith)
+      go (zeroed n eu room er eo) = subst (λ (k : ℕ). (k ≤ length out) × (buffer ≡ put out 0 (replicate k 0))) (owed n eu) (room, eo)
+      go (opened h d q) = absurd (not-header answer Malformed h e (q .answers))
 
-  front : Front (dueOf method key s) buffer out
+  front : Front due buffer out
   front = go here
     where
-      go : Ways → Front (dueOf method key s) buffer out
-      go (refused t o p er eo ep) = front-none (dueOf method key s) buffer out eo
-      go (zeroed room er eo ep) =
-          front-same (dueOf method key s) buffer out _ eo
-          (front-kept out (replicate (dueOf method key s) 0) (dueOf method key s) (length-replicate (dueOf method key s) 0) room)
-      go (accepted h st d q) =
-          let f : Fixed = record { time = d .head .time; length = d .head .size } in
-          let k = subkey key (saltOf method s) in
-          let due : f .length ≡ dueOf method key s = d .head .fixed-opens .says-length in
-          front-same (dueOf method key s) buffer out _ (q .writes)
-          (front-kept out (openAt k 1 (variableOf (saltLength method) f s)) (dueOf method key s)
-          (length-plain k clock (saltLength method) s pool out f (d .head .whole) ∙ due)
-          (subst (λ (x : ℕ). x ≤ length out) due (d .head .has-room)))
+      go : Ways → Front due buffer out
+      go (refused t o p er eo) = front-none due buffer out eo
+      go (missing n eu short er eo) = front-none due buffer out eo
+      go (zeroed n eu room er eo) =
+          subst (λ (k : ℕ). Front k buffer out) (owed n eu)
+          (front-same n buffer out _ eo (front-kept out (replicate n 0) n (length-replicate n 0) room))
+      go (opened h d q) =
+          subst (λ (k : ℕ). Front k buffer out) (owed (d .size) (d .at-turn))
+          (front-same (d .size) buffer out _ (q .writes)
+          (front-kept out (openAt (streamKey st) 1 (variableAt (d .size) s)) (d .size) (length-plain st s out (d .size) (d .whole)) (d .has-room)))
 
-  pub request-keeps : RequestKeeps method key clock s pool out
-  request-keeps =
+  -- a refusal of its list ends the stream by its own number
+  next-by : (r : Refusal) → answer ≡ Refused r → variableNext st answer ≡ cond (endsVariable r) (ended st) st
+  next-by r e = go answered
+    where
+      go : VariableAnswered answer → variableNext st answer ≡ cond (endsVariable r) (ended st) st
+      go (opened-variable h eh) = absurd (not-header answer r h e eh)
+      go (refused-variable t o et) =
+          let among : ofVariable r ≡ true = ap ofVariable (same-refusal answer r t e et) ∙ o in
+          let alike : endsStream r ≡ endsVariable r =
+          sym (ap (λ (b : Bool). b && endsStream r) among) ∙ ends-alike r ∙ ap (λ (b : Bool). b && endsVariable r) among in
+          ap (variableNext st) e ∙ ap (λ (b : Bool). cond b (ended st) st) alike
+
+  variable-ends : (r : Refusal) → answer ≡ Refused r → endsVariable r ≡ true → variableNext st answer ≡ ended st
+  variable-ends r e t = next-by r e ∙ ap (λ (b : Bool). cond b (ended st) st) t
+
+  variable-stays : (r : Refusal) → answer ≡ Refused r → endsVariable r ≡ false → variableNext st answer ≡ st
+  variable-stays r e t = next-by r e ∙ ap (λ (b : Bool). cond b (ended st) st) t
+
+  ended-unheaded : (keyLength (st .method) ≡ 0 → ⊥) → (bytes : List ℕ) (room : ℕ) → variableAnswer (ended st) bytes room ≡ Refused NotAuthentic
+  unfolding variableAnswer
+  ended-unheaded known bytes room =
+      ap (λ (b : Bool). cond b (Refused Settings) (Refused NotAuthentic)) (ne-eqb (keyLength (st .method)) 0 known)
+
+  pub variable-keeps : VariableKeeps st s out
+  variable-keeps =
       record {
         answered = answered;
-        refused-keeps-pool = refused-keeps-pool;
         untouched = untouched;
         cleared = cleared;
         past-due-kept = front .past;
         length-kept = front .size;
+        ends = variable-ends;
+        refused-keeps-state = variable-stays;
+        ended-refuses = ended-unheaded;
+      }
+
+-- where bytes are missing
+
+pub more-again : MoreAsksAgain
+more-again st s out wanted e t =
+    let kept : variableNext st (variableAnswer st s (length out)) ≡ st = variable-stays st s out (More wanted) e refl in
+    let same : variableOut st s out ≡ out = untouched st s out (More wanted) e (λ z. omega arith) in
+    record {
+      state-kept = kept;
+      buffer-kept = same;
+      same-answer = λ i. variableAnswer (kept i) (s ++ t) (length (same i));
+      same-buffer = λ i. variableOut (kept i) (s ++ t) (same i);
+      same-stream = λ i. variableNext (kept i) (variableAnswer st (s ++ t) (length out));
+      enough = λ there more again.
+          let a = more-tells st s out wanted e in
+          let b = more-tells st (s ++ t) out more again in
+          let size : a .size ≡ b .size = ap dueVariable (sym (a .at-turn) ∙ b .at-turn) in
+          omega (arith, there, a .asks, b .short, size);
+    }
+
+-- ---- turns
+
+either-way : {A : Type 0} (b : Bool) (x : A) → cond b x x ≡ x
+either-way true x = refl
+either-way false x = refl
+
+module _ (st : Receiver) (s out : List ℕ) where
+  -- refusal 1 of the call for a variable header, and what it leaves
+  variable-settings : variableAnswer st s (length out) ≡ Refused Settings
+      → (variableAnswer st s (length out) ≡ Refused Settings)
+      × ((variableNext st (variableAnswer st s (length out)) ≡ st) × (variableOut st s out ≡ out))
+  variable-settings e = (e, (variable-stays st s out Settings e refl, untouched st s out Settings e (λ z. omega arith)))
+
+  other-counter : (st .counter ≡ 1 → ⊥) → (st .turn ≡ Ended → ⊥) → (u : Turn) → st .turn ≡ u → variableAnswer st s (length out) ≡ Refused Settings
+  other-counter h g (Variable n) e =
+      answer-by st s out (eqb (keyLength (st .method)) 0) (Variable n) refl e
+      ∙ ap (λ (b : Bool). cond (eqb (keyLength (st .method)) 0) (Refused Settings) (cond b (headerAnswer (streamKey st) n s (length out)) (Refused Settings)))
+      (ne-eqb (st .counter) 1 h)
+      ∙ either-way (eqb (keyLength (st .method)) 0) (Refused Settings)
+  other-counter h g Length e =
+      answer-by st s out (eqb (keyLength (st .method)) 0) Length refl e ∙ either-way (eqb (keyLength (st .method)) 0) (Refused Settings)
+  other-counter h g (Payload n) e =
+      answer-by st s out (eqb (keyLength (st .method)) 0) (Payload n) refl e ∙ either-way (eqb (keyLength (st .method)) 0) (Refused Settings)
+  other-counter h g Ended e = absurd (g e)
+
+  step-at-variable : (n : ℕ) → st .turn ≡ Variable n → stepAnswer st s (length out) ≡ Unopened Settings
+  unfolding stepAnswer
+  step-at-variable n e =
+      ap (λ (u : Turn). cond (eqb (keyLength (st .method)) 0) (Unopened Settings) (turnAnswer u st s (length out))) e
+      ∙ either-way (eqb (keyLength (st .method)) 0) (Unopened Settings)
+
+  step-at-end : (keyLength (st .method) ≡ 0 → ⊥) → st .turn ≡ Ended → stepAnswer st s (length out) ≡ Unopened NotAuthentic
+  unfolding stepAnswer
+  step-at-end known e =
+      λ i. cond (ne-eqb (keyLength (st .method)) 0 known i) (Unopened Settings) (turnAnswer (e i) st s (length out))
+
+  turns : Turns st s out
+  unfolding stepOut
+  turns =
+      record {
+        step-at-variable = λ n e.
+            let a = step-at-variable n e in (
+              a,
+              (
+                ap (stepNext st) a,
+                ap (λ (x : Stepped). writtenBy x (st .turn) (openAt (streamKey st) (st .counter) (payloadPiece (st .turn) s)) out) a,
+              ),
+            );
+        variable-at-length = λ e. variable-settings (answer-by st s out (eqb (keyLength (st .method)) 0) Length refl e
+            ∙ either-way (eqb (keyLength (st .method)) 0) (Refused Settings));
+        variable-at-payload = λ n e. variable-settings (answer-by st s out (eqb (keyLength (st .method)) 0) (Payload n) refl e
+            ∙ either-way (eqb (keyLength (st .method)) 0) (Refused Settings));
+        variable-at-other-counter = λ h g. variable-settings (other-counter h g (st .turn) refl);
+        step-ended = step-at-end;
+        variable-ended = λ known e. answer-by st s out false Ended (ne-eqb (keyLength (st .method)) 0 known) e;
       }
 
 -- ---- a step
@@ -185,6 +294,7 @@ turn-among Length st s room =
     piece-among st 2 s 0 room (lengthAnswer (lengthRead st s)) (step-denied (isEmpty (lengthRead st s)) _ Empty refl refl)
 turn-among (Payload n) st s room = step-denied (isEmpty n) _ Settings (piece-among st n s n room _ refl) refl
 turn-among Ended st s room = refl
+turn-among (Variable n) st s room = refl
 
 among-step : (st : Receiver) (s : List ℕ) (room : ℕ) → amongSteps (stepAnswer st s room) ≡ true
 unfolding stepAnswer
@@ -198,23 +308,24 @@ turn-front (Payload n) key counter s out c d =
     let l : length (openAt key counter (take (n + 16) s)) ≡ n = omega (arith, length-openAt key counter (take (n + 16) s), t) in
     front-kept out (openAt key counter (take (n + 16) s)) n l (d .0 .has-room)
 turn-front Ended key counter s out c d = absurd d
+turn-front (Variable n) key counter s out c d = absurd d
 
--- no refusal but 4 and 14 ends a stream
-goes-on : (r : Refusal) → (refusalNumber r ≡ 4 → ⊥) → (refusalNumber r ≡ 14 → ⊥) → endsStream r ≡ false
-goes-on NotAuthentic not-4 not-14 = absurd (not-4 refl)
-goes-on Empty not-4 not-14 = absurd (not-14 refl)
-goes-on Settings not-4 not-14 = refl
-goes-on TooLong not-4 not-14 = refl
-goes-on Room not-4 not-14 = refl
-goes-on Malformed not-4 not-14 = refl
-goes-on WrongType not-4 not-14 = refl
-goes-on WrongTime not-4 not-14 = refl
-goes-on Replay not-4 not-14 = refl
-goes-on Full not-4 not-14 = refl
-goes-on (More wanted) not-4 not-14 = refl
-goes-on Counter not-4 not-14 = refl
-goes-on Argument not-4 not-14 = refl
-goes-on Binding not-4 not-14 = refl
+-- no refusal of a step but 4 and 14 ends a stream
+goes-on : (r : Refusal) → ofStep r ≡ true → (refusalNumber r ≡ 4 → ⊥) → (refusalNumber r ≡ 14 → ⊥) → endsStream r ≡ false
+goes-on NotAuthentic of not-4 not-14 = absurd (not-4 refl)
+goes-on Empty of not-4 not-14 = absurd (not-14 refl)
+goes-on Malformed of not-4 not-14 = sym of
+goes-on Settings of not-4 not-14 = refl
+goes-on TooLong of not-4 not-14 = refl
+goes-on Room of not-4 not-14 = refl
+goes-on WrongType of not-4 not-14 = refl
+goes-on WrongTime of not-4 not-14 = refl
+goes-on Replay of not-4 not-14 = refl
+goes-on Full of not-4 not-14 = refl
+goes-on (More wanted) of not-4 not-14 = refl
+goes-on Counter of not-4 not-14 = refl
+goes-on Argument of not-4 not-14 = refl
+goes-on Binding of not-4 not-14 = refl
 
 module _ (st : Receiver) (s out : List ℕ) where
   abbrev step : Stepped
@@ -233,7 +344,9 @@ module _ (st : Receiver) (s out : List ℕ) where
       ap (λ (a : Stepped). writtenBy a (st .turn) (openAt (streamKey st) (st .counter) (payloadPiece (st .turn) s)) out) e
 
   refused-keeps-state : (r : Refusal) → step ≡ Unopened r → (refusalNumber r ≡ 4 → ⊥) → (refusalNumber r ≡ 14 → ⊥) → stepNext st step ≡ st
-  refused-keeps-state r e not-4 not-14 = ap (stepNext st) e ∙ ap (λ (b : Bool). cond b (ended st) st) (goes-on r not-4 not-14)
+  refused-keeps-state r e not-4 not-14 =
+      ap (stepNext st) e
+      ∙ ap (λ (b : Bool). cond b (ended st) st) (goes-on r (ap amongSteps (sym e) ∙ among-step st s (length out)) not-4 not-14)
 
   forged-ends : step ≡ Unopened NotAuthentic → stepNext st step ≡ ended st
   forged-ends e = ap (stepNext st) e
@@ -439,12 +552,22 @@ empty-unsealed =
 -- ---- all of them
 
 pub streams-demand1 : StreamsDemand1
-streams-demand1 = record { requests = request-keeps; responses = response-keeps; steps = step-keeps; sealing = seal-keeps }
+streams-demand1 =
+    record {
+      requests = request-keeps;
+      variable-headers = variable-keeps;
+      more-again = more-again;
+      turns = turns;
+      responses = response-keeps;
+      steps = step-keeps;
+      sealing = seal-keeps;
+    }
 
 pub streams-demand2 : StreamsDemand2
 streams-demand2 =
     record {
       requests-exactly = request-exactly-when;
+      variable-headers-exactly = variable-exactly-when;
       responses-exactly = response-exactly-when;
       steps-exactly = step-exactly-when;
       empty-responses-exactly = response-empty-exactly-when;

@@ -20,7 +20,7 @@ use Rattle.protocol.specs.declared.Refusal.{Refusal}
 use Rattle.protocol.specs.declared.Refusal.the-variants.{Settings, Room, NotAuthentic, More, Counter, Empty}
 use Rattle.stream_pieces.specs.Pieces.{nonce, isEmpty, authenticAt, openAt, lastCounter}
 use Rattle.stream_open.specs.declared.Turn.{Turn}
-use Rattle.stream_open.specs.declared.Turn.the-variants.{Length, Payload, Ended}
+use Rattle.stream_open.specs.declared.Turn.the-variants.{Variable, Length, Payload, Ended}
 use Rattle.stream_open.specs.declared.Receiver.{Receiver}
 use Rattle.stream_open.specs.declared.Chunk.{Chunk}
 use Rattle.stream_open.specs.declared.Stepped.{Stepped}
@@ -120,6 +120,7 @@ turn-tells (Payload n) st s room c e =
       (some n (e₁ .test), sym (ap (λ (x : Stepped). chunkIn x c) (opened-good st n s n room good c (e₁ .then)))),
     )
 turn-tells Ended st s room c e = not-opened NotAuthentic c e
+turn-tells (Variable n) st s room c e = not-opened Settings c e
 
 turn-given : (turn : Turn) (st : Receiver) (s : List ℕ) (room : ℕ) (c : Chunk) → TurnOpens (streamKey st) (st .counter) turn s room c
     → turnAnswer turn st s room ≡ Opened c
@@ -134,12 +135,14 @@ turn-given (Payload n) st s room c p =
     ap (λ (b : Bool). cond b (Refused Settings) (pieceAnswer st n s n room good)) (ne-eqb n 0 (not-zero n (p .1 .0)))
     ∙ piece-given st n s n room good (p .0) ∙ ap Opened (sym (p .1 .1))
 turn-given Ended st s room c p = absurd p
+turn-given (Variable n) st s room c p = absurd p
 
 written : (turn : Turn) (key : List ℕ) (counter : ℕ) (s out : List ℕ) (c : Chunk)
     → writtenBy (Opened c) turn (openAt key counter (payloadPiece turn s)) out ≡ turnText key counter turn s out
 written Length key counter s out c = refl
 written (Payload n) key counter s out c = refl
 written Ended key counter s out c = refl
+written (Variable n) key counter s out c = refl
 
 module _ (st : Receiver) (s : List ℕ) (room : ℕ) (c : Chunk) where
   pub step-tells : stepAnswer st s room ≡ Opened c → StepOpens st s room c
@@ -213,6 +216,7 @@ module _ (st : Receiver) (s : List ℕ) (room : ℕ) where
           record { known = eqb-false (keyLength (st .method)) 0 eb; at-length = et; opens = p .0; says-0 = p .1 }
       go false (Payload n) eb et f = absurd (payload-emptied n f)
       go false Ended eb et f = absurd (not-emptied refl f)
+      go false (Variable n) eb et f = absurd (not-emptied refl f)
 
   empty-given : StepEmpty st s room → stepAnswer st s room ≡ Refused Empty
   unfolding stepAnswer lengthRead
@@ -230,6 +234,7 @@ turn-some : (turn : Turn) (key : List ℕ) (counter : ℕ) (s : List ℕ) (room 
 turn-some Length key counter s room c d = subst (λ (x : Chunk). 0 < x .length) (sym (d .1 .1)) (d .1 .0)
 turn-some (Payload n) key counter s room c d = subst (λ (x : Chunk). 0 < x .length) (sym (d .1 .1)) (d .1 .0)
 turn-some Ended key counter s room c d = absurd d
+turn-some (Variable n) key counter s room c d = absurd d
 
 step-some : (st : Receiver) (s : List ℕ) (room : ℕ) (c : Chunk) → stepAnswer st s room ≡ Opened c → 0 < c .length
 step-some st s room c e = turn-some (st .turn) (streamKey st) (st .counter) s room c (step-tells st s room c e .opens)
@@ -262,6 +267,7 @@ steps-some (suc k) f = go (answerTo f) (f .stream .turn) refl refl (steps-some k
     go (Opened c) (Payload n) ea et later = (handed-out f n c et ea, later)
     go (Opened c) Length ea et later = later
     go (Opened c) Ended ea et later = later
+    go (Opened c) (Variable n) ea et later = later
     go (Refused r) t ea et later = later
 
 pub no-empty-chunk : NoEmptyChunk

@@ -46,7 +46,7 @@ use Rattle.stream_pieces.specs.Pieces.{authenticAt, openAt, subkeyWords}
 use Rattle.stream_seal.specs.Sealing.{chunkAnswer}
 use Rattle.stream_seal_heads.specs.HeadSealing.{requestAnswer, responseAnswer}
 use Rattle.stream_open.specs.declared.Turn.{Turn}
-use Rattle.stream_open.specs.declared.Turn.the-variants.{Length, Payload, Ended}
+use Rattle.stream_open.specs.declared.Turn.the-variants.{Variable, Length, Payload, Ended}
 use Rattle.stream_open.specs.declared.Receiver.{Receiver}
 use Rattle.stream_open.specs.declared.Chunk.{Chunk}
 use Rattle.stream_open.specs.declared.Stepped.{Stepped}
@@ -60,6 +60,10 @@ use Rattle.stream_open_request.specs.declared.Request.{Request}
 use Rattle.stream_open_request.specs.declared.RequestOpened.{RequestOpened}
 use Rattle.stream_open_request.specs.declared.RequestOpened.the-variants.{Accepted, Refused as Unaccepted}
 use Rattle.stream_open_request.specs.Requests.{openedRequest}
+use Rattle.stream_open_variable.specs.declared.VariableHeader.{VariableHeader}
+use Rattle.stream_open_variable.specs.declared.VariableOpened.{VariableOpened}
+use Rattle.stream_open_variable.specs.declared.VariableOpened.the-variants.{Header as Headed, Refused as Unheaded}
+use Rattle.stream_open_variable.specs.Variable.{variableAnswer}
 use Rattle.demands.specs.Datagrams.{tagGood}
 
 -- ---- the first of a list
@@ -177,7 +181,7 @@ module _ (method : ℕ) (key : List ℕ) (client : Option ℕ) (clock : ℕ) (s 
         payload = addressIn address .end;
       }
 
--- ---- opening a request's head: 1, 10 (fixed part), 4, 6, 7, 8, 9, 10 (variable part), 3, 4, 5
+-- ---- opening a request's head, first the front: 1, 10, 4, 6, 7, 8, 9
 
 abbrev pub isReplay : Met → Bool
 isReplay Replay = true
@@ -189,18 +193,11 @@ isFull Full = true
 isFull (Room i) = false
 isFull Replay = false
 
--- no address, no padding length behind it, padding over 900, padding past the chunk, or padding 0 with no payload
-abbrev pub badVariable : Parsed → List ℕ → Bool
-badVariable (Found a) v =
-    let n = be 2 (drop (a .end) v) in
-    ltb (length v) (a .end + 2) || (ltb 900 n || (ltb (length v) (a .end + 2 + n) || eqb n 0 && eqb (length v) (a .end + 2)))
-badVariable Malformed v = true
-
 abbrev pub saidRequest : RequestOpened → Said (Request × Receiver)
 saidRequest (Accepted h st) = gives (h, st)
 saidRequest (Unaccepted r) = refusesWith r
 
-module _ (method : ℕ) (key : List ℕ) (clock : ℕ) (s pool out : List ℕ) where
+module _ (method : ℕ) (key : List ℕ) (clock : ℕ) (s pool : List ℕ) where
   abbrev n : ℕ
   n = saltLength method
 
@@ -219,15 +216,6 @@ module _ (method : ℕ) (key : List ℕ) (clock : ℕ) (s pool out : List ℕ) w
   abbrev size : ℕ
   size = be 2 (drop 9 fixed)
 
-  abbrev variablePiece : List ℕ
-  variablePiece = take (size + 16) (drop (n + 27) s)
-
-  abbrev variable : List ℕ
-  variable = openAt k 1 variablePiece
-
-  abbrev found : Address
-  found = addressIn (parseAt variable 0)
-
   abbrev pub requestOrder : List Rule
   requestOrder =
       rule 1 (otherKey method (length key) || not (lawfulPool pool method))
@@ -237,25 +225,77 @@ module _ (method : ℕ) (key : List ℕ) (clock : ℕ) (s pool out : List ℕ) w
       ∷ rule 7 (not (timeValid (be 8 (drop 1 fixed)) clock))
       ∷ rule 8 (isReplay (meet pool clock salt))
       ∷ rule 9 (isFull (meet pool clock salt))
-      ∷ more (n + 27 + size + 16) (ltb (length s) (n + 27 + size + 16))
-      ∷ rule 3 (ltb (length out) size)
-      ∷ rule 4 (not (authenticAt k 1 variablePiece))
-      ∷ rule 5 (badVariable (parseAt variable 0) variable)
       ∷ []
 
   abbrev pub requestOpened : Request × Receiver
   requestOpened = (
-    record {
-      target = found .target;
-      port = found .port;
-      time = be 8 (drop 1 fixed);
-      padding = be 2 (drop (found .end) variable);
-      payload = found .end + 2 + be 2 (drop (found .end) variable);
-      length = size;
-      used = n + 27 + size + 16;
-    },
-    record { method = method; turn = Length; counter = 2; subkey = subkeyWords k },
+    record { time = be 8 (drop 1 fixed); length = size; used = n + 27 },
+    record { method = method; turn = Variable size; counter = 1; subkey = subkeyWords k },
   )
+
+-- ---- then the variable header: 1, 4 (ended), 10, 3, 4, 5
+
+-- a stream that has ended
+abbrev pub isEnded : Turn → Bool
+isEnded Length = false
+isEnded (Payload m) = false
+isEnded Ended = true
+isEnded (Variable m) = false
+
+-- one that is not at this turn, or not with counter 1; one that has ended is at no turn
+abbrev pub otherTurn : Turn → (counter : ℕ) → Bool
+otherTurn (Variable m) counter = not (eqb counter 1)
+otherTurn Length counter = true
+otherTurn (Payload m) counter = true
+otherTurn Ended counter = false
+
+-- no address, no padding length behind it, padding over 900, padding past the chunk, or padding 0 with no payload
+abbrev pub badVariable : Parsed → List ℕ → Bool
+badVariable (Found a) v =
+    let n = be 2 (drop (a .end) v) in
+    ltb (length v) (a .end + 2) || (ltb 900 n || (ltb (length v) (a .end + 2 + n) || eqb n 0 && eqb (length v) (a .end + 2)))
+badVariable Malformed v = true
+
+abbrev pub headerSize : Turn → ℕ
+headerSize (Variable m) = m
+headerSize Length = 0
+headerSize (Payload m) = 0
+headerSize Ended = 0
+
+abbrev pub saidVariable : VariableOpened → Said VariableHeader
+saidVariable (Headed h) = gives h
+saidVariable (Unheaded r) = refusesWith r
+
+module _ (st : Receiver) (s : List ℕ) (room : ℕ) where
+  abbrev bytes : ℕ
+  bytes = headerSize (st .turn)
+
+  abbrev variable : List ℕ
+  variable = openAt (streamKey st) 1 (take (bytes + 16) s)
+
+  abbrev found : Address
+  found = addressIn (parseAt variable 0)
+
+  abbrev pub variableOrder : List Rule
+  variableOrder =
+      rule 1 (otherMethod (st .method) || otherTurn (st .turn) (st .counter))
+      ∷ rule 4 (isEnded (st .turn))
+      ∷ more (bytes + 16) (ltb (length s) (bytes + 16))
+      ∷ rule 3 (ltb room bytes)
+      ∷ rule 4 (not (authenticAt (streamKey st) 1 (take (bytes + 16) s)))
+      ∷ rule 5 (badVariable (parseAt variable 0) variable)
+      ∷ []
+
+  abbrev pub headerOpened : VariableHeader
+  headerOpened =
+      record {
+        target = found .target;
+        port = found .port;
+        padding = be 2 (drop (found .end) variable);
+        payload = found .end + 2 + be 2 (drop (found .end) variable);
+        length = bytes;
+        used = bytes + 16;
+      }
 
 -- ---- opening a response's head: 1, 10, 4, 6, 7, 13, 14
 
@@ -298,39 +338,40 @@ module _ (method : ℕ) (key : List ℕ) (clock : ℕ) (requestSalt s : List ℕ
 
 -- ---- a step: 1, 4 (ended), 11, 10, 3, 4, 14 (a length of 0)
 
-abbrev pub isEnded : Turn → Bool
-isEnded Length = false
-isEnded (Payload m) = false
-isEnded Ended = true
-
--- a payload of 0 bytes is next, which no length says that is accepted
-abbrev pub atNothing : Turn → Bool
-atNothing Length = false
-atNothing (Payload m) = eqb m 0
-atNothing Ended = false
+-- no step's turn: a payload of 0 bytes is next, which no length says that is accepted, or a request's variable header, which is
+-- another call's
+abbrev pub noStep : Turn → Bool
+noStep Length = false
+noStep (Payload m) = eqb m 0
+noStep Ended = false
+noStep (Variable m) = true
 
 -- the length read is 0
 abbrev pub emptyLength : Turn → (read : ℕ) → Bool
 emptyLength Length read = eqb read 0
 emptyLength (Payload m) read = false
 emptyLength Ended read = false
+emptyLength (Variable m) read = false
 
 -- the plaintext of the piece that is next, and the bytes due, which a length has none of
 abbrev pub textBytes : Turn → ℕ
 textBytes Length = 2
 textBytes (Payload m) = m
 textBytes Ended = 0
+textBytes (Variable m) = m
 
 abbrev pub dueBytes : Turn → ℕ
 dueBytes Length = 0
 dueBytes (Payload m) = m
 dueBytes Ended = 0
+dueBytes (Variable m) = m
 
 -- the length read, or the payload's
 abbrev pub lengthTold : Turn → (read : ℕ) → ℕ
 lengthTold Length read = read
 lengthTold (Payload m) read = m
 lengthTold Ended read = 0
+lengthTold (Variable m) read = m
 
 abbrev pub saidStep : Stepped → Said Chunk
 saidStep (Opened c) = gives c
@@ -342,7 +383,7 @@ module _ (st : Receiver) (s : List ℕ) (room : ℕ) where
 
   abbrev pub stepOrder : List Rule
   stepOrder =
-      rule 1 (otherMethod (st .method) || atNothing (st .turn))
+      rule 1 (otherMethod (st .method) || noStep (st .turn))
       ∷ rule 4 (isEnded (st .turn))
       ∷ rule 11 (eqb (st .counter) (2 ^ 64 - 1))
       ∷ more (textBytes (st .turn) + 16) (ltb (length s) (textBytes (st .turn) + 16))
@@ -471,9 +512,11 @@ pub record Orders : Type 0 where
   pub datagram-opened : (method : ℕ) (key : List ℕ) (client : Option ℕ) (clock : ℕ) (peer : Peer) (s t out : List ℕ)
       → saidOpened (openAnswer method key client clock peer s t out)
       ≡ first (openOrder method key client clock s t out) (openedHeader method key client clock s t out)
-  pub request-opened : (method : ℕ) (key : List ℕ) (clock : ℕ) (s pool out : List ℕ)
-      → saidRequest (openedRequest method key clock s pool out)
-      ≡ first (requestOrder method key clock s pool out) (requestOpened method key clock s pool out)
+  pub request-opened : (method : ℕ) (key : List ℕ) (clock : ℕ) (s pool : List ℕ)
+      → saidRequest (openedRequest method key clock s pool)
+      ≡ first (requestOrder method key clock s pool) (requestOpened method key clock s pool)
+  pub variable-opened : (st : Receiver) (s : List ℕ) (room : ℕ)
+      → saidVariable (variableAnswer st s room) ≡ first (variableOrder st s room) (headerOpened st s room)
   pub response-opened : (method : ℕ) (key : List ℕ) (clock : ℕ) (requestSalt s : List ℕ)
       → saidResponse (openedResponse method key clock requestSalt s)
       ≡ first (responseOrder method key clock requestSalt s) (responseOpened method key clock requestSalt s)

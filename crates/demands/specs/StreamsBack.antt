@@ -23,18 +23,20 @@ use Rattle.stream_pieces.specs.Pieces.{nonce, sealAt}
 use Rattle.stream_seal.specs.Sealing.{chunk, senderKey, chunkAnswer}
 use Rattle.stream_seal_heads.specs.HeadSealing.{variablePart, variableLength, request, response, requestAnswer, responseAnswer}
 use Rattle.stream_open.specs.declared.Turn.{Turn}
-use Rattle.stream_open.specs.declared.Turn.the-variants.{Length, Payload, Ended}
+use Rattle.stream_open.specs.declared.Turn.the-variants.{Variable, Length, Payload, Ended}
 use Rattle.stream_open.specs.declared.Receiver.{Receiver}
 use Rattle.stream_open.specs.declared.Chunk.{Chunk}
 use Rattle.stream_open.specs.declared.Stepped.{Stepped}
 use Rattle.stream_open.specs.declared.Stepped.the-variants.{Opened, Refused as Unopened}
 use Rattle.stream_open_response.specs.declared.ResponseOpened.the-variants.{Accepted as Answered}
-use Rattle.stream_open_request.specs.declared.Request.{Request}
 use Rattle.stream_open_request.specs.declared.RequestOpened.the-variants.{Accepted}
 use Rattle.stream_open.specs.Chunks.{receiver, streamKey, stepAnswer, stepOut, stepNext}
 use Rattle.stream_open_response.specs.Responses.{openedResponse}
-use Rattle.stream_open_request.specs.Requests.{openedRequest, requestOut, requestPool}
-use Rattle.demands.specs.StreamsOpen.{RequestExactlyWhen, ResponseExactlyWhen, ResponseEmptyExactlyWhen, TurnOpens, turnText, StepExactlyWhen, StepEmptyExactlyWhen}
+use Rattle.stream_open_request.specs.Requests.{openedRequest, requestPool}
+use Rattle.stream_open_variable.specs.declared.VariableHeader.{VariableHeader}
+use Rattle.stream_open_variable.specs.declared.VariableOpened.the-variants.{Header}
+use Rattle.stream_open_variable.specs.Variable.{variableAnswer, variableOut, variableNext}
+use Rattle.demands.specs.StreamsOpen.{RequestExactlyWhen, VariableExactlyWhen, ResponseExactlyWhen, ResponseEmptyExactlyWhen, TurnOpens, turnText, StepExactlyWhen, StepEmptyExactlyWhen}
 
 -- ---- one chunk
 
@@ -71,36 +73,54 @@ ChunksGivenBack =
     (s next : Sender) (payload : List ℕ) (space n : ℕ) → chunkAnswer s (length payload) space ≡ Bytes n next
     → (rest out : List ℕ) → length payload ≤ length out → ChunkBack s next n payload rest out
 
--- ---- a request's head
+-- ---- a request's head, in two calls
 
--- the header of what was sealed, where a is what the address says; so many bytes were used
-abbrev pub requestHeader : (time address : ℕ) → Address → (padding payload used : ℕ) → Request
-requestHeader time address a padding payload used =
+-- the variable header of what was sealed, where a is what the address says
+abbrev pub sealedHeader : (address : ℕ) → Address → (padding payload : ℕ) → VariableHeader
+sealedHeader address a padding payload =
     record {
       target = a .target;
       port = a .port;
-      time = time;
       padding = padding;
       payload = address + 2 + padding;
       length = variableLength address padding payload;
-      used = used;
+      used = variableLength address padding payload + 16;
     }
 
--- a request's head of n bytes, sealed at `time`, which left its sender as `next`, with `rest` behind it: the call at the clock
--- `later` on a pool with room for its salt in a place
+-- the stream between the two calls, where the variable header has so many bytes
+abbrev pub between : (method : ℕ) → Sender → (size : ℕ) → Receiver
+between method next size = receiver method (Variable size) 1 (next .subkey)
+
+-- a request's head of n bytes, sealed at `time`, which left its sender as `next`, with `rest` behind it: the call for the front at the
+-- clock `later` on a pool with room for its salt in a place, and then the call for the variable header on the bytes behind it
 pub record RequestBack (method : ℕ) (key salt : List ℕ) (time : ℕ) (address : List ℕ) (padding : ℕ) (payload : List ℕ) (n : ℕ) (next : Sender) (later : ℕ) (rest pool : List ℕ) (place : ℕ) (out : List ℕ) : Type 0 where
   pub sealed-length : length (request key salt time address padding payload) ≡ n
+  -- the front
+  pub accepted : openedRequest method key later (request key salt time address padding payload ++ rest) pool
+      ≡ Accepted
+      (record { time = time; length = variableLength (length address) padding (length payload); used = length salt + 27 })
+      (between method next (variableLength (length address) padding (length payload)))
+  pub stored : requestPool method key later (request key salt time address padding payload ++ rest) pool ≡ store pool place later salt
+  -- the variable header
   pub target : Address
   pub target-sealed : parseAt address 0 ≡ Found target
-  -- the header, and a stream that goes on with a length, with counter 2, under the sender's subkey
-  pub accepted : openedRequest method key later (request key salt time address padding payload ++ rest) pool out
-      ≡ Accepted (requestHeader time (length address) target padding (length payload) n) (partner next)
-  pub counter-two : next .counter ≡ 2
-  pub text : requestOut method key later (request key salt time address padding payload ++ rest) pool out
+  pub variable-read : variableAnswer (between method next (variableLength (length address) padding (length payload)))
+      (drop (length salt + 27) (request key salt time address padding payload ++ rest)) (length out)
+      ≡ Header (sealedHeader (length address) target padding (length payload))
+  pub text : variableOut (between method next (variableLength (length address) padding (length payload)))
+      (drop (length salt + 27) (request key salt time address padding payload ++ rest)) out
       ≡ put out 0 (variablePart address padding payload)
   pub payload-there : drop (length address + 2 + padding) (variablePart address padding payload) ≡ payload
-  pub stored : requestPool method key later (request key salt time address padding payload ++ rest) pool out ≡ store pool place later salt
-  pub left : drop n (request key salt time address padding payload ++ rest) ≡ rest
+  -- a stream that goes on with a length, with counter 2, under the sender's subkey
+  pub variable-next : variableNext (between method next (variableLength (length address) padding (length payload)))
+      (Header (sealedHeader (length address) target padding (length payload)))
+      ≡ partner next
+  pub counter-two : next .counter ≡ 2
+  -- the two use all of it
+  pub used-all : length salt + 27 + (variableLength (length address) padding (length payload) + 16) ≡ n
+  pub left : drop (variableLength (length address) padding (length payload) + 16)
+      (drop (length salt + 27) (request key salt time address padding payload ++ rest))
+      ≡ rest
 
 abbrev pub RequestsGivenBack : Type 0
 RequestsGivenBack =
@@ -171,6 +191,7 @@ abbrev pub gives : Stepped → Turn → List ℕ → List (List ℕ) → List (L
 gives (Opened c) (Payload n) out more = take n out ∷ more
 gives (Opened c) Length out more = more
 gives (Opened c) Ended out more = more
+gives (Opened c) (Variable n) out more = more
 gives (Unopened r) turn out more = more
 
 abbrev pub received : (k : ℕ) → Flow → List (List ℕ)
@@ -296,7 +317,9 @@ pub record RequestStream (method : ℕ) (key salt : List ℕ) (time : ℕ) (addr
   pub chunks : StreamBack (2 * length payloads)
       (record {
         stream = partner next;
-        bytes = drop n (request key salt time address padding payload ++ (sentAll space next payloads ++ rest));
+        bytes =
+            drop (variableLength (length address) padding (length payload) + 16)
+            (drop (length salt + 27) (request key salt time address padding payload ++ (sentAll space next payloads ++ rest)));
         buffer = buffer;
       })
       payloads (senderAfter space next payloads) rest
@@ -335,6 +358,7 @@ ResponseStreamsGivenBack =
 pub record StreamsDemand2 : Type 0 where
   -- accepted exactly when
   pub requests-exactly : RequestExactlyWhen
+  pub variable-headers-exactly : VariableExactlyWhen
   pub responses-exactly : ResponseExactlyWhen
   pub steps-exactly : StepExactlyWhen
   -- 14 exactly when

@@ -2,24 +2,22 @@
 -- Assumes nothing.
 use mathlib.Core.Path.{_≡_}
 use mathlib.Core.Bool.{Bool, true, false, _||_}
-use mathlib.Core.List.{List, [], _∷_}
+use mathlib.Core.List.{List, [], _∷_, _++_}
 use Prim.Native.Nat.{ℕ, _-_, _≤_}
 use lib.ListN.{length, take, drop, replicate}
 use Rattle.octets.specs.Buffers.{put}
 use Rattle.octets.specs.Numbers.{be}
 use Rattle.protocol.specs.declared.Refusal.{Refusal}
-use Rattle.protocol.specs.declared.Refusal.the-variants.{NotAuthentic, Malformed, Empty}
+use Rattle.protocol.specs.declared.Refusal.the-variants.{Settings, NotAuthentic, Malformed, More, Empty}
 use Rattle.protocol.specs.Refusal.{refusalNumber}
-use Rattle.protocol.specs.Subkey.{subkey}
 use Rattle.protocol.specs.Method.{keyLength, saltLength}
 use Rattle.stream_seal.specs.declared.Sender.{Sender}
 use Rattle.stream_seal.specs.declared.Sealed.{Sealed}
 use Rattle.stream_seal.specs.declared.Sealed.the-variants.{Bytes, Refused as Unsealed}
-use Rattle.stream_pieces.specs.Pieces.{openAt}
 use Rattle.stream_seal.specs.Sealing.{chunk, senderKey, chunkAnswer, sealOut}
 use Rattle.stream_seal_heads.specs.HeadSealing.{request, response, requestAnswer, responseAnswer}
 use Rattle.stream_open.specs.declared.Turn.{Turn}
-use Rattle.stream_open.specs.declared.Turn.the-variants.{Length, Payload, Ended}
+use Rattle.stream_open.specs.declared.Turn.the-variants.{Variable, Length, Payload, Ended}
 use Rattle.stream_open.specs.declared.Receiver.{Receiver}
 use Rattle.stream_open.specs.declared.Chunk.{Chunk}
 use Rattle.stream_open.specs.declared.Stepped.{Stepped}
@@ -30,9 +28,12 @@ use Rattle.stream_open_response.specs.declared.ResponseOpened.the-variants.{Acc
 use Rattle.stream_open_request.specs.declared.Request.{Request}
 use Rattle.stream_open_request.specs.declared.RequestOpened.{RequestOpened}
 use Rattle.stream_open_request.specs.declared.RequestOpened.the-variants.{Accepted, Refused as Unaccepted}
-use Rattle.stream_heads.specs.Heads.{fixedOf}
 use Rattle.stream_open_response.specs.Responses.{openedResponse}
-use Rattle.stream_open_request.specs.Requests.{openedRequest, requestOut, requestPool}
+use Rattle.stream_open_request.specs.Requests.{openedRequest, requestPool}
+use Rattle.stream_open_variable.specs.declared.VariableHeader.{VariableHeader}
+use Rattle.stream_open_variable.specs.declared.VariableOpened.{VariableOpened}
+use Rattle.stream_open_variable.specs.declared.VariableOpened.the-variants.{Header, Refused as Unheaded}
+use Rattle.stream_open_variable.specs.Variable.{variableAnswer, variableOut, variableNext}
 use Rattle.stream_open.specs.Chunks.{stepAnswer, stepOut, ended, stepNext}
 use lib.Dec.{eqb}
 
@@ -42,9 +43,17 @@ abbrev pub among : List ℕ → ℕ → Bool
 among [] n = false
 among (k ∷ ks) n = eqb n k || among ks n
 
--- by a request's head
+-- by the call for a request's front
 abbrev pub ofRequest : Refusal → Bool
-ofRequest r = among (1 ∷ 3 ∷ 4 ∷ 5 ∷ 6 ∷ 7 ∷ 8 ∷ 9 ∷ 10 ∷ []) (refusalNumber r)
+ofRequest r = among (1 ∷ 4 ∷ 6 ∷ 7 ∷ 8 ∷ 9 ∷ 10 ∷ []) (refusalNumber r)
+
+-- by the call for its variable header
+abbrev pub ofVariable : Refusal → Bool
+ofVariable r = among (1 ∷ 3 ∷ 4 ∷ 5 ∷ 10 ∷ []) (refusalNumber r)
+
+-- those of them that end the stream
+abbrev pub endsVariable : Refusal → Bool
+endsVariable r = among (4 ∷ 5 ∷ []) (refusalNumber r)
 
 -- by the fixed header of a head
 abbrev pub ofFront : Refusal → Bool
@@ -68,7 +77,7 @@ responseSealer = 1 ∷ 2 ∷ 3 ∷ 14 ∷ []
 abbrev pub chunkSealer : List ℕ
 chunkSealer = 1 ∷ 2 ∷ 3 ∷ 11 ∷ 14 ∷ []
 
--- ---- a request's head
+-- ---- the front of a request's head
 
 -- the salt that a head begins with
 abbrev pub saltOf : ℕ → List ℕ → List ℕ
@@ -81,27 +90,82 @@ timeIn plain = be 8 (drop 1 plain)
 abbrev pub lengthIn : List ℕ → ℕ
 lengthIn plain = be 2 (drop (length plain - 2) plain)
 
--- the bytes due: the length that the fixed header gives
-abbrev pub dueOf : ℕ → List ℕ → List ℕ → ℕ
-dueOf method key s = lengthIn (openAt (subkey key (saltOf method s)) 0 (fixedOf (saltLength method) 0 s))
-
 pub data RequestAnswered (a : RequestOpened) : Type 0 where
   accepted-request : (h : Request) (st : Receiver) → a ≡ Accepted h st → RequestAnswered a
   refused-request : (r : Refusal) → ofRequest r ≡ true → a ≡ Unaccepted r → RequestAnswered a
 
-pub record RequestKeeps (method : ℕ) (key : List ℕ) (clock : ℕ) (s pool out : List ℕ) : Type 0 where
-  pub answered : RequestAnswered (openedRequest method key clock s pool out)
-  -- no refusal changes the pool
-  pub refused-keeps-pool : (r : Refusal) → openedRequest method key clock s pool out ≡ Unaccepted r → requestPool method key clock s pool out ≡ pool
+-- there is no buffer to write to, and no refusal changes the pool
+pub record RequestKeeps (method : ℕ) (key : List ℕ) (clock : ℕ) (s pool : List ℕ) : Type 0 where
+  pub answered : RequestAnswered (openedRequest method key clock s pool)
+  pub refused-keeps-pool : (r : Refusal) → openedRequest method key clock s pool ≡ Unaccepted r → requestPool method key clock s pool ≡ pool
+
+-- ---- its variable header, which has no pool
+
+pub data VariableAnswered (a : VariableOpened) : Type 0 where
+  opened-variable : (h : VariableHeader) → a ≡ Header h → VariableAnswered a
+  refused-variable : (r : Refusal) → ofVariable r ≡ true → a ≡ Unheaded r → VariableAnswered a
+
+-- the bytes due: the variable header's
+abbrev pub dueVariable : Turn → ℕ
+dueVariable (Variable n) = n
+dueVariable Length = 0
+dueVariable (Payload n) = 0
+dueVariable Ended = 0
+
+pub record VariableKeeps (st : Receiver) (s out : List ℕ) : Type 0 where
+  pub answered : VariableAnswered (variableAnswer st s (length out))
   -- none but 5 touches the buffer
-  pub untouched : (r : Refusal) → openedRequest method key clock s pool out ≡ Unaccepted r → (refusalNumber r ≡ 5 → ⊥)
-      → requestOut method key clock s pool out ≡ out
+  pub untouched : (r : Refusal) → variableAnswer st s (length out) ≡ Unheaded r → (refusalNumber r ≡ 5 → ⊥) → variableOut st s out ≡ out
   -- and 5 sets the bytes due to zero
-  pub cleared : openedRequest method key clock s pool out ≡ Unaccepted Malformed
-      → (dueOf method key s ≤ length out) × (requestOut method key clock s pool out ≡ put out 0 (replicate (dueOf method key s) 0))
+  pub cleared : variableAnswer st s (length out) ≡ Unheaded Malformed
+      → (dueVariable (st .turn) ≤ length out) × (variableOut st s out ≡ put out 0 (replicate (dueVariable (st .turn)) 0))
   -- the bytes past them never change, whatever is answered
-  pub past-due-kept : drop (dueOf method key s) (requestOut method key clock s pool out) ≡ drop (dueOf method key s) out
-  pub length-kept : length (requestOut method key clock s pool out) ≡ length out
+  pub past-due-kept : drop (dueVariable (st .turn)) (variableOut st s out) ≡ drop (dueVariable (st .turn)) out
+  pub length-kept : length (variableOut st s out) ≡ length out
+  -- 4 and 5 end the stream, and no other refusal moves it
+  pub ends : (r : Refusal) → variableAnswer st s (length out) ≡ Unheaded r → endsVariable r ≡ true
+      → variableNext st (variableAnswer st s (length out)) ≡ ended st
+  pub refused-keeps-state : (r : Refusal) → variableAnswer st s (length out) ≡ Unheaded r → endsVariable r ≡ false
+      → variableNext st (variableAnswer st s (length out)) ≡ st
+  -- a stream that has ended opens nothing any more
+  pub ended-refuses : (keyLength (st .method) ≡ 0 → ⊥) → (bytes : List ℕ) (room : ℕ) → variableAnswer (ended st) bytes room ≡ Unheaded NotAuthentic
+
+-- Where bytes are missing the same call is made again, with t behind them: it goes on from a state and a buffer that are as they
+-- were, so it is one call on all bytes. With as many as were wanted none is missing any more.
+pub record MoreAgain (st : Receiver) (s out : List ℕ) (wanted : ℕ) (t : List ℕ) : Type 0 where
+  pub state-kept : variableNext st (variableAnswer st s (length out)) ≡ st
+  pub buffer-kept : variableOut st s out ≡ out
+  pub same-answer : variableAnswer (variableNext st (variableAnswer st s (length out))) (s ++ t) (length (variableOut st s out))
+      ≡ variableAnswer st (s ++ t) (length out)
+  pub same-buffer : variableOut (variableNext st (variableAnswer st s (length out))) (s ++ t) (variableOut st s out)
+      ≡ variableOut st (s ++ t) out
+  pub same-stream : variableNext (variableNext st (variableAnswer st s (length out))) (variableAnswer st (s ++ t) (length out))
+      ≡ variableNext st (variableAnswer st (s ++ t) (length out))
+  pub enough : wanted ≤ length (s ++ t) → (more : ℕ) → variableAnswer st (s ++ t) (length out) ≡ Unheaded (More more) → ⊥
+
+abbrev pub MoreAsksAgain : Type 0
+MoreAsksAgain =
+    (st : Receiver) (s out : List ℕ) (wanted : ℕ) → variableAnswer st s (length out) ≡ Unheaded (More wanted)
+    → (t : List ℕ) → MoreAgain st s out wanted t
+
+-- ---- turns: a call on a stream at another turn is 1 and leaves it; one that has ended is at no turn, and is 4
+
+pub record Turns (st : Receiver) (s out : List ℕ) : Type 0 where
+  pub step-at-variable : (n : ℕ) → st .turn ≡ Variable n
+      → (stepAnswer st s (length out) ≡ Unopened Settings)
+      × ((stepNext st (stepAnswer st s (length out)) ≡ st) × (stepOut st s out ≡ out))
+  pub variable-at-length : st .turn ≡ Length
+      → (variableAnswer st s (length out) ≡ Unheaded Settings)
+      × ((variableNext st (variableAnswer st s (length out)) ≡ st) × (variableOut st s out ≡ out))
+  pub variable-at-payload : (n : ℕ) → st .turn ≡ Payload n
+      → (variableAnswer st s (length out) ≡ Unheaded Settings)
+      × ((variableNext st (variableAnswer st s (length out)) ≡ st) × (variableOut st s out ≡ out))
+  -- the call for the front hands on counter 1
+  pub variable-at-other-counter : (st .counter ≡ 1 → ⊥) → (st .turn ≡ Ended → ⊥)
+      → (variableAnswer st s (length out) ≡ Unheaded Settings)
+      × ((variableNext st (variableAnswer st s (length out)) ≡ st) × (variableOut st s out ≡ out))
+  pub step-ended : (keyLength (st .method) ≡ 0 → ⊥) → st .turn ≡ Ended → stepAnswer st s (length out) ≡ Unopened NotAuthentic
+  pub variable-ended : (keyLength (st .method) ≡ 0 → ⊥) → st .turn ≡ Ended → variableAnswer st s (length out) ≡ Unheaded NotAuthentic
 
 -- ---- a response's head, which writes nothing
 
@@ -120,6 +184,7 @@ abbrev pub dueAt : Turn → ℕ
 dueAt Length = 0
 dueAt (Payload n) = n
 dueAt Ended = 0
+dueAt (Variable n) = 0
 
 pub record StepKeeps (st : Receiver) (s out : List ℕ) : Type 0 where
   pub answered : StepAnswered (stepAnswer st s (length out))
@@ -160,7 +225,10 @@ pub record SealersKeep : Type 0 where
 -- ---- demand 1
 
 pub record StreamsDemand1 : Type 0 where
-  pub requests : (method : ℕ) (key : List ℕ) (clock : ℕ) (s pool out : List ℕ) → RequestKeeps method key clock s pool out
+  pub requests : (method : ℕ) (key : List ℕ) (clock : ℕ) (s pool : List ℕ) → RequestKeeps method key clock s pool
+  pub variable-headers : (st : Receiver) (s out : List ℕ) → VariableKeeps st s out
+  pub more-again : MoreAsksAgain
+  pub turns : (st : Receiver) (s out : List ℕ) → Turns st s out
   pub responses : (method : ℕ) (key : List ℕ) (clock : ℕ) (requestSalt s : List ℕ) → ResponseAnswered (openedResponse method key clock requestSalt s)
   pub steps : (st : Receiver) (s out : List ℕ) → StepKeeps st s out
   pub sealing : SealersKeep

@@ -5,7 +5,7 @@ use mathlib.Core.Bool.{true}
 use mathlib.Core.List.{List}
 use mathlib.Core.Logic.{_↔_}
 use Prim.Native.Nat.{ℕ, _+_, _≤_, _<_}
-use lib.ListN.{length, getD, take, drop}
+use lib.ListN.{length, getD, take}
 use Rattle.octets.specs.Buffers.{put}
 use Rattle.octets.specs.Numbers.{be}
 use Rattle.protocol.specs.declared.Refusal.the-variants.{Empty}
@@ -15,12 +15,12 @@ use Rattle.protocol.specs.Time.{timeValid}
 use Rattle.socks5.specs.declared.Address.{Address}
 use Rattle.socks5.specs.declared.Parsed.the-variants.{Found}
 use Rattle.socks5.specs.Address.{parseAt}
-use Rattle.salt_pool.specs.declared.Met.the-variants.{Room as Free}
-use Rattle.salt_pool.specs.Pool.{meet, store}
+use Rattle.salt_pool.specs.Pool.{store}
+use Rattle.salt_pool.specs.Runs.{Unkept, LowestFree}
 use Rattle.stream_pieces.specs.Pieces.{authenticAt, openAt, subkeyWords, lastCounter}
 use Rattle.stream_heads.specs.Heads.{maxPadding, frontLength, fixedOf}
 use Rattle.stream_open.specs.declared.Turn.{Turn}
-use Rattle.stream_open.specs.declared.Turn.the-variants.{Length, Payload, Ended}
+use Rattle.stream_open.specs.declared.Turn.the-variants.{Variable, Length, Payload, Ended}
 use Rattle.stream_open.specs.declared.Receiver.{Receiver}
 use Rattle.stream_open.specs.declared.Chunk.{Chunk}
 use Rattle.stream_open.specs.declared.Stepped.the-variants.{Opened, Refused as Unopened}
@@ -30,7 +30,10 @@ use Rattle.stream_open_request.specs.declared.Request.{Request}
 use Rattle.stream_open_request.specs.declared.RequestOpened.the-variants.{Accepted}
 use Rattle.stream_open.specs.Chunks.{receiver, streamKey, stepAnswer, stepOut}
 use Rattle.stream_open_response.specs.Responses.{bindingOf, openedResponse}
-use Rattle.stream_open_request.specs.Requests.{paddingAt, settings, openedRequest, requestOut, requestPool}
+use Rattle.stream_open_request.specs.Requests.{settings, openedRequest, requestPool}
+use Rattle.stream_open_variable.specs.declared.VariableHeader.{VariableHeader}
+use Rattle.stream_open_variable.specs.declared.VariableOpened.the-variants.{Header}
+use Rattle.stream_open_variable.specs.Variable.{paddingAt, variableAnswer, variableOut, variableNext}
 use Rattle.demands.specs.StreamsKeep.{saltOf, timeIn, lengthIn}
 
 -- ---- a head is accepted exactly when
@@ -43,9 +46,35 @@ pub record FixedOpens (key : List ℕ) (kind clock : ℕ) (s : List ℕ) (time s
   pub says-time : time ≡ timeIn (openAt key 0 s)
   pub says-length : size ≡ lengthIn (openAt key 0 s)
 
--- a variable header: an address at its start, and behind it a padding of at most 900 bytes, or a payload, or both; h is what it
--- says
-pub record ValidVariable (time size used : ℕ) (plain : List ℕ) (h : Request) : Type 0 where
+-- the front of a request's head: h is what it says, and st the stream that it hands on
+pub record RequestOpens (method : ℕ) (key : List ℕ) (clock : ℕ) (s pool : List ℕ) (h : Request) (st : Receiver) : Type 0 where
+  pub lawful-settings : settings method (length key) pool ≡ true
+  pub front-whole : frontLength (saltLength method) 0 ≤ length s
+  pub time : ℕ
+  pub size : ℕ
+  pub fixed-opens : FixedOpens (subkey key (saltOf method s)) 0 clock (fixedOf (saltLength method) 0 s) time size
+  -- the salt is not kept, and this is the lowest record that keeps none
+  pub place : ℕ
+  pub new-salt : Unkept pool clock (saltOf method s)
+  pub free-place : LowestFree pool clock place
+  pub says : h ≡ record { time = time; length = size; used = frontLength (saltLength method) 0 }
+  -- the variable header is next, with counter 1
+  pub stream : st ≡ receiver method (Variable size) 1 (subkeyWords (subkey key (saltOf method s)))
+
+pub record RequestExactly (method : ℕ) (key : List ℕ) (clock : ℕ) (s pool : List ℕ) (h : Request) (st : Receiver) : Type 0 where
+  pub only-when : openedRequest method key clock s pool ≡ Accepted h st → RequestOpens method key clock s pool h st
+  pub always-when : RequestOpens method key clock s pool h st → openedRequest method key clock s pool ≡ Accepted h st
+  -- the salt is in that record, with the clock
+  pub salt-stored : (d : RequestOpens method key clock s pool h st)
+      → requestPool method key clock s pool ≡ store pool (d .place) clock (saltOf method s)
+
+abbrev pub RequestExactlyWhen : Type 0
+RequestExactlyWhen =
+    (method : ℕ) (key : List ℕ) (clock : ℕ) (s pool : List ℕ) (h : Request) (st : Receiver) → RequestExactly method key clock s pool h st
+
+-- a variable header of so many bytes: an address at its start, and behind it a padding of at most 900 bytes, or a payload, or
+-- both; h is what it says
+pub record ValidVariable (size : ℕ) (plain : List ℕ) (h : VariableHeader) : Type 0 where
   pub address : Address
   pub address-found : parseAt plain 0 ≡ Found address
   pub length-there : address .end + 2 ≤ length plain
@@ -56,51 +85,36 @@ pub record ValidVariable (time size used : ℕ) (plain : List ℕ) (h : Request)
       ≡ record {
         target = address .target;
         port = address .port;
-        time = time;
         padding = paddingAt (address .end) plain;
         payload = address .end + 2 + paddingAt (address .end) plain;
         length = size;
-        used = used;
+        used = size + 16;
       }
 
--- a head with a variable header of so many bytes: how long it is, and its last piece
-abbrev pub headSize : (n size : ℕ) → ℕ
-headSize n size = frontLength n 0 + size + 16
+-- the piece of a variable header of so many bytes
+abbrev pub variableAt : (size : ℕ) → List ℕ → List ℕ
+variableAt size s = take (size + 16) s
 
-abbrev pub variableAt : (n size : ℕ) → List ℕ → List ℕ
-variableAt n size s = take (size + 16) (drop (frontLength n 0) s)
-
--- a request's head behind its front of n + 27 bytes, under the stream's key k
-pub record HeadOpens (k : List ℕ) (clock n : ℕ) (s pool : List ℕ) (room : ℕ) (h : Request) : Type 0 where
-  pub time : ℕ
+pub record VariableOpens (st : Receiver) (s : List ℕ) (room : ℕ) (h : VariableHeader) : Type 0 where
+  pub known : keyLength (st .method) ≡ 0 → ⊥
   pub size : ℕ
-  pub fixed-opens : FixedOpens k 0 clock (fixedOf n 0 s) time size
-  pub place : ℕ
-  pub new-salt : meet pool clock (take n s) ≡ Free place
-  pub whole : headSize n size ≤ length s
+  pub at-turn : st .turn ≡ Variable size
+  pub counts : st .counter ≡ 1
+  pub whole : size + 16 ≤ length s
   pub has-room : size ≤ room
-  pub authentic : authenticAt k 1 (variableAt n size s) ≡ true
-  pub variable-valid : ValidVariable time size (headSize n size) (openAt k 1 (variableAt n size s)) h
+  pub authentic : authenticAt (streamKey st) 1 (variableAt size s) ≡ true
+  pub valid : ValidVariable size (openAt (streamKey st) 1 (variableAt size s)) h
 
-pub record RequestOpens (method : ℕ) (key : List ℕ) (clock : ℕ) (s pool : List ℕ) (room : ℕ) (h : Request) (st : Receiver) : Type 0 where
-  pub front-whole : frontLength (saltLength method) 0 ≤ length s
-  pub head : HeadOpens (subkey key (saltOf method s)) clock (saltLength method) s pool room h
-  -- the stream goes on with a length, with counter 2
-  pub stream : st ≡ receiver method Length 2 (subkeyWords (subkey key (saltOf method s)))
+pub record VariableExactly (st : Receiver) (s out : List ℕ) (h : VariableHeader) : Type 0 where
+  pub only-when : variableAnswer st s (length out) ≡ Header h → VariableOpens st s (length out) h
+  pub always-when : VariableOpens st s (length out) h → variableAnswer st s (length out) ≡ Header h
+  -- its plaintext is in the buffer, and a length is next, with counter 2
+  pub opened-text : (d : VariableOpens st s (length out) h) → variableOut st s out ≡ put out 0 (openAt (streamKey st) 1 (variableAt (d .size) s))
+  pub length-next : variableAnswer st s (length out) ≡ Header h
+      → variableNext st (variableAnswer st s (length out)) ≡ receiver (st .method) Length 2 (st .subkey)
 
-pub record RequestExactly (method : ℕ) (key : List ℕ) (clock : ℕ) (s pool out : List ℕ) (h : Request) (st : Receiver) : Type 0 where
-  pub only-when : openedRequest method key clock s pool out ≡ Accepted h st → RequestOpens method key clock s pool (length out) h st
-  pub always-when : RequestOpens method key clock s pool (length out) h st → openedRequest method key clock s pool out ≡ Accepted h st
-  -- the variable header's plaintext is in the buffer, and the salt in the pool
-  pub opened-text : (d : RequestOpens method key clock s pool (length out) h st) → requestOut method key clock s pool out
-      ≡ put out 0 (openAt (subkey key (saltOf method s)) 1 (variableAt (saltLength method) (d .head .size) s))
-  pub salt-stored : (d : RequestOpens method key clock s pool (length out) h st)
-      → requestPool method key clock s pool out ≡ store pool (d .head .place) clock (saltOf method s)
-
-abbrev pub RequestExactlyWhen : Type 0
-RequestExactlyWhen =
-    (method : ℕ) (key : List ℕ) (clock : ℕ) (s pool out : List ℕ) → settings method (length key) pool ≡ true
-    → (h : Request) (st : Receiver) → RequestExactly method key clock s pool out h st
+abbrev pub VariableExactlyWhen : Type 0
+VariableExactlyWhen = (st : Receiver) (s out : List ℕ) (h : VariableHeader) → VariableExactly st s out h
 
 pub record ResponseOpens (method : ℕ) (key : List ℕ) (clock : ℕ) (requestSalt s : List ℕ) (h : Response) (st : Receiver) : Type 0 where
   pub front-whole : frontLength (saltLength method) (saltLength method) ≤ length s
@@ -155,12 +169,14 @@ TurnOpens key counter Length s room c =
     × ((0 < be 2 (openAt key counter (take 18 s))) × (c ≡ record { used = 18; length = be 2 (openAt key counter (take 18 s)) }))
 TurnOpens key counter (Payload n) s room c = PieceOpens key counter n s n room × ((0 < n) × (c ≡ record { used = n + 16; length = n }))
 TurnOpens key counter Ended s room c = ⊥
+TurnOpens key counter (Variable n) s room c = ⊥
 
 -- what the buffer holds then
 abbrev pub turnText : (key : List ℕ) (counter : ℕ) → Turn → List ℕ → List ℕ → List ℕ
 turnText key counter Length s out = out
 turnText key counter (Payload n) s out = put out 0 (openAt key counter (take (n + 16) s))
 turnText key counter Ended s out = out
+turnText key counter (Variable n) s out = out
 
 pub record StepOpens (st : Receiver) (s : List ℕ) (room : ℕ) (c : Chunk) : Type 0 where
   pub known : keyLength (st .method) ≡ 0 → ⊥
@@ -192,11 +208,11 @@ Begins n s t = take n t ≡ take n s
 
 -- what an accepted call answers and leaves, it answers and leaves for every string that begins with the bytes used
 pub record BeyondUnread : Type 0 where
-  pub requests : (method : ℕ) (key : List ℕ) (clock : ℕ) (s t pool out : List ℕ) (h : Request) (st : Receiver) → settings method (length key) pool ≡ true
-      → openedRequest method key clock s pool out ≡ Accepted h st → Begins (h .used) s t
-      → (openedRequest method key clock t pool out ≡ Accepted h st)
-      × ((requestOut method key clock t pool out ≡ requestOut method key clock s pool out)
-      × (requestPool method key clock t pool out ≡ requestPool method key clock s pool out))
+  pub requests : (method : ℕ) (key : List ℕ) (clock : ℕ) (s t pool : List ℕ) (h : Request) (st : Receiver)
+      → openedRequest method key clock s pool ≡ Accepted h st → Begins (h .used) s t
+      → (openedRequest method key clock t pool ≡ Accepted h st) × (requestPool method key clock t pool ≡ requestPool method key clock s pool)
+  pub variable-headers : (st : Receiver) (s t out : List ℕ) (h : VariableHeader) → variableAnswer st s (length out) ≡ Header h
+      → Begins (h .used) s t → (variableAnswer st t (length out) ≡ Header h) × (variableOut st t out ≡ variableOut st s out)
   pub responses : (method : ℕ) (key : List ℕ) (clock : ℕ) (requestSalt s t : List ℕ) (h : Response) (st : Receiver) → keyFits method (length key) ≡ true
       → length requestSalt ≡ saltLength method → openedResponse method key clock requestSalt s ≡ Answered h st → Begins (h .used) s t
       → openedResponse method key clock requestSalt t ≡ Answered h st

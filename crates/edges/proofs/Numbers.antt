@@ -24,12 +24,13 @@ use Rattle.datagram_open.specs.Deciding.{belongs}
 use Rattle.stream_pieces.specs.Pieces.{nonce as counterNonce}
 use Rattle.stream_seal_heads.specs.HeadSealing.{fixedPart as fixedHeader, variablePart}
 use Rattle.stream_open.specs.Chunks.{stepAnswer}
+use Rattle.stream_open_variable.specs.Variable.{headerAnswer, variableAnswer}
 use Rattle.words.specs.Answers.{refusedAnswer}
 use Rattle.relay.specs.Streams.{notSealing}
 use Rattle.edges.specs.Numbers.{methodFacts, tableFacts, poolFacts, addressFacts, datagramFacts, streamFacts, wordFacts, hostFacts, every, facts, MethodsFit, Material, Numbers}
 
 all-facts : T (every facts)
-unfolding oneMore sessionPlace taken replyBegun methodFacts tableFacts poolFacts addressFacts datagramFacts streamFacts wordFacts hostFacts same methodOf keyFits keyLength saltLength timeValid be toBe toLe store kept v4At v6At nameAt parseAt isAddress separateHeader nonce fixedPart plaintext variablePart refusedAnswer put sealedLength readAddress readMain belongs counterNonce fixedHeader stepAnswer notSealing
+unfolding oneMore sessionPlace taken replyBegun methodFacts tableFacts poolFacts addressFacts datagramFacts streamFacts wordFacts hostFacts same methodOf keyFits keyLength saltLength timeValid be toBe toLe store kept v4At v6At nameAt parseAt isAddress separateHeader nonce fixedPart plaintext variablePart refusedAnswer put sealedLength readAddress readMain belongs counterNonce fixedHeader stepAnswer notSealing variableAnswer headerAnswer
 all-facts = tt
 
 methods-fit : MethodsFit

@@ -46,13 +46,15 @@ use Rattle.stream_pieces.specs.Pieces.{nonce as counterNonce, maxChunk, lastCou
 use Rattle.stream_heads.specs.Heads.{maxPadding, frontLength}
 use Rattle.stream_seal_heads.specs.HeadSealing.{fixedPart as fixedHeader, variablePart}
 use Rattle.stream_open.specs.declared.Turn.{Turn}
-use Rattle.stream_open.specs.declared.Turn.the-variants.{Length as LengthTurn, Payload, Ended}
+use Rattle.stream_open.specs.declared.Turn.the-variants.{Variable, Length as LengthTurn, Payload, Ended}
 use Rattle.stream_open.specs.declared.Receiver.{Receiver}
 use Rattle.stream_open.specs.Chunks.{lengthAnswer, stepAnswer}
 use Rattle.stream_open.specs.declared.Stepped.the-variants.{Opened as StepOpened, Refused as StepRefused}
-use Rattle.words.specs.Answers.{answerWords, kindOf, headerWords, requestWords, chunkWords, refusedAnswer}
+use Rattle.stream_open_variable.specs.declared.VariableOpened.the-variants.{Refused as Unheaded}
+use Rattle.stream_open_variable.specs.Variable.{variableAnswer, variableNext}
+use Rattle.words.specs.Answers.{answerWords, kindOf, headerWords, variableWords, headWords, chunkWords, refusedAnswer}
 use Rattle.words.specs.States.{sessionSize, sessionWords, streamSize, senderWords, receiverWords, receiverLawful}
-use Rattle.stream_answers.specs.Told.{steppedNumber, steppedAnswer, stepStream}
+use Rattle.stream_answers.specs.Told.{variableNumber, variableTold, variableStream, steppedNumber, steppedAnswer, stepStream}
 use Rattle.relay.specs.Streams.{notSealing}
 use Rattle.relay.specs.Datagrams.{settingsNumber, begunWords, sealed, openedNumber, openedWords, callerOf}
 use Rattle.edges.specs.Edges.{home, nameA, numberOf}
@@ -313,6 +315,17 @@ datagramFacts =
 abbrev pub streamAt : Turn → Receiver
 streamAt turn = record { method = 1; turn = turn; counter = 2; subkey = record { a = 4; b = 5; c = 6; d = 7 } }
 
+-- one that the front of a request's head began, with a variable header of n bytes next
+abbrev pub between : ℕ → Receiver
+between n = record { method = 1; turn = Variable n; counter = 1; subkey = record { a = 4; b = 5; c = 6; d = 7 } }
+
+-- what its call answers where no bytes are there, and how many it wants
+abbrev pub headedNumber : Receiver → ℕ
+headedNumber st = variableNumber (variableAnswer st [] 65535)
+
+abbrev pub wantedBy : Receiver → List ℕ
+wantedBy st = take 1 (variableTold (variableAnswer st [] 65535) (0 ∷ []))
+
 unfoldable pub streamFacts : List Fact
 streamFacts =
     fact (maxChunk ∷ maxPadding ∷ lastCounter ∷ []) (65535 ∷ 900 ∷ (2 ^ 64 - 1) ∷ [])
@@ -325,6 +338,13 @@ streamFacts =
     -- a length of 0, and its neighbour; and a lent stream at a payload of 0
     ∷ fact (map steppedNumber (lengthAnswer 0 ∷ lengthAnswer 1 ∷ lengthAnswer 65535 ∷ [])) (14 ∷ 0 ∷ 0 ∷ [])
     ∷ number (steppedNumber (stepAnswer (streamAt (Payload 0)) [] 0)) 1
+    -- a variable header's call on a stream with counter 1 and no bytes: 10, which wants the length and the tag, also of length 0
+    ∷ fact (headedNumber (between 3) ∷ wantedBy (between 3)) (10 ∷ 19 ∷ [])
+    ∷ fact (headedNumber (between 0) ∷ wantedBy (between 0)) (10 ∷ 16 ∷ [])
+    -- with another counter, and at another turn; one that has ended
+    ∷ fact (map headedNumber (streamAt (Variable 3) ∷ streamAt LengthTurn ∷ streamAt (Payload 3) ∷ streamAt Ended ∷ [])) (1 ∷ 1 ∷ 1 ∷ 4 ∷ [])
+    -- a step at a variable header's turn
+    ∷ number (steppedNumber (stepAnswer (between 3) [] 0)) 1
     ∷ []
 
 -- ---- words that a host lends
@@ -347,9 +367,11 @@ wordFacts =
     (1 ∷ 2 ∷ 0 ∷ 4 ∷ 5 ∷ 6 ∷ 7 ∷ 8 ∷ 9 ∷ [])
     -- kind, two address words, port, padding length, payload's place, bytes used, length
     ∷ fact
-    (requestWords
-    (record { target = V6 2 3; port = 4; time = 0; padding = 5; payload = 6; length = 8; used = 7 }))
+    (variableWords
+    (record { target = V6 2 3; port = 4; padding = 5; payload = 6; length = 8; used = 7 }))
     (4 ∷ 2 ∷ 3 ∷ 4 ∷ 5 ∷ 6 ∷ 7 ∷ 8 ∷ [])
+    -- bytes used, length, time
+    ∷ fact (headWords 1 2 3) (1 ∷ 2 ∷ 3 ∷ [])
     -- bytes used, length
     ∷ fact (chunkWords (record { used = 1; length = 2 })) (1 ∷ 2 ∷ [])
     -- side, own ID, the client's ID, next packet ID
@@ -361,9 +383,13 @@ wordFacts =
     ∷ fact (receiverWords (streamAt LengthTurn)) (1 ∷ 1 ∷ 2 ∷ 0 ∷ 4 ∷ 5 ∷ 6 ∷ 7 ∷ [])
     ∷ fact (receiverWords (streamAt (Payload 3))) (2 ∷ 1 ∷ 2 ∷ 3 ∷ 4 ∷ 5 ∷ 6 ∷ 7 ∷ [])
     ∷ fact (receiverWords (streamAt Ended)) (0 ∷ 1 ∷ 2 ∷ 0 ∷ 4 ∷ 5 ∷ 6 ∷ 7 ∷ [])
-    -- a payload to come has at most 65,535 bytes
+    ∷ fact (receiverWords (between 3)) (4 ∷ 1 ∷ 1 ∷ 3 ∷ 4 ∷ 5 ∷ 6 ∷ 7 ∷ [])
+    -- a payload and a variable header to come have at most 65,535 bytes
     ∷ fact
     (bits (receiverLawful (2 ∷ 1 ∷ 2 ∷ 65535 ∷ 0 ∷ 0 ∷ 0 ∷ 0 ∷ []) ∷ receiverLawful (2 ∷ 1 ∷ 2 ∷ 65536 ∷ 0 ∷ 0 ∷ 0 ∷ 0 ∷ []) ∷ receiverLawful (3 ∷ 1 ∷ 2 ∷ 0 ∷ 0 ∷ 0 ∷ 0 ∷ 0 ∷ []) ∷ []))
+    (1 ∷ 0 ∷ 0 ∷ [])
+    ∷ fact
+    (bits (receiverLawful (4 ∷ 1 ∷ 1 ∷ 65535 ∷ 0 ∷ 0 ∷ 0 ∷ 0 ∷ []) ∷ receiverLawful (4 ∷ 1 ∷ 1 ∷ 65536 ∷ 0 ∷ 0 ∷ 0 ∷ 0 ∷ []) ∷ receiverLawful (5 ∷ 1 ∷ 1 ∷ 0 ∷ 0 ∷ 0 ∷ 0 ∷ 0 ∷ []) ∷ []))
     (1 ∷ 0 ∷ 0 ∷ [])
     -- a caller's two numbers and port
     ∷ fact (callerOf 1 2 3 .first ∷ callerOf 1 2 3 .second ∷ callerOf 1 2 3 .port ∷ []) (1 ∷ 2 ∷ 3 ∷ [])
@@ -390,6 +416,11 @@ known63 = store (newTable 60) 63 record300
 abbrev pub reply : List ℕ → (clock id client : ℕ) → ℕ
 reply t clock id client = begunWords (replyBegun t clock id client) [] .number
 
+-- and behind a variable header's call that was refused
+abbrev pub turnAfterHeader : Refusal → ℕ
+turnAfterHeader r =
+    getD (variableStream (Unheaded r) (variableNext (between 3) (Unheaded r)) (4 ∷ 1 ∷ 1 ∷ 3 ∷ 4 ∷ 5 ∷ 6 ∷ 7 ∷ [])) 0 0
+
 unfoldable pub hostFacts : List Fact
 hostFacts =
     fact (settingsNumber true ∷ settingsNumber false ∷ []) (0 ∷ 1 ∷ [])
@@ -411,8 +442,9 @@ hostFacts =
     ∷ fact (refusedAnswer (More 43) sevens) (43 ∷ replicate 8 7)
     ∷ fact (refusedAnswer Room sevens) sevens
     ∷ fact (steppedAnswer (StepOpened (record { used = 18; length = 5 })) sevens) (18 ∷ 5 ∷ replicate 7 7)
-    -- of all refusals 4 and 14 end a stream
-    ∷ fact (map turnBehind refusals) (1 ∷ 1 ∷ 1 ∷ 0 ∷ 1 ∷ 1 ∷ 1 ∷ 1 ∷ 1 ∷ 1 ∷ 1 ∷ 1 ∷ 1 ∷ 0 ∷ [])
+    -- of all refusals 4, 5 and 14 end a stream
+    ∷ fact (map turnBehind refusals) (1 ∷ 1 ∷ 1 ∷ 0 ∷ 0 ∷ 1 ∷ 1 ∷ 1 ∷ 1 ∷ 1 ∷ 1 ∷ 1 ∷ 1 ∷ 0 ∷ [])
+    ∷ fact (map turnAfterHeader (Settings ∷ NotAuthentic ∷ More 19 ∷ Room ∷ Malformed ∷ [])) (4 ∷ 0 ∷ 4 ∷ 4 ∷ 0 ∷ [])
     -- sealing on a stream that has ended, and at another turn: an empty payload, one of a byte, and no method
     ∷ fact
     (map refusalNumber (notSealing 0 1 0 ∷ notSealing 0 1 1 ∷ notSealing 0 0 0 ∷ notSealing 1 1 0 ∷ notSealing 2 1 1 ∷ []))

@@ -37,14 +37,15 @@ wantedBytes Argument = 0
 wantedBytes Binding = 0
 wantedBytes Empty = 0
 
--- the only place that says so: a wrong tag, and an empty chunk, end the stream that is opened; it answers number 4 from then on
+-- the only place that says so: a wrong tag, a malformed header and an empty chunk end the stream that is opened; it answers
+-- number 4 from then on
 abbrev pub endsStream : Refusal → Bool
 endsStream NotAuthentic = true
+endsStream Malformed = true
 endsStream Empty = true
 endsStream Settings = false
 endsStream Length = false
 endsStream Room = false
-endsStream Malformed = false
 endsStream WrongType = false
 endsStream WrongTime = false
 endsStream Replay = false

@@ -168,7 +168,7 @@ impl Refusal {
             Refusal::Length => false,
             Refusal::Room => false,
             Refusal::NotAuthentic => true,
-            Refusal::Malformed => false,
+            Refusal::Malformed => true,
             Refusal::WrongType => false,
             Refusal::WrongTime => false,
             Refusal::Replay => false,

@@ -18,13 +18,15 @@ use Rattle.stream_open_request.specs.declared.RequestOpened.{RequestOpened}
 use Rattle.stream_open_response.specs.declared.ResponseOpened.{ResponseOpened}
 use Rattle.stream_open.specs.declared.Stepped.{Stepped}
 use Rattle.stream_seal.specs.Sealing.{chunkAnswer, sealOut}
-use Rattle.stream_open_request.specs.Requests.{openedRequest, requestOut, requestPool}
+use Rattle.stream_open_request.specs.Requests.{openedRequest, requestPool}
+use Rattle.stream_open_variable.specs.declared.VariableOpened.{VariableOpened}
+use Rattle.stream_open_variable.specs.Variable.{variableAnswer, variableOut, variableNext}
 use Rattle.stream_open_response.specs.Responses.{openedResponse}
 use Rattle.stream_open.specs.Chunks.{stepAnswer, stepOut, stepNext}
 use Rattle.words.specs.Answers.{answerWords}
 use Rattle.words.specs.States.{streamSize, turnOf, senderIn, receiverLawful, receiverIn}
-use Rattle.stream_answers.specs.Told.{sealedNumber, sealedWords, sealedStream, requestNumber, requestAnswer as requestTold, requestStream, responseNumber, responseAnswer as responseTold, responseStream, steppedNumber, steppedAnswer, stepStream}
-use Rattle.relay.specs.Streams.{fits, AfterChunk, seals, notSealing, chunkSealed, opens, stepTold, opensChunk, AfterRequest, requestLeft, opensRequest, AfterResponse, responseLeft, opensResponse}
+use Rattle.stream_answers.specs.Told.{sealedNumber, sealedWords, sealedStream, requestNumber, requestAnswer as requestTold, requestStream, variableNumber, variableTold, variableStream, responseNumber, responseAnswer as responseTold, responseStream, steppedNumber, steppedAnswer, stepStream}
+use Rattle.relay.specs.Streams.{fits, AfterChunk, seals, notSealing, chunkSealed, opens, stepTold, opensChunk, AfterRequest, requestLeft, opensRequest, variableLeft, opensVariable, AfterResponse, responseLeft, opensResponse}
 
 -- ---- a stream and an answer of these lengths
 
@@ -96,32 +98,31 @@ module _ (turn method payload : ℕ) where
       pub has-ended : (payload ≡ 0 → ⊥) → NotAuthentic ≡ notSealing turn method payload
       has-ended h = decided true false false (eq-eqb turn 0 e) (ne-eqb (keyLength method) 0 (λ x. known (f ∙ x))) (ne-eqb payload 0 h)
 
--- ---- the head of a request
+-- ---- the front of a request's head
 
-module _ (method : ℕ) (key : List ℕ) (clock : ℕ) (s pool out w answer : List ℕ) (b : Bool) (e : b ≡ fits (length w) (length answer)) where
+module _ (method : ℕ) (key : List ℕ) (clock : ℕ) (s pool w answer : List ℕ) (b : Bool) (e : b ≡ fits (length w) (length answer)) where
   abbrev R : AfterRequest
-  R = opensRequest method key clock s pool out w answer
+  R = opensRequest method key clock s pool w answer
 
   abbrev request-left : RequestOpened → AfterRequest
-  request-left x = requestLeft method key clock s pool out w answer x
+  request-left x = requestLeft method key clock s pool w answer x
 
   request-by : (z : Bool) → b ≡ z
-      → cond z (request-left (openedRequest method key clock s pool out)) (record { number = 1; pool = pool; out = out; stream = w; answer = answer }) ≡ R
+      → cond z (request-left (openedRequest method key clock s pool)) (record { number = 1; pool = pool; stream = w; answer = answer }) ≡ R
   unfolding opensRequest
   request-by z f =
       ap
-      (λ (t : Bool). cond t (request-left (openedRequest method key clock s pool out)) (record { number = 1; pool = pool; out = out; stream = w; answer = answer }))
+      (λ (t : Bool). cond t (request-left (openedRequest method key clock s pool)) (record { number = 1; pool = pool; stream = w; answer = answer }))
       (sym f ∙ e)
 
-  pub request-unfit : b ≡ false → record { number = 1; pool = pool; out = out; stream = w; answer = answer } ≡ R
+  pub request-unfit : b ≡ false → record { number = 1; pool = pool; stream = w; answer = answer } ≡ R
   request-unfit f = request-by false f
 
-  pub request-fit : b ≡ true → (x : RequestOpened) (n : ℕ) (p o st a : List ℕ) → x ≡ openedRequest method key clock s pool out
-      → o ≡ requestOut method key clock s pool out → p ≡ requestPool method key clock s pool out
-      → n ≡ requestNumber x → st ≡ requestStream x w → a ≡ requestTold x answer
-      → record { number = n; pool = p; out = o; stream = st; answer = a } ≡ R
-  request-fit f x n p o st a g h i j l m =
-      (λ k. record { number = j k; pool = i k; out = h k; stream = l k; answer = m k }) ∙ ap request-left g ∙ request-by true f
+  pub request-fit : b ≡ true → (x : RequestOpened) (n : ℕ) (p st a : List ℕ) → x ≡ openedRequest method key clock s pool
+      → p ≡ requestPool method key clock s pool → n ≡ requestNumber x → st ≡ requestStream x w → a ≡ requestTold x answer
+      → record { number = n; pool = p; stream = st; answer = a } ≡ R
+  request-fit f x n p st a g i j l m =
+      (λ k. record { number = j k; pool = i k; stream = l k; answer = m k }) ∙ ap request-left g ∙ request-by true f
 
 -- ---- the head of a response
 
@@ -143,14 +144,33 @@ module _ (method : ℕ) (key : List ℕ) (clock : ℕ) (salt s w answer : List �
   response-fit f x n st a g h i j =
       (λ k. record { number = h k; stream = i k; answer = j k }) ∙ ap (λ (z : ResponseOpened). responseLeft z w answer) g ∙ response-by true f
 
--- ---- a step
+-- ---- a variable header, and a step
 
 module _ (w s out answer : List ℕ) where
-  abbrev T : AfterChunk
-  T = opensChunk w s out answer
-
   abbrev untouched : AfterChunk
   untouched = record { number = 1; out = out; stream = w; answer = answer }
+
+  opens-none : (length answer ≡ answerWords → ⊥) → opens w answer ≡ false
+  opens-none e = ap (λ (b : Bool). b && receiverLawful w) (ne-eqb (length answer) answerWords e)
+
+  opens-by : length answer ≡ answerWords → (b : Bool) → b ≡ receiverLawful w → opens w answer ≡ b
+  opens-by l b e = ap (λ (z : Bool). z && receiverLawful w) (eq-eqb (length answer) answerWords l) ∙ sym e
+
+  abbrev H : AfterChunk
+  H = opensVariable w s out answer
+
+  abbrev headed : AfterChunk
+  headed = variableLeft (variableAnswer (receiverIn w) s (length out)) (receiverIn w) s out w answer
+
+  variable-by : (b : Bool) → opens w answer ≡ b → cond b headed untouched ≡ H
+  unfolding opensVariable
+  variable-by b e = sym (ap (λ (z : Bool). cond z headed untouched) e)
+
+  pub variable-untold : (length answer ≡ answerWords → ⊥) → untouched ≡ H
+  variable-untold e = variable-by false (opens-none e)
+
+  abbrev T : AfterChunk
+  T = opensChunk w s out answer
 
   abbrev stepped : AfterChunk
   stepped = stepTold (stepAnswer (receiverIn w) s (length out)) (receiverIn w) s out w answer
@@ -160,14 +180,23 @@ module _ (w s out answer : List ℕ) where
   step-by b e = sym (ap (λ (z : Bool). cond z stepped untouched) e)
 
   pub step-untold : (length answer ≡ answerWords → ⊥) → untouched ≡ T
-  step-untold e = step-by false (ap (λ (b : Bool). b && receiverLawful w) (ne-eqb (length answer) answerWords e))
+  step-untold e = step-by false (opens-none e)
 
   module _ (l : length answer ≡ answerWords) (b : Bool) (e : b ≡ receiverLawful w) where
-    by-stream : opens w answer ≡ b
-    by-stream = ap (λ (z : Bool). z && receiverLawful w) (eq-eqb (length answer) answerWords l) ∙ sym e
+    pub variable-unlawful : b ≡ false → untouched ≡ H
+    variable-unlawful f = variable-by false (opens-by l b e ∙ f)
+
+    pub variable-told : b ≡ true → (st : Receiver) → st ≡ receiverIn w → (x : VariableOpened) (next : Receiver) (n : ℕ) (o left a : List ℕ)
+        → x ≡ variableAnswer st s (length out) → next ≡ variableNext st x → o ≡ variableOut st s out → n ≡ variableNumber x
+        → left ≡ variableStream x next w → a ≡ variableTold x answer → record { number = n; out = o; stream = left; answer = a } ≡ H
+    variable-told f st g x next n o left a h i j m p q =
+        (λ k. record { number = m k; out = j k; stream = (p ∙ ap (λ (z : Receiver). variableStream x z w) i) k; answer = q k })
+        ∙ ap (λ (z : VariableOpened). variableLeft z st s out w answer) h
+        ∙ ap (λ (z : Receiver). variableLeft (variableAnswer z s (length out)) z s out w answer) g
+        ∙ variable-by true (opens-by l b e ∙ f)
 
     pub step-unlawful : b ≡ false → untouched ≡ T
-    step-unlawful f = step-by false (by-stream ∙ f)
+    step-unlawful f = step-by false (opens-by l b e ∙ f)
 
     pub step-told : b ≡ true → (st : Receiver) → st ≡ receiverIn w → (x : Stepped) (next : Receiver) (n : ℕ) (o left a : List ℕ)
         → x ≡ stepAnswer st s (length out) → next ≡ stepNext st x → o ≡ stepOut st s out → n ≡ steppedNumber x → left ≡ stepStream x next w
@@ -176,4 +205,4 @@ module _ (w s out answer : List ℕ) where
         (λ k. record { number = m k; out = j k; stream = (p ∙ ap (λ (z : Receiver). stepStream x z w) i) k; answer = q k })
         ∙ ap (λ (z : Stepped). stepTold z st s out w answer) h
         ∙ ap (λ (z : Receiver). stepTold (stepAnswer z s (length out)) z s out w answer) g
-        ∙ step-by true (by-stream ∙ f)
+        ∙ step-by true (opens-by l b e ∙ f)

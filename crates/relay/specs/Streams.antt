@@ -17,18 +17,20 @@ use Rattle.stream_open.specs.declared.Receiver.{Receiver}
 use Rattle.stream_open.specs.declared.Stepped.{Stepped}
 use Rattle.stream_seal.specs.Sealing.{chunkAnswer, chunk, senderKey, sealOut}
 use Rattle.stream_seal_heads.specs.HeadSealing.{requestAnswer, request, responseAnswer, response}
-use Rattle.stream_open_request.specs.Requests.{openedRequest, requestOut, requestPool}
+use Rattle.stream_open_request.specs.Requests.{openedRequest, requestPool}
+use Rattle.stream_open_variable.specs.declared.VariableOpened.{VariableOpened}
+use Rattle.stream_open_variable.specs.Variable.{variableAnswer, variableOut, variableNext}
 use Rattle.stream_open_response.specs.Responses.{openedResponse}
 use Rattle.stream_open.specs.Chunks.{stepAnswer, stepOut, stepNext}
 use Rattle.words.specs.Answers.{answerWords}
 use Rattle.words.specs.States.{streamSize, turnOf, senderIn, receiverLawful, receiverIn}
-use Rattle.stream_answers.specs.Told.{sealedNumber, sealedWords, sealedStream, requestNumber, requestAnswer as requestTold, requestStream, responseNumber, responseAnswer as responseTold, responseStream, steppedNumber, steppedAnswer, stepStream}
+use Rattle.stream_answers.specs.Told.{sealedNumber, sealedWords, sealedStream, requestNumber, requestAnswer as requestTold, requestStream, variableNumber, variableTold, variableStream, responseNumber, responseAnswer as responseTold, responseStream, steppedNumber, steppedAnswer, stepStream}
 
 -- a stream and an answer of these lengths
 abbrev pub fits : (stream answer : ℕ) → Bool
 fits stream answer = eqb stream streamSize && eqb answer answerWords
 
--- ---- sealing, and opening a chunk
+-- ---- sealing, and opening a chunk or a variable header
 
 pub record AfterChunk : Type 0 where
   pub number : ℕ
@@ -87,30 +89,43 @@ opensChunk stream s out answer =
     (stepTold (stepAnswer (receiverIn stream) s (length out)) (receiverIn stream) s out stream answer)
     (record { number = 1; out = out; stream = stream; answer = answer })
 
--- ---- opening the head of a request
+-- ---- opening a request's head
 
 pub record AfterRequest : Type 0 where
   pub number : ℕ
   pub pool : List ℕ
-  pub out : List ℕ
   pub stream : List ℕ
   pub answer : List ℕ
 
-module _ (method : ℕ) (key : List ℕ) (clock : ℕ) (s pool out stream answer : List ℕ) where
+module _ (method : ℕ) (key : List ℕ) (clock : ℕ) (s pool stream answer : List ℕ) where
   -- x is what is answered where stream and answer fit
   abbrev pub requestLeft : RequestOpened → AfterRequest
   requestLeft x = record {
     number = requestNumber x;
-    pool = requestPool method key clock s pool out;
-    out = requestOut method key clock s pool out;
+    pool = requestPool method key clock s pool;
     stream = requestStream x stream;
     answer = requestTold x answer;
   }
 
   unfoldable pub opensRequest : AfterRequest
   opensRequest =
-      cond (fits (length stream) (length answer)) (requestLeft (openedRequest method key clock s pool out))
-      (record { number = 1; pool = pool; out = out; stream = stream; answer = answer })
+      cond (fits (length stream) (length answer)) (requestLeft (openedRequest method key clock s pool))
+      (record { number = 1; pool = pool; stream = stream; answer = answer })
+
+-- its variable header: x is what is answered
+abbrev pub variableLeft : VariableOpened → Receiver → (s out stream answer : List ℕ) → AfterChunk
+variableLeft x state s out stream answer = record {
+  number = variableNumber x;
+  out = variableOut state s out;
+  stream = variableStream x (variableNext state x) stream;
+  answer = variableTold x answer;
+}
+
+unfoldable pub opensVariable : (stream s out answer : List ℕ) → AfterChunk
+opensVariable stream s out answer =
+    cond (opens stream answer)
+    (variableLeft (variableAnswer (receiverIn stream) s (length out)) (receiverIn stream) s out stream answer)
+    (record { number = 1; out = out; stream = stream; answer = answer })
 
 -- ---- opening the head of a response
 

@@ -5,6 +5,7 @@ use stream_answers::write_request;
 use stream_answers::write_response;
 use stream_answers::write_sealed;
 use stream_answers::write_step;
+use stream_answers::write_variable;
 use words::ANSWER;
 use words::ENDED;
 use words::SEALING;
@@ -16,7 +17,7 @@ ghost use mathlib.Core.Path.{_≡_};
 ghost use Rattle.salt_pool.specs.Pool.{makeLawful, made};
 ghost use Rattle.relay.specs.Datagrams.{settingsNumber};
 ghost use Rattle.relay.specs.Streams.{fits as fitsOf, notSealing, sealsRequest, sealsResponse, sealsChunk};
-ghost use Rattle.relay.specs.Streams.{opensRequest, opensResponse, opensChunk};
+ghost use Rattle.relay.specs.Streams.{opensRequest, opensVariable, opensResponse, opensChunk};
 
 // Makes a salt pool of 1,537 words for a method.
 #[no_mangle]
@@ -148,7 +149,8 @@ pub extern "C" fn relay_stream_seal_chunk(
 
 // ---- heads
 
-// Opens the head of a request, its variable header into the lent buffer, and begins its stream. Its salt enters the pool.
+// Opens the front of a request's head, its salt and its fixed header, and begins its stream, which has the variable header next. Its
+// salt enters the pool.
 #[no_mangle]
 pub extern "C" fn relay_stream_open_request(
     method: u64,
@@ -156,23 +158,37 @@ pub extern "C" fn relay_stream_open_request(
     clock: u64,
     bytes: &[u8],
     pool: &mut [u64],
-    out: &mut [u8],
     stream: &mut [u64],
     answer: &mut [u64],
 ) -> u64
-    ensures { λ r. ⌜ record {
-      number = r;
-      pool = now (pool .exit);
-      out = now (out .exit);
-      stream = now (stream .exit);
-      answer = now (answer .exit);
-    }
-        ≡ opensRequest method (now (key .entry)) clock (now (bytes .entry)) (now (pool .entry)) (now (out .entry))
-        (now (stream .entry)) (now (answer .entry)) ⌝ }
+    ensures { λ r. ⌜ record { number = r; pool = now (pool .exit); stream = now (stream .exit); answer = now (answer .exit) }
+        ≡ opensRequest method (now (key .entry)) clock (now (bytes .entry)) (now (pool .entry)) (now (stream .entry))
+        (now (answer .entry)) ⌝ }
 {
     if fits(stream.len(), answer.len()) {
-        let opened = stream_open_request::open_request(method, key, clock, bytes, pool, out);
+        let opened = stream_open_request::open_request(method, key, clock, bytes, pool);
         return write_request(opened, stream, answer);
+    }
+    SETTINGS
+}
+
+// Opens the variable header of a request to the front of the lent buffer, on the stream that its front began.
+#[no_mangle]
+pub extern "C" fn relay_stream_open_variable(
+    stream: &mut [u64],
+    bytes: &[u8],
+    out: &mut [u8],
+    answer: &mut [u64],
+) -> u64
+    ensures { λ r. ⌜ record { number = r; out = now (out .exit); stream = now (stream .exit); answer = now (answer .exit) }
+        ≡ opensVariable (now (stream .entry)) (now (bytes .entry)) (now (out .entry)) (now (answer .entry)) ⌝ }
+{
+    if answer.len() != ANSWER {
+        return SETTINGS;
+    }
+    if is_receiver(stream) {
+        let step = stream_open_variable::open_variable(receiver_in(stream), bytes, out);
+        return write_variable(step, stream, answer);
     }
     SETTINGS
 }

@@ -16,14 +16,17 @@ use Rattle.stream_open_request.specs.declared.RequestOpened.the-variants.{Accep
 use Rattle.stream_open_response.specs.declared.Response.{Response}
 use Rattle.stream_open_response.specs.declared.ResponseOpened.{ResponseOpened}
 use Rattle.stream_open_response.specs.declared.ResponseOpened.the-variants.{Accepted as ResponseAccepted, Refused as ResponseRefused}
+use Rattle.stream_open_variable.specs.declared.VariableHeader.{VariableHeader}
+use Rattle.stream_open_variable.specs.declared.VariableOpened.{VariableOpened}
+use Rattle.stream_open_variable.specs.declared.VariableOpened.the-variants.{Header, Refused as Unheaded}
 use Rattle.stream_open.specs.declared.Receiver.{Receiver}
 use Rattle.stream_open.specs.declared.Chunk.{Chunk}
 use Rattle.stream_open.specs.declared.Stepped.{Stepped}
 use Rattle.stream_open.specs.declared.Stepped.the-variants.{Opened, Refused as StepRefused}
-use Rattle.words.specs.Answers.{requestWords, chunkWords, refusedAnswer}
+use Rattle.words.specs.Answers.{variableWords, headWords, chunkWords, refusedAnswer}
 use Rattle.words.specs.States.{streamSize, senderWords, receiverWords}
 use Rattle.words.proofs.LentLaws.{filled}
-use Rattle.stream_answers.specs.Told.{sealedNumber, sealedWords, sealedStream, requestNumber, requestAnswer, requestStream, responseNumber, responseAnswer, responseStream, steppedNumber, steppedAnswer, stepStream}
+use Rattle.stream_answers.specs.Told.{sealedNumber, sealedWords, sealedStream, requestNumber, requestAnswer, requestStream, refusedStream, variableNumber, variableTold, variableStream, responseNumber, responseAnswer, responseStream, steppedNumber, steppedAnswer, stepStream}
 
 -- ---- what was sealed is told
 
@@ -48,10 +51,11 @@ module _ (x : Sealed) (w answer : List ℕ) where
     ),
   )
 
--- ---- the head of a request
+-- ---- the front of a request's head
 
 module _ (x : RequestOpened) (w answer : List ℕ) where
-  pub told-request : (h : Request) (s : Receiver) (us vs left told : List ℕ) → x ≡ RequestAccepted h s → us ≡ receiverWords s → vs ≡ requestWords h
+  pub told-request : (h : Request) (s : Receiver) (us vs left told : List ℕ) → x ≡ RequestAccepted h s → us ≡ receiverWords s
+      → vs ≡ headWords (h .used) (h .length) (h .time)
       → left ≡ sets w 0 us → told ≡ sets answer 0 vs → length w ≡ streamSize
       → (0 ≡ requestNumber x) × ((left ≡ requestStream x w) × (told ≡ requestAnswer x answer))
   told-request h s us vs left told e f g i j l = (
@@ -72,11 +76,46 @@ module _ (x : RequestOpened) (w answer : List ℕ) where
     ),
   )
 
+-- ---- its variable header
+
+module _ (r : Refusal) (w : List ℕ) (b : Bool) (eb : b ≡ endsStream r) where
+  left-by : (x : Bool) → b ≡ x → cond x (set w 0 0) w ≡ refusedStream r w
+  left-by x e = ap (λ (y : Bool). cond y (set w 0 0) w) (sym e ∙ eb)
+
+  pub left-ended : b ≡ true → set w 0 0 ≡ refusedStream r w
+  left-ended e = left-by true e
+
+  pub left-open : b ≡ false → w ≡ refusedStream r w
+  left-open e = left-by false e
+
+module _ (x : VariableOpened) (next : Receiver) (w answer : List ℕ) where
+  pub told-header : (h : VariableHeader) (us vs left told : List ℕ) → x ≡ Header h → us ≡ receiverWords next → vs ≡ variableWords h
+      → left ≡ sets w 0 us → told ≡ sets answer 0 vs → length w ≡ streamSize
+      → (0 ≡ variableNumber x) × ((left ≡ variableStream x next w) × (told ≡ variableTold x answer))
+  told-header h us vs left told e f g i j l = (
+    sym (ap variableNumber e),
+    (
+      i ∙ ap (λ (v : List ℕ). sets w 0 v) f ∙ filled w (receiverWords next) l ∙ sym (ap (λ (y : VariableOpened). variableStream y next w) e),
+      j ∙ ap (λ (v : List ℕ). sets answer 0 v) g ∙ sym (ap (λ (y : VariableOpened). variableTold y answer) e),
+    ),
+  )
+
+  pub told-no-header : (r : Refusal) (n : ℕ) (left told : List ℕ) → x ≡ Unheaded r → n ≡ refusalNumber r → left ≡ refusedStream r w
+      → told ≡ refusedAnswer r answer
+      → (n ≡ variableNumber x) × ((left ≡ variableStream x next w) × (told ≡ variableTold x answer))
+  told-no-header r n left told e f i j = (
+    f ∙ sym (ap variableNumber e),
+    (
+      i ∙ sym (ap (λ (y : VariableOpened). variableStream y next w) e),
+      j ∙ sym (ap (λ (y : VariableOpened). variableTold y answer) e),
+    ),
+  )
+
 -- ---- the head of a response
 
 module _ (x : ResponseOpened) (w answer : List ℕ) where
   pub told-response : (h : Response) (s : Receiver) (us vs left told : List ℕ) → x ≡ ResponseAccepted h s → us ≡ receiverWords s
-      → vs ≡ chunkWords (record { used = h .used; length = h .length }) → left ≡ sets w 0 us → told ≡ sets answer 0 vs → length w ≡ streamSize
+      → vs ≡ headWords (h .used) (h .length) (h .time) → left ≡ sets w 0 us → told ≡ sets answer 0 vs → length w ≡ streamSize
       → (0 ≡ responseNumber x) × ((left ≡ responseStream x w) × (told ≡ responseAnswer x answer))
   told-response h s us vs left told e f g i j l = (
     sym (ap responseNumber e),
@@ -110,20 +149,13 @@ module _ (x : Stepped) (next : Receiver) (w answer : List ℕ) where
     ),
   )
 
-  module _ (r : Refusal) (n : ℕ) (told : List ℕ) (e : x ≡ StepRefused r) (b : Bool) (eb : b ≡ endsStream r) (f : n ≡ refusalNumber r)
-      (g : told ≡ refusedAnswer r answer)
-    where
-      told-by : (y : Bool) → b ≡ y → (n ≡ steppedNumber x) × ((cond y (set w 0 0) w ≡ stepStream x next w) × (told ≡ steppedAnswer x answer))
-      told-by y h = (
-        f ∙ sym (ap steppedNumber e),
-        (
-          ap (λ (z : Bool). cond z (set w 0 0) w) (sym h ∙ eb) ∙ sym (ap (λ (z : Stepped). stepStream z next w) e),
-          g ∙ sym (ap (λ (z : Stepped). steppedAnswer z answer) e),
-        ),
-      )
-
-      pub told-ended : b ≡ true → (n ≡ steppedNumber x) × ((set w 0 0 ≡ stepStream x next w) × (told ≡ steppedAnswer x answer))
-      told-ended h = told-by true h
-
-      pub told-stays : b ≡ false → (n ≡ steppedNumber x) × ((w ≡ stepStream x next w) × (told ≡ steppedAnswer x answer))
-      told-stays h = told-by false h
+  pub told-no-chunk : (r : Refusal) (n : ℕ) (left told : List ℕ) → x ≡ StepRefused r → n ≡ refusalNumber r → left ≡ refusedStream r w
+      → told ≡ refusedAnswer r answer
+      → (n ≡ steppedNumber x) × ((left ≡ stepStream x next w) × (told ≡ steppedAnswer x answer))
+  told-no-chunk r n left told e f i j = (
+    f ∙ sym (ap steppedNumber e),
+    (
+      i ∙ sym (ap (λ (y : Stepped). stepStream y next w) e),
+      j ∙ sym (ap (λ (y : Stepped). steppedAnswer y answer) e),
+    ),
+  )

@@ -4,6 +4,7 @@ use mathlib.Core.List.{List}
 use Prim.Native.Nat.{ℕ}
 use lib.ListN.{set}
 use lib.Seq.{sets}
+use Rattle.protocol.specs.declared.Refusal.{Refusal}
 use Rattle.protocol.specs.Refusal.{refusalNumber, endsStream}
 use Rattle.stream_seal.specs.declared.Sealed.{Sealed}
 use Rattle.stream_seal.specs.declared.Sealed.the-variants.{Bytes, Refused}
@@ -11,10 +12,12 @@ use Rattle.stream_open_request.specs.declared.RequestOpened.{RequestOpened}
 use Rattle.stream_open_request.specs.declared.RequestOpened.the-variants.{Accepted as RequestAccepted, Refused as RequestRefused}
 use Rattle.stream_open_response.specs.declared.ResponseOpened.{ResponseOpened}
 use Rattle.stream_open_response.specs.declared.ResponseOpened.the-variants.{Accepted as ResponseAccepted, Refused as ResponseRefused}
+use Rattle.stream_open_variable.specs.declared.VariableOpened.{VariableOpened}
+use Rattle.stream_open_variable.specs.declared.VariableOpened.the-variants.{Header, Refused as Unheaded}
 use Rattle.stream_open.specs.declared.Receiver.{Receiver}
 use Rattle.stream_open.specs.declared.Stepped.{Stepped}
 use Rattle.stream_open.specs.declared.Stepped.the-variants.{Opened, Refused as StepRefused}
-use Rattle.words.specs.Answers.{requestWords, chunkWords, refusedAnswer}
+use Rattle.words.specs.Answers.{variableWords, headWords, chunkWords, refusedAnswer}
 use Rattle.words.specs.States.{senderWords, receiverWords}
 
 -- ---- what was sealed
@@ -32,20 +35,38 @@ abbrev pub sealedStream : Sealed → List ℕ → List ℕ
 sealedStream (Bytes n s) w = senderWords s
 sealedStream (Refused r) w = w
 
--- ---- the head of a request
+-- ---- the front of a request's head
 
 abbrev pub requestNumber : RequestOpened → ℕ
 requestNumber (RequestAccepted h s) = 0
 requestNumber (RequestRefused r) = refusalNumber r
 
--- the last word of the answer stays
+-- the words behind these stay
 abbrev pub requestAnswer : RequestOpened → List ℕ → List ℕ
-requestAnswer (RequestAccepted h s) answer = sets answer 0 (requestWords h)
+requestAnswer (RequestAccepted h s) answer = sets answer 0 (headWords (h .used) (h .length) (h .time))
 requestAnswer (RequestRefused r) answer = refusedAnswer r answer
 
 abbrev pub requestStream : RequestOpened → List ℕ → List ℕ
 requestStream (RequestAccepted h s) w = receiverWords s
 requestStream (RequestRefused r) w = w
+
+-- ---- its variable header
+
+-- a refusal that ends the stream writes its turn, and no other writes a word
+abbrev pub refusedStream : Refusal → List ℕ → List ℕ
+refusedStream r w = cond (endsStream r) (set w 0 0) w
+
+abbrev pub variableNumber : VariableOpened → ℕ
+variableNumber (Header h) = 0
+variableNumber (Unheaded r) = refusalNumber r
+
+abbrev pub variableTold : VariableOpened → List ℕ → List ℕ
+variableTold (Header h) answer = sets answer 0 (variableWords h)
+variableTold (Unheaded r) answer = refusedAnswer r answer
+
+abbrev pub variableStream : VariableOpened → Receiver → List ℕ → List ℕ
+variableStream (Header h) next w = receiverWords next
+variableStream (Unheaded r) next w = refusedStream r w
 
 -- ---- the head of a response
 
@@ -53,9 +74,8 @@ abbrev pub responseNumber : ResponseOpened → ℕ
 responseNumber (ResponseAccepted h s) = 0
 responseNumber (ResponseRefused r) = refusalNumber r
 
--- as of a step
 abbrev pub responseAnswer : ResponseOpened → List ℕ → List ℕ
-responseAnswer (ResponseAccepted h s) answer = sets answer 0 (chunkWords (record { used = h .used; length = h .length }))
+responseAnswer (ResponseAccepted h s) answer = sets answer 0 (headWords (h .used) (h .length) (h .time))
 responseAnswer (ResponseRefused r) answer = refusedAnswer r answer
 
 abbrev pub responseStream : ResponseOpened → List ℕ → List ℕ
@@ -72,7 +92,6 @@ abbrev pub steppedAnswer : Stepped → List ℕ → List ℕ
 steppedAnswer (Opened c) answer = sets answer 0 (chunkWords c)
 steppedAnswer (StepRefused r) answer = refusedAnswer r answer
 
--- a refusal that ends the stream writes its turn, and no other writes a word
 abbrev pub stepStream : Stepped → Receiver → List ℕ → List ℕ
 stepStream (Opened c) next w = receiverWords next
-stepStream (StepRefused r) next w = cond (endsStream r) (set w 0 0) w
+stepStream (StepRefused r) next w = refusedStream r w

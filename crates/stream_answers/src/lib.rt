@@ -1,20 +1,24 @@
 // What a call about a stream answers, told in words that a host lends: the stream as it is then, and an answer. Each function gives
 // 0 or the number of a refusal.
-use stream_open::Chunk;
+use protocol::Refusal;
 use stream_open::Step;
 use stream_open::Stepped;
 use stream_open_request::RequestOpened;
 use stream_open_response::ResponseOpened;
+use stream_open_variable::VariableOpened;
+use stream_open_variable::VariableStep;
 use stream_seal::Sealed;
 use words::ENDED;
 use words::chunk_words;
+use words::head_words;
 use words::receiver_words;
 use words::refuse;
-use words::request_words;
 use words::sender_words;
+use words::variable_words;
 ghost use mathlib.Core.Path.{_≡_};
 ghost use lib.ListN.{length};
-ghost use Rattle.words.specs.Answers.{answerWords};
+ghost use Rattle.protocol.specs.Refusal.{refusalNumber};
+ghost use Rattle.words.specs.Answers.{answerWords, refusedAnswer};
 ghost use Rattle.words.specs.States.{streamSize};
 ghost use Rattle.stream_answers.specs.Told as told;
 
@@ -37,7 +41,7 @@ pub fn write_sealed(sealed: Sealed, stream: &mut [u64], answer: &mut [u64]) -> u
     }
 }
 
-// Gives the header and the stream to the caller.
+// Gives what a request's front says, and the stream, to the caller.
 pub fn write_request(opened: RequestOpened, stream: &mut [u64], answer: &mut [u64]) -> u64
     requires { ⌜ length (now stream) ≡ streamSize ⌝ }
     requires { ⌜ length (now answer) ≡ answerWords ⌝ }
@@ -49,11 +53,48 @@ pub fn write_request(opened: RequestOpened, stream: &mut [u64], answer: &mut [u6
         RequestOpened::Accepted(header, receiver) => {
             let state = receiver_words(receiver);
             records::write(stream, 0, &state);
-            let words = request_words(header);
+            let words = head_words(header.used, header.length, header.time);
             records::write(answer, 0, &words);
             0
         }
         RequestOpened::Refused(refusal) => refuse(refusal, answer),
+    }
+}
+
+// A refusal writes no word of the stream, but its turn where it ends it.
+fn write_refused(refusal: Refusal, stream: &mut [u64], answer: &mut [u64]) -> u64
+    requires { ⌜ length (now stream) ≡ streamSize ⌝ }
+    requires { ⌜ length (now answer) ≡ answerWords ⌝ }
+    ensures { λ r. ⌜ r ≡ refusalNumber refusal ⌝ }
+    ensures { λ r. ⌜ now (stream .exit) ≡ told.refusedStream refusal (now (stream .entry)) ⌝ }
+    ensures { λ r. ⌜ now (answer .exit) ≡ refusedAnswer refusal (now (answer .entry)) ⌝ }
+{
+    if refusal.ends_stream() {
+        stream[0] = ENDED;
+        return refuse(refusal, answer);
+    }
+    refuse(refusal, answer)
+}
+
+// Gives a variable header, and the stream, to the caller.
+pub fn write_variable(step: VariableStep, stream: &mut [u64], answer: &mut [u64]) -> u64
+    requires { ⌜ length (now stream) ≡ streamSize ⌝ }
+    requires { ⌜ length (now answer) ≡ answerWords ⌝ }
+    ensures { λ r. ⌜ r ≡ told.variableNumber (step .answer) ⌝ }
+    ensures { λ r. ⌜ now (stream .exit) ≡ told.variableStream (step .answer) (step .stream) (now (stream .entry)) ⌝ }
+    ensures { λ r. ⌜ now (answer .exit) ≡ told.variableTold (step .answer) (now (answer .entry)) ⌝ }
+{
+    let opened = step.answer;
+    match opened {
+        VariableOpened::Header(header) => {
+            let next = step.stream;
+            let state = receiver_words(next);
+            records::write(stream, 0, &state);
+            let words = variable_words(header);
+            records::write(answer, 0, &words);
+            0
+        }
+        VariableOpened::Refused(refusal) => write_refused(refusal, stream, answer),
     }
 }
 
@@ -69,10 +110,7 @@ pub fn write_response(opened: ResponseOpened, stream: &mut [u64], answer: &mut [
         ResponseOpened::Accepted(header, receiver) => {
             let state = receiver_words(receiver);
             records::write(stream, 0, &state);
-            let words = chunk_words(Chunk {
-                used: header.used,
-                length: header.length,
-            });
+            let words = head_words(header.used, header.length, header.time);
             records::write(answer, 0, &words);
             0
         }
@@ -80,7 +118,7 @@ pub fn write_response(opened: ResponseOpened, stream: &mut [u64], answer: &mut [
     }
 }
 
-// Gives the counts and the stream to the caller. A refusal writes no word of the stream, but its turn where it ends it.
+// Gives the counts and the stream to the caller.
 pub fn write_step(step: Step, stream: &mut [u64], answer: &mut [u64]) -> u64
     requires { ⌜ length (now stream) ≡ streamSize ⌝ }
     requires { ⌜ length (now answer) ≡ answerWords ⌝ }
@@ -98,12 +136,6 @@ pub fn write_step(step: Step, stream: &mut [u64], answer: &mut [u64]) -> u64
             records::write(answer, 0, &words);
             0
         }
-        Stepped::Refused(refusal) => {
-            let n = refuse(refusal, answer);
-            if refusal.ends_stream() {
-                stream[0] = ENDED;
-            }
-            n
-        }
+        Stepped::Refused(refusal) => write_refused(refusal, stream, answer),
     }
 }

@@ -19,7 +19,7 @@ use Rattle.protocol.specs.Refusal.{endsStream}
 use Rattle.stream_pieces.specs.Pieces.{isEmpty, authenticAt, openAt, keyOf, lastCounter}
 use Rattle.stream_pieces.proofs.LengthLaws.{length-openAt}
 use Rattle.stream_open.specs.declared.Turn.{Turn}
-use Rattle.stream_open.specs.declared.Turn.the-variants.{Length, Payload, Ended}
+use Rattle.stream_open.specs.declared.Turn.the-variants.{Variable, Length, Payload, Ended}
 use Rattle.stream_open.specs.declared.Receiver.{Receiver}
 use Rattle.stream_open.specs.declared.Chunk.{Chunk}
 use Rattle.stream_open.specs.declared.Stepped.{Stepped}
@@ -199,6 +199,9 @@ module _ (st : Receiver) (s out : List ℕ) (k : ℕ) (ek : k ≡ keyLength (st 
     pub step-ended : st .turn ≡ Ended → (Refused NotAuthentic ≡ stepAnswer st s (length out)) × (out ≡ stepOut st s out)
     step-ended e = step-known Ended e
 
+    pub step-variable : (n : ℕ) → st .turn ≡ Variable n → (Refused Settings ≡ stepAnswer st s (length out)) × (out ≡ stepOut st s out)
+    step-variable n e = step-known (Variable n) e
+
 -- ---- the state behind a step
 
 pub advanced-law : (st : Receiver) (n : ℕ) (t : Turn) → t ≡ turnAfter (st .turn) n
@@ -229,6 +232,7 @@ module _ (st : Receiver) (s : List ℕ) (room : ℕ) where
       go true = refl
       go false = ap openings (sym (piece-counter st n s n room _ e))
   none-at-last e Ended = refl
+  none-at-last e (Variable n) = refl
 
   pub opened-counts : (r : Stepped) (c : Chunk) → r ≡ stepAnswer st s room → r ≡ Opened c → st .counter ≡ lastCounter → ⊥
   unfolding stepAnswer

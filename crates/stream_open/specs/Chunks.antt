@@ -13,7 +13,7 @@ use Rattle.protocol.specs.Refusal.{endsStream}
 use Rattle.stream_pieces.specs.declared.Subkey.{Subkey}
 use Rattle.stream_pieces.specs.Pieces.{tagLength, lengthPiece, isEmpty, authenticAt, openAt, keyOf, lastCounter}
 use Rattle.stream_open.specs.declared.Turn.{Turn}
-use Rattle.stream_open.specs.declared.Turn.the-variants.{Length, Payload, Ended}
+use Rattle.stream_open.specs.declared.Turn.the-variants.{Variable, Length, Payload, Ended}
 use Rattle.stream_open.specs.declared.Receiver.{Receiver}
 use Rattle.stream_open.specs.declared.Stepped.{Stepped}
 use Rattle.stream_open.specs.declared.Stepped.the-variants.{Opened, Refused}
@@ -50,8 +50,9 @@ turnAnswer Length st s room = pieceAnswer st 2 s 0 room (lengthAnswer (lengthRea
 turnAnswer (Payload n) st s room =
     cond (isEmpty n) (Refused Settings) (pieceAnswer st n s n room (Opened (record { used = n + tagLength; length = n })))
 turnAnswer Ended st s room = Refused NotAuthentic
+turnAnswer (Variable n) st s room = Refused Settings
 
--- 1, 4 of a stream that has ended, and the piece's
+-- 1, also of a stream at another turn, 4 of one that has ended, and the piece's
 unfoldable pub stepAnswer : Receiver → List ℕ → ℕ → Stepped
 stepAnswer st s room = cond (eqb (keyLength (st .method)) 0) (Refused Settings) (turnAnswer (st .turn) st s room)
 
@@ -61,12 +62,14 @@ abbrev pub writtenBy : Stepped → Turn → List ℕ → List ℕ → List ℕ
 writtenBy (Opened c) (Payload n) plain out = put out 0 plain
 writtenBy (Opened c) Length plain out = out
 writtenBy (Opened c) Ended plain out = out
+writtenBy (Opened c) (Variable n) plain out = out
 writtenBy (Refused r) turn plain out = out
 
 abbrev pub payloadPiece : Turn → List ℕ → List ℕ
 payloadPiece (Payload n) s = take (n + tagLength) s
 payloadPiece Length s = s
 payloadPiece Ended s = s
+payloadPiece (Variable n) s = s
 
 unfoldable pub stepOut : Receiver → List ℕ → List ℕ → List ℕ
 stepOut st s out =
@@ -78,6 +81,7 @@ abbrev pub turnAfter : Turn → ℕ → Turn
 turnAfter Length n = Payload n
 turnAfter (Payload m) n = Length
 turnAfter Ended n = Ended
+turnAfter (Variable m) n = Length
 
 abbrev pub ended : Receiver → Receiver
 ended st = record { method = st .method; turn = Ended; counter = st .counter; subkey = st .subkey }

@@ -15,8 +15,10 @@ ghost use Rattle.stream_pieces.specs.Pieces.{lastCounter};
 ghost use Rattle.stream_open.specs.declared.Turn.the-variants.{Length, Payload};
 ghost use Rattle.stream_open.specs.Chunks.{streamKey, lengthAnswer, turnAnswer, writtenBy, stepAnswer, stepOut, turnAfter, advances, refusedNext, stepNext};
 
-// What the receiving half of a stream opens next: a length, a payload of so many bytes, or nothing.
+// What the receiving half of a stream opens next: a request's variable header of so many bytes, a length, a payload of so many
+// bytes, or nothing.
 pub enum Turn {
+    Variable(u16),
     Length,
     Payload(u16),
     Ended,
@@ -125,6 +127,7 @@ fn open_turn(stream: Receiver, s: &[u8], out: &mut [u8]) -> Stepped
         Turn::Length => open_length(stream, k, s, out.len()),
         Turn::Payload(n) => open_payload(stream, k, n, s, out),
         Turn::Ended => Stepped::Refused(Refusal::NotAuthentic),
+        Turn::Variable(_) => Stepped::Refused(Refusal::Settings),
     }
 }
 
@@ -137,6 +140,7 @@ fn turn_after(turn: Turn, n: u16) -> Turn
         Turn::Length => Turn::Payload(n),
         Turn::Payload(_) => Turn::Length,
         Turn::Ended => Turn::Ended,
+        Turn::Variable(_) => Turn::Length,
     }
 }
 
@@ -156,7 +160,7 @@ fn advanced(stream: Receiver, n: u16) -> Receiver
 }
 
 // A refusal ends a stream, or leaves it as it was.
-fn refused_next(stream: Receiver, refusal: Refusal) -> Receiver
+pub fn refused_next(stream: Receiver, refusal: Refusal) -> Receiver
     ensures { λ r. ⌜ r ≡ refusedNext refusal stream ⌝ }
 {
     if refusal.ends_stream() {

@@ -1,2 +1,2 @@
--- Laws of the definitions of opening a request's head.
+-- Laws of the definitions of opening a request's front.
 pub mod RequestLaws

@@ -1,5 +1,5 @@
 // Calls about streams, each on the eight words of a stream. Each answers 0 or the number of a refusal, and writes its values into an
-// answer of 9 words, the last of which is the time that a head says.
+// answer of 9 words.
 use crate::case::CLOCK;
 use crate::case::DATA;
 use crate::case::KEY;
@@ -9,13 +9,11 @@ use crate::case::SALT;
 use crate::case::field;
 use crate::case::number;
 use crate::case::size;
-use crate::memory::set;
 use stream_answers::write_request;
 use stream_answers::write_response;
 use stream_answers::write_sealed;
 use stream_answers::write_step;
-use stream_open_request::RequestOpened;
-use stream_open_response::ResponseOpened;
+use stream_answers::write_variable;
 use stream_seal::Sealed;
 ghost use mathlib.Core.Path.{_≡_};
 ghost use lib.ListN.{length};
@@ -33,11 +31,10 @@ const OPEN_RESPONSE: u64 = 36;
 
 const MAKE: u64 = 38;
 
+const OPEN_VARIABLE: u64 = 39;
+
 // The number of a request that is sealed.
 const PADDING: usize = 80;
-
-// The word of an answer for a head's time.
-const TIME: usize = 8;
 
 fn seal_request(c: &[u8], out: &mut [u8]) -> Sealed {
     stream_seal_heads::seal_request(
@@ -76,37 +73,26 @@ fn seal(c: &[u8], kind: u64, stream: &[u64], out: &mut [u8]) -> Sealed
     stream_seal::seal_chunk(words::sender_in(stream), field(c, DATA), out)
 }
 
-fn open_request(c: &[u8], pool: &mut [u64], out: &mut [u8]) -> RequestOpened {
-    stream_open_request::open_request(
+fn open_request(c: &[u8], pool: &mut [u64], stream: &mut [u64], answer: &mut [u64]) -> u64
+    requires { ⌜ length (now stream) ≡ 8 ⌝ }
+    requires { ⌜ length (now answer) ≡ 9 ⌝ }
+{
+    let opened = stream_open_request::open_request(
         number(c, METHOD),
         field(c, KEY),
         number(c, CLOCK),
         field(c, DATA),
         pool,
-        out,
-    )
-}
-
-fn request_time(opened: RequestOpened) -> u64 {
-    match opened {
-        RequestOpened::Accepted(h, _) => h.time,
-        RequestOpened::Refused(_) => 0,
-    }
-}
-
-fn write_opened(opened: RequestOpened, stream: &mut [u64], answer: &mut [u64]) -> u64
-    requires { ⌜ length (now stream) ≡ 8 ⌝ }
-    requires { ⌜ length (now answer) ≡ 9 ⌝ }
-{
-    set(answer, TIME, request_time(opened));
+    );
     write_request(opened, stream, answer)
 }
 
-fn response_time(opened: ResponseOpened) -> u64 {
-    match opened {
-        ResponseOpened::Accepted(h, _) => h.time,
-        ResponseOpened::Refused(_) => 0,
-    }
+fn open_variable(c: &[u8], out: &mut [u8], stream: &mut [u64], answer: &mut [u64]) -> u64
+    requires { ⌜ length (now stream) ≡ 8 ⌝ }
+    requires { ⌜ length (now answer) ≡ 9 ⌝ }
+{
+    let step = stream_open_variable::open_variable(words::receiver_in(stream), field(c, DATA), out);
+    write_variable(step, stream, answer)
 }
 
 fn open_response(c: &[u8], stream: &mut [u64], answer: &mut [u64]) -> u64
@@ -120,7 +106,6 @@ fn open_response(c: &[u8], stream: &mut [u64], answer: &mut [u64]) -> u64
         field(c, SALT),
         field(c, DATA),
     );
-    set(answer, TIME, response_time(opened));
     write_response(opened, stream, answer)
 }
 
@@ -154,13 +139,16 @@ pub(crate) fn call(
         return write_sealed(seal(c, kind, stream, out), stream, answer);
     }
     if kind == OPEN_REQUEST {
-        return write_opened(open_request(c, pool, out), stream, answer);
+        return open_request(c, pool, stream, answer);
     }
     if kind == OPEN_RESPONSE {
         return open_response(c, stream, answer);
     }
     if kind == MAKE {
         return make(c, pool);
+    }
+    if kind == OPEN_VARIABLE {
+        return open_variable(c, out, stream, answer);
     }
     open_chunk(c, out, stream, answer)
 }

@@ -13,7 +13,7 @@ use Rattle.datagram_parts.specs.declared.Side.the-variants.{Client, Server}
 use Rattle.datagram_seal.specs.declared.Sender.{Sender as Session}
 use Rattle.stream_seal.specs.declared.Sender.{Sender}
 use Rattle.stream_open.specs.declared.Turn.{Turn}
-use Rattle.stream_open.specs.declared.Turn.the-variants.{Length, Payload, Ended}
+use Rattle.stream_open.specs.declared.Turn.the-variants.{Variable, Length, Payload, Ended}
 use Rattle.stream_open.specs.declared.Receiver.{Receiver}
 use Rattle.stream_open.specs.Chunks.{ended}
 use Rattle.words.specs.States.{sessionSize, sessionLawful, sideIn, sessionIn, sideNumber, clientOf, sessionWords, streamSize, senderIn, senderWords, receiverLawful, turnLawful, turnIn, receiverIn, turnNumber, turnLength, receiverWords}
@@ -54,6 +54,7 @@ turn-held : (t : Turn) → turnLength t < 65536 → turnIn (turnNumber t) (turnL
 turn-held Length l = refl
 turn-held (Payload n) l = ap Payload (mod-eq-of-lt l)
 turn-held Ended l = refl
+turn-held (Variable n) l = ap Variable (mod-eq-of-lt l)
 
 good : (t : Turn) → turnLength t < 65536 → turnLawful (turnNumber t) (turnLength t) ≡ true
 good Length l = refl
@@ -61,6 +62,9 @@ good (Payload n) l =
     let h : n ≤ 65535 = omega arith in
     le-leb n 65535 h
 good Ended l = refl
+good (Variable n) l =
+    let h : n ≤ 65535 = omega arith in
+    le-leb n 65535 h
 
 -- a length to come is that of two bytes
 module _ (s : Receiver) (l : turnLength (s .turn) < 65536) where

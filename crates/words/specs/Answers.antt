@@ -9,7 +9,7 @@ use Rattle.protocol.specs.Refusal.{refusalNumber, wantedBytes}
 use Rattle.socks5.specs.declared.Target.{Target}
 use Rattle.socks5.specs.declared.Target.the-variants.{V4, V6, Name}
 use Rattle.datagram_read.specs.declared.Header.{Header}
-use Rattle.stream_open_request.specs.declared.Request.{Request}
+use Rattle.stream_open_variable.specs.declared.VariableHeader.{VariableHeader}
 use Rattle.stream_open.specs.declared.Chunk.{Chunk}
 
 -- a lent answer has so many words
@@ -40,10 +40,14 @@ headerWords h =
     kindOf (h .target) ∷ firstOf (h .target) ∷ secondOf (h .target) ∷ h .port
     ∷ h .session ∷ h .packet ∷ h .time ∷ h .padding ∷ h .payload ∷ []
 
-abbrev pub requestWords : Request → List ℕ
-requestWords h =
+abbrev pub variableWords : VariableHeader → List ℕ
+variableWords h =
     kindOf (h .target) ∷ firstOf (h .target) ∷ secondOf (h .target) ∷ h .port
     ∷ h .padding ∷ h .payload ∷ h .used ∷ h .length ∷ []
+
+-- the front of a head
+abbrev pub headWords : (used length time : ℕ) → List ℕ
+headWords used length time = used ∷ length ∷ time ∷ []
 
 abbrev pub chunkWords : Chunk → List ℕ
 chunkWords c = c .used ∷ c .length ∷ []

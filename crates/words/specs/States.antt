@@ -11,7 +11,7 @@ use Rattle.stream_pieces.specs.Pieces.{maxChunk}
 use Rattle.stream_pieces.specs.declared.Subkey.{Subkey}
 use Rattle.stream_seal.specs.declared.Sender.{Sender}
 use Rattle.stream_open.specs.declared.Turn.{Turn}
-use Rattle.stream_open.specs.declared.Turn.the-variants.{Length, Payload, Ended}
+use Rattle.stream_open.specs.declared.Turn.the-variants.{Variable, Length, Payload, Ended}
 use Rattle.stream_open.specs.declared.Receiver.{Receiver}
 
 -- ---- a sending session: side (0 a client's, 1 a server's), own ID, the client's ID, next packet ID
@@ -40,8 +40,8 @@ clientOf (Server client) = client
 abbrev pub sessionWords : Session → List ℕ
 sessionWords s = sideNumber (s .side) ∷ s .id ∷ clientOf (s .side) ∷ s .packet ∷ []
 
--- ---- a stream: turn (0 ended, 1 a length is next, 2 a payload is next, 3 sealing), method, counter, the length of the payload
--- that is next, and the subkey in four words
+-- ---- a stream: turn (0 ended, 1 a length is next, 2 a payload is next, 3 sealing, 4 a request's variable header is next), method,
+-- counter, the length of the variable header or payload that is next, and the subkey in four words
 
 abbrev pub streamSize : ℕ
 streamSize = 8
@@ -59,15 +59,15 @@ abbrev pub senderWords : Sender → List ℕ
 senderWords s =
     3 ∷ s .method ∷ s .counter ∷ 0 ∷ s .subkey .a ∷ s .subkey .b ∷ s .subkey .c ∷ s .subkey .d ∷ []
 
--- at a turn of opening, or ended; a payload has at most 65,535 bytes
+-- at a turn of opening, or ended; a variable header and a payload have at most 65,535 bytes
 abbrev pub turnLawful : (turn n : ℕ) → Bool
-turnLawful turn n = cond (eqb turn 2) (leb n maxChunk) (leb turn 1)
+turnLawful turn n = cond (eqb turn 2) (leb n maxChunk) (cond (eqb turn 4) (leb n maxChunk) (leb turn 1))
 
 abbrev pub receiverLawful : List ℕ → Bool
 receiverLawful w = eqb (length w) streamSize && turnLawful (turnOf w) (getD w 3 0)
 
 abbrev pub turnIn : (turn n : ℕ) → Turn
-turnIn turn n = cond (eqb turn 1) Length (cond (eqb turn 2) (Payload (n % 65536)) Ended)
+turnIn turn n = cond (eqb turn 1) Length (cond (eqb turn 2) (Payload (n % 65536)) (cond (eqb turn 4) (Variable (n % 65536)) Ended))
 
 abbrev pub receiverIn : List ℕ → Receiver
 receiverIn w = record { method = getD w 1 0; turn = turnIn (turnOf w) (getD w 3 0); counter = getD w 2 0; subkey = subkeyIn w }
@@ -76,11 +76,13 @@ abbrev pub turnNumber : Turn → ℕ
 turnNumber Length = 1
 turnNumber (Payload n) = 2
 turnNumber Ended = 0
+turnNumber (Variable n) = 4
 
 abbrev pub turnLength : Turn → ℕ
 turnLength Length = 0
 turnLength (Payload n) = n
 turnLength Ended = 0
+turnLength (Variable n) = n
 
 abbrev pub receiverWords : Receiver → List ℕ
 receiverWords s =

@@ -3,10 +3,10 @@ use datagram_read::Header;
 use protocol::Refusal;
 use socks5::Target;
 use stream_open::Chunk;
-use stream_open_request::Request;
+use stream_open_variable::VariableHeader;
 ghost use mathlib.Core.Path.{_≡_};
 ghost use lib.ListN.{length};
-ghost use Rattle.words.specs.Answers.{answerWords, kindOf, firstOf, secondOf, headerWords, requestWords, chunkWords, refusedAnswer};
+ghost use Rattle.words.specs.Answers.{answerWords, kindOf, firstOf, secondOf, headerWords, variableWords, headWords, chunkWords, refusedAnswer};
 ghost use Rattle.protocol.specs.Refusal.{refusalNumber};
 
 // The kind byte of a target.
@@ -60,9 +60,9 @@ pub fn header_words(h: Header) -> [u64; 9]
     ]
 }
 
-// An opened head of a request.
-pub fn request_words(h: Request) -> [u64; 8]
-    ensures { λ r. ⌜ r ≡ requestWords h ⌝ }
+// An opened variable header of a request.
+pub fn variable_words(h: VariableHeader) -> [u64; 8]
+    ensures { λ r. ⌜ r ≡ variableWords h ⌝ }
 {
     let target = h.target;
     [
@@ -75,6 +75,13 @@ pub fn request_words(h: Request) -> [u64; 8]
         h.used as u64,
         h.length as u64,
     ]
+}
+
+// An opened front of a head: how many bytes were used, the length of the piece behind it, and its time.
+pub fn head_words(used: usize, length: u16, time: u64) -> [u64; 3]
+    ensures { λ r. ⌜ r ≡ headWords used length time ⌝ }
+{
+    [used as u64, length as u64, time]
 }
 
 // An opened piece: how many bytes were used, and a length.

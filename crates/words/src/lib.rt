@@ -4,9 +4,10 @@ mod answers;
 mod states;
 
 pub use answers::chunk_words;
+pub use answers::head_words;
 pub use answers::header_words;
 pub use answers::refuse;
-pub use answers::request_words;
+pub use answers::variable_words;
 pub use states::is_receiver;
 pub use states::is_session;
 pub use states::receiver_in;
@@ -33,3 +34,5 @@ pub const LENGTH_NEXT: u64 = 1;
 pub const PAYLOAD_NEXT: u64 = 2;
 
 pub const SEALING: u64 = 3;
+
+pub const VARIABLE_NEXT: u64 = 4;

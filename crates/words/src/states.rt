@@ -1,11 +1,12 @@
 // The states that a host holds as words. A sending session: side (0 a client's, 1 a server's), own ID, the client's ID, next
-// packet ID. A stream: turn, method, counter, the length of the payload that is next, and the subkey.
+// packet ID. A stream: turn, method, counter, the length of the variable header or payload that is next, and the subkey.
 use super::ENDED;
 use super::LENGTH_NEXT;
 use super::PAYLOAD_NEXT;
 use super::SEALING;
 use super::SESSION;
 use super::STREAM;
+use super::VARIABLE_NEXT;
 use datagram_parts::Side;
 use stream_open::Receiver;
 use stream_open::Turn;
@@ -19,8 +20,8 @@ const CLIENT: u64 = 0;
 
 const SERVER: u64 = 1;
 
-// The longest payload.
-const MAX_PAYLOAD: u64 = 65535;
+// The longest variable header or payload.
+const MAX_LENGTH: u64 = 65535;
 
 // ---- sending sessions
 
@@ -104,7 +105,10 @@ pub fn is_receiver(words: &[u64]) -> bool
         return false;
     }
     if words[0] == PAYLOAD_NEXT {
-        return words[3] <= MAX_PAYLOAD;
+        return words[3] <= MAX_LENGTH;
+    }
+    if words[0] == VARIABLE_NEXT {
+        return words[3] <= MAX_LENGTH;
     }
     words[0] <= LENGTH_NEXT
 }
@@ -117,6 +121,9 @@ fn turn_in(turn: u64, n: u64) -> Turn
     }
     if turn == PAYLOAD_NEXT {
         return Turn::Payload((n % 65536) as u16);
+    }
+    if turn == VARIABLE_NEXT {
+        return Turn::Variable((n % 65536) as u16);
     }
     Turn::Ended
 }
@@ -140,6 +147,7 @@ fn turn_number(turn: Turn) -> u64
         Turn::Length => LENGTH_NEXT,
         Turn::Payload(_) => PAYLOAD_NEXT,
         Turn::Ended => ENDED,
+        Turn::Variable(_) => VARIABLE_NEXT,
     }
 }
 
@@ -150,6 +158,7 @@ fn turn_length(turn: Turn) -> u64
         Turn::Length => 0,
         Turn::Payload(n) => n as u64,
         Turn::Ended => 0,
+        Turn::Variable(n) => n as u64,
     }
 }
 

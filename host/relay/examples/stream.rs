@@ -8,7 +8,7 @@ use std::fs::File;
 use std::io::{self, Read};
 use std::time::{SystemTime, UNIX_EPOCH};
 
-use relay::{Address, Key, Method, Pool, Refusal, RequestStream, ResponseStream, Step};
+use relay::{Address, Key, Method, Pool, RequestReader, RequestStream, ResponseStream, Step};
 
 /// How many bytes arrive at once.
 const PIECE: usize = 50;
@@ -34,21 +34,25 @@ fn request(key: &Key, salt: &[u8]) -> Result<Vec<u8>, Box<dyn Error>> {
     Ok(wire)
 }
 
-/// The server waits until it has the whole head, and then opens chunk by chunk.
+/// The server reads the head as it arrives, and then opens chunk by chunk.
 fn serve(key: &Key, wire: &[u8]) -> Result<(), Box<dyn Error>> {
     let mut pool = Pool::new(key.method());
     let mut out = vec![0; 65_535];
-    let mut arrived = 0;
-    let (mut server, header) = loop {
-        match RequestStream::open(key, now()?, &wire[..arrived], &mut pool, &mut out) {
-            Err(Refusal::More { wanted }) => println!("server   has {arrived} of {wanted}"),
-            other => break other?,
+    let mut reader = RequestReader::new();
+    let (mut pieces, mut arrived) = (wire.chunks(PIECE), 0);
+    let header = loop {
+        let piece = pieces.next().ok_or("the head is not whole")?;
+        arrived += piece.len();
+        match reader.read(key, now()?, piece, &mut pool, &mut out)? {
+            Some(header) => break header,
+            None => println!("server   has {arrived} bytes"),
         }
-        arrived = (arrived + PIECE).min(wire.len());
     };
     println!("server   is asked for {}", header.address(&out));
     print!("{}", String::from_utf8_lossy(header.payload(&out)));
-    let mut rest = &wire[header.used..];
+    let (mut server, mut behind) = reader.into_stream().ok_or("a header was given")?;
+    behind.extend_from_slice(&wire[arrived..]);
+    let mut rest = &behind[..];
     while !rest.is_empty() {
         let step = server.open_chunk(rest, &mut out)?;
         rest = &rest[step.used()..];

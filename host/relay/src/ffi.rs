@@ -116,10 +116,18 @@ extern "C" {
         bytes_len: usize,
         pool: *mut u64,
         pool_len: usize,
-        out: *mut u8,
-        out_len: usize,
         stream: *mut u64,
         stream_len: usize,
+        answer: *mut u64,
+        answer_len: usize,
+    ) -> u64;
+    fn relay_stream_open_variable(
+        stream: *mut u64,
+        stream_len: usize,
+        bytes: *const u8,
+        bytes_len: usize,
+        out: *mut u8,
+        out_len: usize,
         answer: *mut u64,
         answer_len: usize,
     ) -> u64;
@@ -393,13 +401,12 @@ pub(crate) fn stream_seal_request(
     answer::checked(number, answer).map(|answer| (stream, answer))
 }
 
-/// Opens a request's head and begins its stream.
+/// Opens the front of a request's head and begins its stream.
 pub(crate) fn stream_open_request(
     key: &Key,
     clock: u64,
     bytes: &[u8],
     pool: &mut PoolWords,
-    out: &mut [u8],
 ) -> Result<(StreamWords, Answer), Refusal> {
     let mut stream = [0; STREAM_WORDS];
     let mut answer = NO_ANSWER;
@@ -414,8 +421,6 @@ pub(crate) fn stream_open_request(
             bytes.len(),
             pool.as_mut_ptr(),
             pool.len(),
-            out.as_mut_ptr(),
-            out.len(),
             stream.as_mut_ptr(),
             stream.len(),
             answer.as_mut_ptr(),
@@ -423,6 +428,29 @@ pub(crate) fn stream_open_request(
         )
     };
     answer::checked(number, answer).map(|answer| (stream, answer))
+}
+
+/// Opens the variable header of a request, behind its front.
+pub(crate) fn stream_open_variable(
+    stream: &mut StreamWords,
+    bytes: &[u8],
+    out: &mut [u8],
+) -> Result<Answer, Refusal> {
+    let mut answer = NO_ANSWER;
+    // SAFETY: the rule of lending.
+    let number = unsafe {
+        relay_stream_open_variable(
+            stream.as_mut_ptr(),
+            stream.len(),
+            bytes.as_ptr(),
+            bytes.len(),
+            out.as_mut_ptr(),
+            out.len(),
+            answer.as_mut_ptr(),
+            answer.len(),
+        )
+    };
+    answer::checked(number, answer)
 }
 
 /// Seals a response's head with its first payload and begins its stream.

@@ -68,12 +68,14 @@
 //! let chunk = sender.seal_chunk(b"/", &mut wire[head..])?;
 //! let wire = &wire[..head + chunk];
 //!
-//! // The server opens the head, and then a length and a payload by turns.
+//! // The server opens the head in two calls, and then a length and a payload by turns.
 //! let mut pool = Pool::new(Method::Aes256Gcm);
 //! let mut out = [0; 1_024];
-//! let (mut receiver, header) = RequestStream::open(&key, now, wire, &mut pool, &mut out)?;
+//! let (mut receiver, front) = RequestStream::open(&key, now, wire, &mut pool)?;
+//! let mut rest = &wire[front.used..];
+//! let header = receiver.open_variable(rest, &mut out)?;
 //! assert_eq!(header.payload(&out), b"GET ");
-//! let mut rest = &wire[header.used..];
+//! rest = &rest[header.used..];
 //! while !rest.is_empty() {
 //!     let step = receiver.open_chunk(rest, &mut out)?;
 //!     rest = &rest[step.used()..];
@@ -98,7 +100,8 @@
 //! What cannot be made at all (a key of a wrong length, an empty name) is [`Invalid`],
 //! which says what was wrong. Every call gives its result or a [`Refusal`], and says
 //! which ones and in which order. A refusal leaves tables, pools and sending sessions
-//! as they were, but a datagram's [`Refusal::Replay`] counts a repeat in its session. One that
+//! as they were, but a datagram's [`Refusal::Replay`] counts a repeat in its session; a
+//! salt that the front of a request stored stays, whatever is refused behind it. One that
 //! comes before the payload's tag was found good leaves the output buffer as it
 //! was; one that comes later sets the bytes of the plaintext to zero. Bytes behind
 //! those due are never written.
@@ -163,7 +166,8 @@ pub use pool::Pool;
 pub use refusal::Refusal;
 pub use seal_session::SealSession;
 pub use session::Session;
-pub use stream::{RequestHeader, RequestStream, ResponseHeader, ResponseStream, Step};
+pub use stream::{RequestFront, RequestHeader, RequestReader, RequestStream};
+pub use stream::{ResponseHeader, ResponseStream, Step};
 pub use table::Table;
 pub use target::Target;
 

@@ -3,7 +3,7 @@
 mod request;
 mod response;
 
-pub use request::RequestHeader;
+pub use request::{RequestFront, RequestHeader, RequestReader};
 pub use response::ResponseHeader;
 
 use std::fmt;
@@ -57,8 +57,9 @@ pub type ResponseStream<Half> = Stream<Response, Half>;
 /// One half of one direction of a stream, behind its head.
 ///
 /// It is begun by sealing or opening a head: see [`RequestStream::seal`],
-/// [`RequestStream::open`], [`ResponseStream::seal`] and [`ResponseStream::open`].
-/// Chunks are the same in both directions.
+/// [`RequestStream::open`] with [`RequestStream::open_variable`],
+/// [`ResponseStream::seal`] and [`ResponseStream::open`]. Chunks are the same in both
+/// directions.
 ///
 /// Each call takes the next counters of the stream. Under one salt a counter must
 /// never be sealed twice, so a stream cannot be copied. Its subkey is not shown by
@@ -110,8 +111,8 @@ impl<Direction, Half> Stream<Direction, Half> {
     /// The number of words that a stream is.
     pub const WORDS: usize = STREAM_WORDS;
 
-    /// Whether the stream has ended because a tag was wrong or a length was 0. It
-    /// then refuses every call with [`Refusal::NotAuthentic`].
+    /// Whether the stream has ended because a tag or a variable header was wrong or a
+    /// length was 0. It then refuses every call with [`Refusal::NotAuthentic`].
     pub fn is_ended(&self) -> bool {
         self.words[TURN] == ENDED
     }
@@ -122,8 +123,9 @@ impl<Direction, Half> Stream<Direction, Half> {
     }
 
     /// The stream as words, to be stored: its turn (0 ended, 1 opens a length, 2
-    /// opens a payload, 3 seals), method, counter, the length of the payload that is
-    /// next, and its subkey in four words. They are as secret as the key.
+    /// opens a payload, 3 seals, 4 opens a variable header), method, counter, the
+    /// length of the payload or variable header that is next, and its subkey in four
+    /// words. They are as secret as the key.
     ///
     /// A host that restores older words of a stream that seals encrypts twice with
     /// one counter, which breaks the encryption.

@@ -12,7 +12,7 @@ returns c =
     let g = u .before .before in
     let s = g .before .before .before .before in
     told-request (s .args .opened) (s .args .stream .now) (s .args .answer .now) _ _ _ _ _ _ (g .opened .given .1) (u .receiver-words .ensures)
-    (v .request-words .ensures) (f .write .ensures) (d .write2 .ensures) (s .pre .0)
+    (v .head-words .ensures) (f .write .ensures) (d .write2 .ensures) (s .pre .0)
 
 returns-2 : tie.Need-returns-2
 returns-2 c =

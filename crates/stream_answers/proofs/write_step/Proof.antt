@@ -1,4 +1,4 @@
-use Rattle.stream_answers.proofs.ToldLaws.{told-chunk, told-ended, told-stays}
+use Rattle.stream_answers.proofs.ToldLaws.{told-chunk, told-no-chunk}
 use borrow.Author.Needs.{needs}
 use Rattle.stream_answers.proofs.write_step.Statement.{statement}
 use Rattle.stream_answers.proofs.write_step.Tie as tie
@@ -16,21 +16,28 @@ returns c =
 
 returns-2 : tie.Need-returns-2
 returns-2 c =
-    let e = c .before in
-    let r = e .before .before .before in
-    let g = r .before .before .before in
+    let r = c .before .before .before .before in
+    let g = r .before .before .before .before in
     let a = g .before .before .before .before .args in
-    told-ended (a .step .answer) (a .step .stream) (a .stream .now) (a .answer .now) _ _ _ (g .stepped2 .given .1) _ (e .ends-stream .ensures)
-    (r .refuse .ensures .0) (r .refuse .ensures .1) (c .if1 .taken)
-
-returns-3 : tie.Need-returns-3
-returns-3 c =
-    let e = c .before in
-    let r = e .before .before .before in
-    let g = r .before .before .before in
-    let a = g .before .before .before .before .args in
-    told-stays (a .step .answer) (a .step .stream) (a .stream .now) (a .answer .now) _ _ _ (g .stepped2 .given .1) _ (e .ends-stream .ensures)
-    (r .refuse .ensures .0) (r .refuse .ensures .1) (c .if1 .left)
+    told-no-chunk (a .step .answer) (a .step .stream) (a .stream .now) (a .answer .now) _ _ _ _ (g .stepped2 .given .1) (r .write-refused .ensures .0)
+    (r .write-refused .ensures .1 .0) (r .write-refused .ensures .1 .1)
 
 pub write-step-spec : {M : Type 1} → statement M
-write-step-spec = tie.close (tie.spec (λ c. search needs) (λ c κs. search needs) (λ c. search needs) (λ c κs. search needs) (λ c κs. search needs) (λ c. search needs) (λ c κs. search needs) (λ c. search needs) (λ c κs. search needs) (λ c κs. search needs) (λ c. search needs) (λ c. search needs) (λ c. search needs) returns (λ c. search needs) (λ c. search needs) returns-2 (λ c. search needs) returns-3)
+write-step-spec =
+    tie.close
+    (tie.spec
+    (λ c. search needs)
+    (λ c κs. search needs)
+    (λ c. search needs)
+    (λ c κs. search needs)
+    (λ c κs. search needs)
+    (λ c. search needs)
+    (λ c κs. search needs)
+    (λ c. search needs)
+    (λ c κs. search needs)
+    (λ c. search needs)
+    (λ c. search needs)
+    returns
+    (λ c. search needs)
+    (λ c. search needs)
+    returns-2)

@@ -3,7 +3,7 @@ use Prim.Native.Nat.{ℕ, _<_}
 use borrow.Author.Needs.{needs}
 use Rattle.aes.specs.Keyed.{nkOf}
 use Rattle.stream_pieces.proofs.KeyLaws.{key-of-length}
-use Rattle.stream_open.proofs.ChunkLaws.{step-settings, step-length, step-payload, step-ended}
+use Rattle.stream_open.proofs.ChunkLaws.{step-settings, step-length, step-payload, step-ended, step-variable}
 use Rattle.stream_open.proofs.open_turn.Statement.{statement}
 use Rattle.stream_open.proofs.open_turn.Tie as tie
 
@@ -41,6 +41,11 @@ returns-4 c =
     let e = c .before .before in
     step-ended _ _ _ _ (e .before .key-length .ensures) (e .if1 .left) (c .enum-told2 .given .1)
 
+returns-5 : tie.Need-returns-5
+returns-5 c =
+    let e = c .before .before in
+    step-variable _ _ _ _ (e .before .key-length .ensures) (e .if1 .left) _ (c .enum-told3 .given .1)
+
 pub open-turn-spec : {M : Type 1} → statement M
 open-turn-spec =
     tie.close
@@ -52,7 +57,9 @@ open-turn-spec =
     (λ c. search needs)
     open-payload-requires
     (λ c. search needs)
+    (λ c. search needs)
     returns-2
     (λ c. search needs)
     returns-3
-    returns-4)
+    returns-4
+    returns-5)

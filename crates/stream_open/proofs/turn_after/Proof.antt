@@ -11,4 +11,12 @@ returns c = ap (λ (t : Turn). turnAfter t (c .before .before .args .n)) (sym (c
 pub turn-after-spec : {M : Type 1} → statement M
 turn-after-spec =
     tie.close
-    (tie.spec (λ c. search needs) (λ c. search needs) (λ c. search needs) returns (λ c. search needs) (λ c. search needs))
+    (tie.spec
+    (λ c. search needs)
+    (λ c. search needs)
+    (λ c. search needs)
+    (λ c. search needs)
+    returns
+    (λ c. search needs)
+    (λ c. search needs)
+    (λ c. search needs))

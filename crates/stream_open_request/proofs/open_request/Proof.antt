@@ -8,7 +8,7 @@ use Rattle.stream_open_request.proofs.RequestLaws.{Lawful, lawful-setti
 use Rattle.stream_open_request.proofs.open_request.Statement.{statement}
 use Rattle.stream_open_request.proofs.open_request.Tie as tie
 
-facts : (c : tie.After-salt-length) → let a = c .before .before .before .before .before .before .before .before .args in
+facts : (c : tie.After-salt-length) → let a = c .before .before .before .before .before .before .before .args in
     Lawful (a .method) (length (a .key .now)) (a .pool .now) (c .salt-length .result)
 facts c =
     let t = c .before in
@@ -17,15 +17,15 @@ facts c =
 add-if2 : tie.Need-add-if2
 add-if2 c = record { fits = omega (arith, facts c .most) }
 
-add-t16 : tie.Need-add-t16
-add-t16 c = add-if2 (c .before)
+add-t15 : tie.Need-add-t15
+add-t15 c = add-if2 (c .before)
 
 returns : tie.Need-returns
 returns c =
     let n = c .before in
     let t = n .before in
-    let a = t .before .before .before .before .before .before .before .args in
-    request-more (a .method) (a .key .now) (a .clock) (a .s .now) (a .pool .now) (a .out .now) _ (t .before .settings-fit .ensures) (t .if1 .taken) _
+    let a = t .before .before .before .before .before .before .args in
+    request-more (a .method) (a .key .now) (a .clock) (a .s .now) (a .pool .now) _ (t .before .settings-fit .ensures) (t .if1 .taken) _
     (n .salt-length .ensures) (c .if2 .taken)
 
 slice-aggregate-derive : tie.Need-slice-aggregate-derive
@@ -36,29 +36,31 @@ derive-requires c κs =
     let d = facts (c .before .before) in
     (omega (arith, d .salt, d .most), omega (arith, d .most, slice-aggregate-derive c))
 
-read-head-requires : tie.Need-read-head-requires
-read-head-requires c κs =
-    let e = c .before .before .before .before in
+add-opened-as : tie.Need-add-opened-as
+add-opened-as c = add-if2 (c .before .before .before)
+
+read-front-requires : tie.Need-read-front-requires
+read-front-requires c κs =
+    let e = c .before .before .before in
     let d = facts (e .before) in
     (d .aes, (omega (arith, e .if2 .left), d .words))
 
 returns-2 : tie.Need-returns-2
 returns-2 c =
-    let h = c .before .before .before .before .before in
-    let v = h .before .before .before in
+    let h = c .before .before .before in
+    let v = h .before .before in
     let e = v .before .before in
     let n = e .before in
     let t = n .before in
-    let a = t .before .before .before .before .before .before .before .args in
-    request-done (a .method) (a .key .now) (a .clock) (a .s .now) (a .pool .now) (a .out .now) _ (t .before .settings-fit .ensures) (t .if1 .taken) _
-    (n .salt-length .ensures) (e .if2 .left) _ (v .derive .ensures) _ _ _ (h .read-head .ensures .0) (h .read-head .ensures .1 .0) (h .read-head .ensures .1 .1) _
-    (c .opened-as .ensures)
+    let a = t .before .before .before .before .before .before .args in
+    request-done (a .method) (a .key .now) (a .clock) (a .s .now) (a .pool .now) _ (t .before .settings-fit .ensures) (t .if1 .taken) _
+    (n .salt-length .ensures) (e .if2 .left) _ (v .derive .ensures) _ _ (h .read-front .ensures .0) (h .read-front .ensures .1) _ (c .opened-as .ensures)
 
 returns-3 : tie.Need-returns-3
 returns-3 c =
     let b = c .before in
-    let a = b .before .before .before .before .before .before .args in
-    request-settings (a .method) (a .key .now) (a .clock) (a .s .now) (a .pool .now) (a .out .now) _ (b .settings-fit .ensures) (c .if1 .left)
+    let a = b .before .before .before .before .before .args in
+    request-settings (a .method) (a .key .now) (a .clock) (a .s .now) (a .pool .now) _ (b .settings-fit .ensures) (c .if1 .left)
 
 pub open-request-spec : {M : Type 1} → statement M
 open-request-spec =
@@ -67,14 +69,14 @@ open-request-spec =
     (λ c κs. search needs)
     (λ c κs. search needs)
     add-if2
-    add-t16
+    add-t15
     (λ c. search needs)
     returns
     slice-aggregate-derive
     derive-requires
-    read-head-requires
+    add-opened-as
+    read-front-requires
     (λ c κs. search needs)
-    (λ c. search needs)
     (λ c. search needs)
     returns-2
     (λ c. search needs)

@@ -78,7 +78,7 @@ fn list(parameters: &str) -> Vec<String> {
 fn every_function_is_declared_as_in_the_header() {
     let in_header = parameters(&header(), "uint64_t");
     let here = parameters(include_str!("../ffi.rs"), "fn");
-    assert_eq!(in_header.len(), 16);
+    assert_eq!(in_header.len(), 17);
     assert_eq!(here.len(), in_header.len());
     for (name, parameters) in in_header {
         let expected: Vec<String> = list(&parameters).iter().map(|p| in_rust(p)).collect();
@@ -175,8 +175,14 @@ fn answers_have_the_headers_order() {
     assert!(places(&datagram).into_iter().eq(0..9));
     assert!(places(&request).into_iter().eq(0..8));
     assert_eq!(
-        places(&["USED", "CHUNK_LENGTH", "SEALED_LENGTH", "WANTED"]),
-        [0, 1, 0, 0]
+        places(&[
+            "USED",
+            "CHUNK_LENGTH",
+            "HEAD_TIME",
+            "SEALED_LENGTH",
+            "WANTED"
+        ]),
+        [0, 1, 2, 0, 0]
     );
     assert_eq!(places(&["DATAGRAMS", "GOOD"]), [0, 0]);
 }
@@ -185,8 +191,14 @@ fn answers_have_the_headers_order() {
 fn streams_have_the_headers_turns() {
     let numbers = numbers();
     let words = ["STREAM_TURN", "STREAM_METHOD", "STREAM_COUNTER"];
-    let turns = ["TURN_ENDED", "TURN_LENGTH", "TURN_PAYLOAD", "TURN_SEALING"];
+    let turns = [
+        "TURN_ENDED",
+        "TURN_LENGTH",
+        "TURN_PAYLOAD",
+        "TURN_SEALING",
+        "TURN_VARIABLE",
+    ];
     let value = |name: &&str| numbers[&format!("RELAY_{name}")];
     assert!(words.iter().map(value).eq(0..3));
-    assert!(turns.iter().map(value).eq(0..4));
+    assert!(turns.iter().map(value).eq(0..5));
 }

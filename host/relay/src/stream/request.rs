@@ -12,7 +12,18 @@ const FIXED_HEADER: usize = 1 + 8 + 2;
 /// The bytes of the padding's length.
 const PADDING_LENGTH: usize = 2;
 
-/// The header of an opened request. Places are those in the buffer that the request
+/// What the front of a request says: its salt and its fixed header.
+#[derive(Clone, Copy, Debug, PartialEq, Eq, Hash)]
+pub struct RequestFront {
+    /// How many bytes the front has; the variable header comes behind it.
+    pub used: usize,
+    /// The length of the variable header, without its tag.
+    pub length: usize,
+    /// The sender's clock.
+    pub timestamp: u64,
+}
+
+/// The variable header of an opened request. Places are those in the buffer that it
 /// was opened to.
 #[derive(Clone, Debug, PartialEq, Eq, Hash)]
 pub struct RequestHeader {
@@ -24,7 +35,7 @@ pub struct RequestHeader {
     pub padding: u16,
     /// The place of the first payload, which may be empty.
     pub payload: Range<usize>,
-    /// How many bytes the head has; chunks come behind it.
+    /// How many bytes were used, behind the front; chunks come behind them.
     pub used: usize,
 }
 
@@ -118,37 +129,159 @@ impl Stream<Request, Sealing> {
 }
 
 impl Stream<Request, Opening> {
-    /// Opens a request's head, for a server. Gives the stream behind it, at a
-    /// length, and the header.
+    /// Opens the front of a request's head, for a server: its salt and its fixed
+    /// header. Gives the stream, which has the variable header next
+    /// ([`open_variable`](Self::open_variable)), and what the front says.
     ///
-    /// `bytes` is what has come in so far; those behind the head are not read. Its
+    /// `bytes` is what has come in so far; those behind the front are not read. Its
     /// first bytes, as many as [`salt_len`](Method::salt_len), are the salt that the
-    /// response names. The salt enters the pool exactly when the head is accepted.
-    /// The variable header goes to the front of `out`; bytes behind it are not
-    /// written.
+    /// response names. The salt enters the pool exactly when the front is accepted,
+    /// and stays there, whatever the variable header turns out to be: the same bytes
+    /// are then [`Replay`](Refusal::Replay). A [`RequestReader`] keeps track of that.
     ///
     /// # Errors
     ///
     /// The first that applies: [`Settings`](Refusal::Settings) (another method's
-    /// pool), [`More`](Refusal::More) (fixed header),
-    /// [`NotAuthentic`](Refusal::NotAuthentic), [`Type`](Refusal::Type),
-    /// [`Time`](Refusal::Time), [`Replay`](Refusal::Replay), [`Full`](Refusal::Full),
-    /// [`More`](Refusal::More) (variable header), [`Room`](Refusal::Room),
-    /// [`NotAuthentic`](Refusal::NotAuthentic), [`Malformed`](Refusal::Malformed).
-    /// All leave the pool as it was, so that behind `More` or `Room` the call can be
-    /// made again. Only the last one touches `out`: it sets the bytes of the
-    /// variable header to zero.
+    /// pool), [`More`](Refusal::More), [`NotAuthentic`](Refusal::NotAuthentic),
+    /// [`Type`](Refusal::Type), [`Time`](Refusal::Time), [`Replay`](Refusal::Replay),
+    /// [`Full`](Refusal::Full). All leave the pool as it was.
     pub fn open(
         key: &Key,
         clock: u64,
         bytes: &[u8],
         pool: &mut Pool,
+    ) -> Result<(Self, RequestFront), Refusal> {
+        let (words, answer) = ffi::stream_open_request(key, clock, bytes, pool.words_mut())?;
+        let front = RequestFront {
+            used: answer::length(answer[0]),
+            length: answer::length(answer[1]),
+            timestamp: answer[2],
+        };
+        Ok((Self::from_words(&words), front))
+    }
+
+    /// Opens the variable header, behind the front. The stream is then at a length.
+    ///
+    /// `bytes` is what has come in behind the front; those behind the variable header
+    /// are not read. It goes to the front of `out`; bytes behind it are not written.
+    ///
+    /// # Errors
+    ///
+    /// The first that applies: [`Settings`](Refusal::Settings) (a stream at another
+    /// turn), [`NotAuthentic`](Refusal::NotAuthentic) (it has ended),
+    /// [`More`](Refusal::More), [`Room`](Refusal::Room),
+    /// [`NotAuthentic`](Refusal::NotAuthentic) (the tag is wrong),
+    /// [`Malformed`](Refusal::Malformed), which sets the bytes of the variable header
+    /// to zero. The last two end the stream; the others leave it as it was, so that
+    /// the call can be made again with more bytes or room.
+    pub fn open_variable(
+        &mut self,
+        bytes: &[u8],
         out: &mut [u8],
-    ) -> Result<(Self, RequestHeader), Refusal> {
-        let (words, answer) = ffi::stream_open_request(key, clock, bytes, pool.words_mut(), out)?;
-        Ok((
-            Self::from_words(&words),
-            RequestHeader::from_library(&answer),
-        ))
+    ) -> Result<RequestHeader, Refusal> {
+        ffi::stream_open_variable(&mut self.words, bytes, out)
+            .map(|answer| RequestHeader::from_library(&answer))
+    }
+}
+
+/// Reads a request's head, for a server, as its bytes come in, in pieces of any
+/// size.
+///
+/// It makes each of the two calls on the stream once it has what the call wants, and
+/// the first one is never made again once it was accepted: a sender whose bytes
+/// arrive slowly is no replay of itself.
+///
+/// ```
+/// use relay::{Address, Key, Method, Pool, RequestReader, RequestStream};
+///
+/// let key = Key::new(Method::Aes128Gcm, &[0x4b; 16])?;
+/// let target = Address::name(b"example.com", 80)?;
+/// let mut wire = [0; 256];
+/// let (_, length) = RequestStream::seal(&key, &[0x51; 16], 0, &target, 0, b"GET ", &mut wire)?;
+///
+/// let (mut pool, mut out) = (Pool::new(Method::Aes128Gcm), [0; 256]);
+/// let mut reader = RequestReader::new();
+/// for byte in &wire[..length - 1] {
+///     assert_eq!(reader.read(&key, 0, &[*byte], &mut pool, &mut out)?, None);
+/// }
+/// let header = reader.read(&key, 0, &wire[length - 1..length], &mut pool, &mut out)?;
+/// assert_eq!(header.unwrap().payload(&out), b"GET ");
+/// # Ok::<(), relay::Refusal>(())
+/// ```
+#[derive(Debug, Default)]
+pub struct RequestReader {
+    received: Vec<u8>,
+    used: usize,
+    stream: Option<Stream<Request, Opening>>,
+    opened: bool,
+}
+
+impl RequestReader {
+    /// A reader that has received nothing.
+    pub fn new() -> Self {
+        Self::default()
+    }
+
+    /// Takes the bytes that have come in since the last call, and gives the variable
+    /// header once it is whole and opened to the front of `out`. `None` wants more
+    /// bytes. Behind [`Room`](Refusal::Room) the call is made again with no bytes.
+    ///
+    /// # Errors
+    ///
+    /// Those of [`RequestStream::open`](Stream::open) and
+    /// [`open_variable`](Stream::open_variable), but [`More`](Refusal::More). Behind the
+    /// header every call is [`Settings`](Refusal::Settings).
+    pub fn read(
+        &mut self,
+        key: &Key,
+        clock: u64,
+        bytes: &[u8],
+        pool: &mut Pool,
+        out: &mut [u8],
+    ) -> Result<Option<RequestHeader>, Refusal> {
+        self.received.extend_from_slice(bytes);
+        match self.open(key, clock, pool, out) {
+            Ok(header) => Ok(Some(header)),
+            Err(Refusal::More { .. }) => Ok(None),
+            Err(refusal) => Err(refusal),
+        }
+    }
+
+    fn open(
+        &mut self,
+        key: &Key,
+        clock: u64,
+        pool: &mut Pool,
+        out: &mut [u8],
+    ) -> Result<RequestHeader, Refusal> {
+        let stream = match &mut self.stream {
+            Some(stream) => stream,
+            none => {
+                let (stream, front) =
+                    Stream::<Request, Opening>::open(key, clock, &self.received, pool)?;
+                self.used = front.used;
+                none.insert(stream)
+            }
+        };
+        let header = stream.open_variable(&self.received[self.used..], out)?;
+        self.used += header.used;
+        self.opened = true;
+        Ok(header)
+    }
+
+    /// The request's salt, which the response names, once the front was accepted.
+    pub fn salt(&self) -> Option<&[u8]> {
+        let method = self.stream.as_ref()?.method()?;
+        self.received.get(..method.salt_len())
+    }
+
+    /// The stream behind the header, at a length, and the bytes that have come in
+    /// behind it. `None` where no header was given.
+    pub fn into_stream(mut self) -> Option<(Stream<Request, Opening>, Vec<u8>)> {
+        if !self.opened {
+            return None;
+        }
+        let behind = self.received.split_off(self.used);
+        self.stream.map(|stream| (stream, behind))
     }
 }

@@ -13,6 +13,8 @@ pub struct ResponseHeader {
     pub used: usize,
     /// The length of the first payload, which the next step opens.
     pub length: usize,
+    /// The sender's clock.
+    pub timestamp: u64,
 }
 
 impl Stream<Response, Sealing> {
@@ -75,6 +77,7 @@ impl Stream<Response, Opening> {
         let header = ResponseHeader {
             used: answer::length(answer[0]),
             length: answer::length(answer[1]),
+            timestamp: answer[2],
         };
         Ok((Self::from_words(&words), header))
     }

@@ -2,7 +2,9 @@
 
 use std::net::SocketAddr;
 
-use relay::{Address, Header, Key, Method, Peer, Refusal, SealSession, Table};
+use relay::stream::Opening;
+use relay::{Address, Header, Key, Method, Peer, Pool, Refusal, SealSession, Table};
+use relay::{RequestFront, RequestHeader, RequestStream};
 
 /// The key's bytes, 16 or 32 of them by method.
 pub const KEY: [u8; 32] = *b"thirty-two bytes to serve as key";
@@ -115,4 +117,35 @@ impl Random {
     pub fn bytes(&mut self, length: usize) -> Vec<u8> {
         (0..length).map(|_| self.next() as u8).collect()
     }
+}
+
+/// A request that was opened in its two calls.
+pub struct Opened {
+    pub stream: RequestStream<Opening>,
+    pub front: RequestFront,
+    pub header: RequestHeader,
+}
+
+impl Opened {
+    /// How many bytes the head has.
+    pub fn used(&self) -> usize {
+        self.front.used + self.header.used
+    }
+}
+
+/// Opens a request's head: the front, and the variable header behind it.
+pub fn open_request(
+    key: &Key,
+    clock: u64,
+    bytes: &[u8],
+    pool: &mut Pool,
+    out: &mut [u8],
+) -> Result<Opened, Refusal> {
+    let (mut stream, front) = RequestStream::open(key, clock, bytes, pool)?;
+    let header = stream.open_variable(&bytes[front.used..], out)?;
+    Ok(Opened {
+        stream,
+        front,
+        header,
+    })
 }

@@ -207,9 +207,9 @@ fn a_requests_padding_ends_at_900() {
             let head = plain::request_head(key_bytes(method), salt(method), &fixed, &variable);
             let mut pool = Pool::new(method);
             let mut out = vec![FILL; 1_000];
-            let opened = RequestStream::open(&key(method), CLOCK, &head, &mut pool, &mut out);
-            match opened {
-                Ok((_, header)) => assert!(lawful && usize::from(header.padding) == padding),
+            let opened = open_request(&key(method), CLOCK, &head, &mut pool, &mut out);
+            match opened.map(|request| request.header) {
+                Ok(header) => assert!(lawful && usize::from(header.padding) == padding),
                 Err(refusal) => assert!(!lawful && refusal == Refusal::Malformed),
             }
 

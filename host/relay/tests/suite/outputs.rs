@@ -169,12 +169,13 @@ fn request_head(variable: &[u8]) -> Vec<u8> {
     plain::request_head(key_bytes(METHOD), salt(METHOD), &fixed, variable)
 }
 
-/// What opening a request's head leaves in a buffer of `room` bytes. A refusal
-/// stores no salt.
+/// What opening a request's head leaves in a buffer of `room` bytes. The salt is
+/// stored once the front is good.
 fn left_by_request(head: &[u8], room: usize) -> (Result<(), Refusal>, Vec<u8>) {
     let (mut pool, mut out) = (Pool::new(METHOD), vec![FILL; room]);
-    let opened = RequestStream::open(&key(METHOD), CLOCK, head, &mut pool, &mut out);
-    assert_eq!(pool.kept(CLOCK), usize::from(opened.is_ok()));
+    let front = RequestStream::open(&key(METHOD), CLOCK, head, &mut Pool::new(METHOD));
+    let opened = open_request(&key(METHOD), CLOCK, head, &mut pool, &mut out);
+    assert_eq!(pool.kept(CLOCK), usize::from(front.is_ok()));
     (opened.map(|_| ()), out)
 }
 
@@ -203,7 +204,7 @@ fn other_refusals_of_a_request_leave_the_output() {
         let wanted = if length < fixed_part {
             fixed_part
         } else {
-            head.len()
+            head.len() - fixed_part
         };
         assert_eq!(opened, Err(Refusal::More { wanted }));
         assert_eq!(out, vec![FILL; ROOM]);
@@ -237,7 +238,7 @@ fn random_bytes_leave_everything_as_it_was() {
         let opened = table.open_client(&key, CLOCK, CLIENT_ID, peer(), &bytes, &mut out);
         assert!(refusals.contains(&opened.unwrap_err()));
 
-        let opened = RequestStream::open(&key, CLOCK, &bytes, &mut pool, &mut out);
+        let opened = RequestStream::open(&key, CLOCK, &bytes, &mut pool);
         let refusals = [Refusal::More { wanted: 59 }, Refusal::NotAuthentic];
         assert!(refusals.contains(&opened.unwrap_err()));
         let opened = ResponseStream::open(&key, CLOCK, salt(METHOD), &bytes);

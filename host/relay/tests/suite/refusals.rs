@@ -38,7 +38,7 @@ fn open_reply(body: &[u8]) -> Option<u64> {
 fn open_headers(fixed: &[u8], variable: &[u8]) -> Option<u64> {
     let head = plain::request_head(key_bytes(METHOD), salt(METHOD), fixed, variable);
     let (mut pool, mut out) = (Pool::new(METHOD), vec![0; 1_000]);
-    number(RequestStream::open(
+    number(open_request(
         &key(METHOD),
         CLOCK,
         &head,
@@ -103,7 +103,7 @@ fn number_1_settings() {
         }
     }
     let mut pool = Pool::new(OTHER);
-    let opened = RequestStream::open(&key(METHOD), CLOCK, &[], &mut pool, &mut out);
+    let opened = RequestStream::open(&key(METHOD), CLOCK, &[], &mut pool);
     assert_eq!(number(opened), Some(1));
 }
 
@@ -166,7 +166,7 @@ fn number_3_room() {
     assert_eq!(number(stream.seal_chunk(b"x", &mut [0; 34])), Some(3));
     assert_eq!(seal_request(salt(METHOD), 1, b"", &mut [0; 66]), Some(3));
     let mut pool = Pool::new(METHOD);
-    let opened = RequestStream::open(&key(METHOD), CLOCK, &head, &mut pool, &mut [0; 7]);
+    let opened = open_request(&key(METHOD), CLOCK, &head, &mut pool, &mut [0; 7]);
     assert_eq!(number(opened), Some(3));
 }
 
@@ -266,7 +266,7 @@ fn number_8_replay() {
     let (head, _) = begun_request();
     let mut pool = Pool::new(METHOD);
     for refused in [None, Some(8)] {
-        let opened = RequestStream::open(&key(METHOD), CLOCK, &head, &mut pool, &mut [0; 64]);
+        let opened = RequestStream::open(&key(METHOD), CLOCK, &head, &mut pool);
         assert_eq!(number(opened), refused);
     }
 }
@@ -283,14 +283,14 @@ fn number_9_full() {
     assert_eq!(number(open(&mut table, METHOD, CLOCK, &datagram)), Some(9));
     let mut pool = Pool::from_words(&[1; Pool::WORDS]);
     let (head, _) = begun_request();
-    let opened = RequestStream::open(&key(METHOD), CLOCK, &head, &mut pool, &mut [0; 64]);
+    let opened = RequestStream::open(&key(METHOD), CLOCK, &head, &mut pool);
     assert!(opened.is_ok(), "salts of time 1 are forgotten");
     let mut words = [1; Pool::WORDS];
     for record in words[1..].chunks_mut(6) {
         record[1] = CLOCK;
     }
     let mut pool = Pool::from_words(&words);
-    let opened = RequestStream::open(&key(METHOD), CLOCK, &head, &mut pool, &mut [0; 64]);
+    let opened = RequestStream::open(&key(METHOD), CLOCK, &head, &mut pool);
     assert_eq!(number(opened), Some(9));
 }
 
@@ -298,18 +298,18 @@ fn number_9_full() {
 fn number_10_more() {
     for (method, request, response) in [(METHOD, 43, 59), (OTHER, 59, 91)] {
         let mut pool = Pool::new(method);
-        let opened = RequestStream::open(&key(method), CLOCK, &[], &mut pool, &mut []);
+        let opened = RequestStream::open(&key(method), CLOCK, &[], &mut pool);
         assert_eq!(opened.unwrap_err(), Refusal::More { wanted: request });
         let opened = ResponseStream::open(&key(method), CLOCK, salt(method), &[]);
         assert_eq!(opened.unwrap_err(), Refusal::More { wanted: response });
     }
     let (head, _) = begun_request();
     let (mut pool, mut out) = (Pool::new(METHOD), [0; 64]);
-    let opened = RequestStream::open(&key(METHOD), CLOCK, &head[..43], &mut pool, &mut out);
-    let wanted = head.len();
-    assert_eq!(opened.unwrap_err(), Refusal::More { wanted });
-    let (mut stream, _) =
-        RequestStream::open(&key(METHOD), CLOCK, &head, &mut pool, &mut out).unwrap();
+    let (mut stream, _) = RequestStream::open(&key(METHOD), CLOCK, &head[..43], &mut pool).unwrap();
+    let refused = stream.open_variable(&[], &mut out);
+    let wanted = head.len() - 43;
+    assert_eq!(refused, Err(Refusal::More { wanted }));
+    stream.open_variable(&head[43..], &mut out).unwrap();
     let refused = stream.open_chunk(&[0; 17], &mut out);
     assert_eq!(refused, Err(Refusal::More { wanted: 18 }));
     let mut stream = RequestStream::<Opening>::from_words(&[2, 1, 0, 65_535, 0, 0, 0, 0]);

@@ -2,7 +2,7 @@
 
 use relay::stream::{Opening, Sealing, Stream};
 use relay::{
-    Address, Method, Pool, Refusal, RequestHeader, RequestStream, ResponseStream, Step, MAX_CHUNK,
+    Address, Method, Pool, Refusal, RequestReader, RequestStream, ResponseStream, Step, MAX_CHUNK,
 };
 
 use crate::common::*;
@@ -34,14 +34,11 @@ fn seal_request(
     (stream, out)
 }
 
-fn open_request(
-    method: Method,
-    bytes: &[u8],
-) -> Result<(RequestStream<Opening>, RequestHeader, Vec<u8>), Refusal> {
+fn opened(method: Method, bytes: &[u8]) -> (Opened, Vec<u8>) {
     let mut out = vec![FILL; MAX_CHUNK];
     let mut pool = Pool::new(method);
-    let (stream, header) = RequestStream::open(&key(method), CLOCK, bytes, &mut pool, &mut out)?;
-    Ok((stream, header, out))
+    let opened = open_request(&key(method), CLOCK, bytes, &mut pool, &mut out).unwrap();
+    (opened, out)
 }
 
 fn seal_response(method: Method, text: &[u8]) -> (ResponseStream<Sealing>, Vec<u8>) {
@@ -86,14 +83,16 @@ fn a_request_opens_at_the_server() {
             for (padding, length) in [(1, 0), (900, 0), (0, 1), (17, 1_400)] {
                 let text = payload(length);
                 let (_, wire) = seal_request(method, &address, padding, &text);
-                let (stream, header, out) = open_request(method, &wire).unwrap();
-                assert_eq!(header.address(&out), address);
-                assert_eq!(header.port, address.port());
-                assert_eq!(usize::from(header.padding), padding);
-                assert_eq!(header.payload(&out), text);
-                assert_eq!(header.used, wire.len());
-                assert!(!stream.is_ended());
-                assert_eq!(stream.method(), Some(method));
+                let (request, out) = opened(method, &wire);
+                assert_eq!(request.front.timestamp, CLOCK);
+                assert_eq!(request.front.length, request.header.payload.end);
+                assert_eq!(request.header.address(&out), address);
+                assert_eq!(request.header.port, address.port());
+                assert_eq!(usize::from(request.header.padding), padding);
+                assert_eq!(request.header.payload(&out), text);
+                assert_eq!(request.used(), wire.len());
+                assert!(!request.stream.is_ended());
+                assert_eq!(request.stream.method(), Some(method));
             }
         }
     }
@@ -104,8 +103,9 @@ fn chunks_of_a_request_open_in_order() {
     for method in Method::ALL {
         let (mut sender, mut wire) = seal_request(method, &short_address(), 0, b"first");
         seal_chunks(&mut sender, &mut wire);
-        let (mut receiver, header, _) = open_request(method, &wire).unwrap();
-        let payloads = open_chunks(&mut receiver, &wire[header.used..]);
+        let (mut request, _) = opened(method, &wire);
+        let used = request.used();
+        let payloads = open_chunks(&mut request.stream, &wire[used..]);
         assert!(payloads.into_iter().eq(CHUNKS.map(payload)));
     }
 }
@@ -200,7 +200,7 @@ fn a_wrong_tag_ends_a_stream() {
     good.truncate(length);
     for place in 0..good.len() {
         let (_, head) = seal_request(method, &short_address(), 1, b"");
-        let (mut stream, _, _) = open_request(method, &head).unwrap();
+        let mut stream = opened(method, &head).0.stream;
         let mut forged = good.clone();
         forged[place] ^= 1;
         let mut out = [FILL; 64];
@@ -248,7 +248,7 @@ fn chunks_do_not_change_places() {
     let mut out = [0; 64];
     sender.seal_chunk(b"one", &mut out).unwrap();
     let length = sender.seal_chunk(b"two", &mut out).unwrap();
-    let (mut stream, _, _) = open_request(method, &head).unwrap();
+    let mut stream = opened(method, &head).0.stream;
     let refused = stream.open_chunk(&out[..length], &mut [0; 64]);
     assert_eq!(refused, Err(Refusal::NotAuthentic));
 }
@@ -259,9 +259,9 @@ fn a_stream_goes_on_after_it_was_stored() {
     let (sender, mut wire) = seal_request(method, &short_address(), 1, b"");
     let mut sender = RequestStream::<Sealing>::from_words(sender.words());
     seal_chunks(&mut sender, &mut wire);
-    let (receiver, header, _) = open_request(method, &wire).unwrap();
-    let mut receiver = RequestStream::<Opening>::from_words(receiver.words());
-    let payloads = open_chunks(&mut receiver, &wire[header.used..]);
+    let (request, _) = opened(method, &wire);
+    let mut receiver = RequestStream::<Opening>::from_words(request.stream.words());
+    let payloads = open_chunks(&mut receiver, &wire[request.used()..]);
     assert!(payloads.into_iter().eq(CHUNKS.map(payload)));
 }
 
@@ -283,8 +283,8 @@ fn the_longest_request_is_sealed_and_opened() {
     let method = Method::Aes128Gcm;
     let text = payload(MAX_CHUNK - 5 - 2);
     let (_, wire) = seal_request(method, &short_address(), 0, &text);
-    let (_, header, out) = open_request(method, &wire).unwrap();
-    assert_eq!(header.payload(&out), text);
+    let (request, out) = opened(method, &wire);
+    assert_eq!(request.header.payload(&out), text);
 
     let longer = payload(text.len() + 1);
     let mut out = vec![0; 70_000];
@@ -309,7 +309,7 @@ fn an_empty_chunk_ends_the_stream() {
     for method in Method::ALL {
         let (key_bytes, salt) = (key_bytes(method), salt(method));
         let (_, wire) = seal_request(method, &short_address(), 1, b"");
-        let (mut receiver, _, _) = open_request(method, &wire).unwrap();
+        let mut receiver = opened(method, &wire).0.stream;
         let empty = plain::piece(key_bytes, salt, 2, &[0, 0]);
         let mut forged = empty.clone();
         forged[17] ^= 1;
@@ -339,5 +339,101 @@ fn an_empty_chunk_ends_the_stream() {
         assert_eq!(opened.unwrap_err(), Refusal::Empty);
         let opened = ResponseStream::open(&key(method), CLOCK, own_salt, &head);
         assert_eq!(opened.unwrap_err(), Refusal::Binding);
+    }
+}
+
+/// Fed byte by byte, a reader never takes its own bytes for a replay, and the pool
+/// keeps the salt from the front on.
+#[test]
+fn a_request_is_read_byte_by_byte() {
+    for method in Method::ALL {
+        let (mut sender, mut wire) = seal_request(method, &short_address(), 3, b"first");
+        let (front, head) = (method.salt_len() + 27, wire.len());
+        seal_chunks(&mut sender, &mut wire);
+        for piece in [1, 2, 7, front, front + 1, head, head + 5] {
+            let (mut pool, mut out) = (Pool::new(method), vec![FILL; MAX_CHUNK]);
+            let mut reader = RequestReader::new();
+            let (mut arrived, mut header) = (0, None);
+            while header.is_none() {
+                let bytes = &wire[arrived..arrived + piece];
+                arrived += piece;
+                let read = reader.read(&key(method), CLOCK, bytes, &mut pool, &mut out);
+                header = read.unwrap();
+                assert_eq!(header.is_some(), arrived >= head);
+                assert_eq!(pool.kept(CLOCK), usize::from(arrived >= front));
+                assert_eq!(reader.salt().is_some(), arrived >= front);
+            }
+            assert_eq!(header.unwrap().payload(&out), b"first");
+            assert_eq!(reader.salt(), Some(salt(method)));
+            let (mut stream, mut behind) = reader.into_stream().unwrap();
+            behind.extend_from_slice(&wire[arrived..]);
+            let payloads = open_chunks(&mut stream, &behind);
+            assert!(payloads.into_iter().eq(CHUNKS.map(payload)));
+            // Another reader of the same bytes is a replay.
+            let again = RequestReader::new().read(&key(method), CLOCK, &wire, &mut pool, &mut out);
+            assert_eq!(again, Err(Refusal::Replay));
+        }
+    }
+}
+
+/// A reader goes on behind `Room`, and ends with a forged variable header, whose salt
+/// stays known.
+#[test]
+fn a_reader_keeps_what_was_refused() {
+    let method = Method::Aes128Gcm;
+    let (_, wire) = seal_request(method, &short_address(), 0, b"first");
+    let (mut pool, mut out) = (Pool::new(method), vec![FILL; 64]);
+    let mut reader = RequestReader::new();
+    let read = reader.read(&key(method), CLOCK, &wire, &mut pool, &mut [0; 5]);
+    assert_eq!(read, Err(Refusal::Room));
+    assert!(RequestReader::new().into_stream().is_none());
+    let read = reader.read(&key(method), CLOCK, &[], &mut pool, &mut out);
+    assert_eq!(read.unwrap().unwrap().payload(&out), b"first");
+    let read = reader.read(&key(method), CLOCK, &[], &mut pool, &mut out);
+    assert_eq!(read, Err(Refusal::Settings));
+
+    let (mut pool, mut forged) = (Pool::new(method), wire.clone());
+    forged[50] ^= 1;
+    let mut reader = RequestReader::new();
+    for _ in 0..2 {
+        let read = reader.read(&key(method), CLOCK, &forged, &mut pool, &mut out);
+        assert_eq!(read, Err(Refusal::NotAuthentic));
+    }
+    assert!(reader.into_stream().is_none());
+    let read = RequestReader::new().read(&key(method), CLOCK, &wire, &mut pool, &mut out);
+    assert_eq!(read, Err(Refusal::Replay));
+}
+
+/// The second call, at its own turn and at others.
+#[test]
+fn a_variable_header_has_a_turn_of_its_own() {
+    for method in Method::ALL {
+        let (_, wire) = seal_request(method, &short_address(), 1, b"");
+        let (mut pool, mut out) = (Pool::new(method), vec![FILL; 64]);
+        let (mut stream, front) =
+            RequestStream::open(&key(method), CLOCK, &wire, &mut pool).unwrap();
+        let (words, behind) = (*stream.words(), &wire[front.used..]);
+        assert_eq!(words[..4], [4, method.number(), 1, 8]);
+        let refused = stream.open_chunk(behind, &mut out);
+        assert_eq!(refused, Err(Refusal::Settings));
+        for length in 0..behind.len() {
+            let refused = stream.open_variable(&behind[..length], &mut out);
+            assert_eq!(refused, Err(Refusal::More { wanted: 24 }));
+        }
+        let refused = stream.open_variable(behind, &mut [0; 7]);
+        assert_eq!(refused, Err(Refusal::Room));
+        assert_eq!((stream.words(), &out), (&words, &vec![FILL; 64]));
+        for (place, word) in [(0, 1), (0, 2), (0, 3), (1, 3), (2, 0), (2, 2), (3, 65_536)] {
+            let mut words = words;
+            words[place] = word;
+            let mut odd = RequestStream::<Opening>::from_words(&words);
+            let refused = odd.open_variable(behind, &mut out);
+            assert_eq!(refused, Err(Refusal::Settings));
+            assert_eq!(odd.words(), &words);
+        }
+        assert_eq!(stream.open_variable(behind, &mut out).unwrap().used, 24);
+        assert_eq!(stream.words()[..4], [1, method.number(), 2, 0]);
+        let refused = stream.open_variable(behind, &mut out);
+        assert_eq!(refused, Err(Refusal::Settings));
     }
 }

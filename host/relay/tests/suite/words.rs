@@ -95,7 +95,7 @@ fn pools() {
         RequestStream::seal(&key(method), &salt, clock, &address, 1, b"", &mut head).unwrap();
         let mut pool = Pool::from_words(&words);
         let kept = pool.kept(clock);
-        match RequestStream::open(&key(method), clock, &head, &mut pool, &mut [0; 64]) {
+        match RequestStream::open(&key(method), clock, &head, &mut pool) {
             Ok(_) => assert_eq!(pool.kept(clock), kept + 1),
             Err(refusal) => {
                 assert!([1, 9].contains(&refusal.number()), "{refusal}");
@@ -187,6 +187,33 @@ fn streams_that_open() {
     }
 }
 
+/// The same of the call for a variable header: 4 ends the stream, and nothing else
+/// that is refused here moves it.
+#[test]
+fn streams_at_a_variable_header() {
+    let mut random = Random(6);
+    for round in 0..5_000 {
+        let mut words: [u64; 8] = words(&mut random);
+        if round % 2 == 0 {
+            words[..3].copy_from_slice(&[4, 1, 1]);
+            words[3] = random.below(80);
+        }
+        let mut stream = RequestStream::<Opening>::from_words(&words);
+        let length = random.below(100) as usize;
+        let bytes = random.bytes(length);
+        let mut out = [FILL; 64];
+        let refusal = stream.open_variable(&bytes, &mut out).unwrap_err();
+        assert!([1, 3, 4, 10].contains(&refusal.number()), "{refusal}");
+        assert_eq!(out, [FILL; 64]);
+        if refusal == Refusal::NotAuthentic {
+            assert!(stream.is_ended());
+            assert_eq!(stream.words()[1..], words[1..]);
+        } else {
+            assert_eq!(stream.words(), &words);
+        }
+    }
+}
+
 /// Each half refuses the other's words, and leaves them.
 #[test]
 fn a_stream_at_another_turn() {
@@ -197,7 +224,14 @@ fn a_stream_at_another_turn() {
         assert_eq!(refused, Err(Refusal::Settings));
         assert_eq!(stream.words(), &words);
     }
-    for (turn, length) in [(2, 65_536), (3, 0), (4, 0), (u64::MAX, 0)] {
+    for (turn, length) in [
+        (2, 65_536),
+        (3, 0),
+        (4, 0),
+        (4, 65_536),
+        (5, 0),
+        (u64::MAX, 0),
+    ] {
         let words = [turn, 1, 0, length, 1, 2, 0, 0];
         let mut stream = RequestStream::<Opening>::from_words(&words);
         let refused = stream.open_chunk(&[0; 64], &mut [0; 64]);

@@ -2,27 +2,27 @@
 use mathlib.Core.Path.{sym, _∙_}
 use native.Mathlib.Omega.{arith}
 use borrow.Author.Needs.{needs}
-use Rattle.stream_open_request.proofs.RequestLaws.{padding-within, variable-none, variable-bad, variable-read}
-use Rattle.stream_open_request.proofs.read_variable.Statement.{statement}
-use Rattle.stream_open_request.proofs.read_variable.Tie as tie
+use Rattle.stream_open_variable.proofs.VariableLaws.{padding-within, read-none, read-bad, read-good}
+use Rattle.stream_open_variable.proofs.read_variable.Statement.{statement}
+use Rattle.stream_open_variable.proofs.read_variable.Tie as tie
 
-add-t11 : tie.Need-add-t11
-add-t11 c =
+add-t10 : tie.Need-add-t10
+add-t10 c =
     let t = c .before in
     let g = t .before in
     let a = g .before .before .address .given .0 .0 in
     let start = g .before .before .before .before .before .before in
     let within = padding-within (a .end) (start .args .plain .now) (sym (g .padding-fits .ensures) ∙ t .if1 .taken) in
-    record { fits = omega (arith, within, start .good .1 .1 .0 .0) }
+    record { fits = omega (arith, within, start .good .1 .0 .0) }
 
-add-t13 : tie.Need-add-t13
-add-t13 c =
+add-t12 : tie.Need-add-t12
+add-t12 c =
     let t = c .before in
     let g = t .before in
     let a = g .before .before .address .given .0 .0 in
     let start = g .before .before .before .before .before .before in
     let within = padding-within (a .end) (start .args .plain .now) (sym (g .padding-fits .ensures) ∙ t .if1 .taken) in
-    record { fits = omega (arith, within, c .read-u16-be .ensures, start .good .1 .1 .0 .0) }
+    record { fits = omega (arith, within, c .read-u16-be .ensures, start .good .1 .0 .0) }
 
 returns : tie.Need-returns
 returns c =
@@ -31,7 +31,7 @@ returns c =
     let d = g .before .before in
     let p = d .before .before in
     let a = p .before .before .args in
-    variable-read (a .fixed) (a .used) (a .plain .now) _ (p .parse .ensures) _ (d .address .given .1) _ (g .padding-fits .ensures) (t .if1 .taken) _
+    read-good (a .n) (a .plain .now) _ (p .parse .ensures) _ (d .address .given .1) _ (g .padding-fits .ensures) (t .if1 .taken) _
     (c .read-u16-be .ensures)
 
 returns-2 : tie.Need-returns-2
@@ -40,13 +40,13 @@ returns-2 c =
     let d = g .before .before in
     let p = d .before .before in
     let a = p .before .before .args in
-    variable-bad (a .fixed) (a .used) (a .plain .now) _ (p .parse .ensures) _ (d .address .given .1) _ (g .padding-fits .ensures) (c .if1 .left)
+    read-bad (a .n) (a .plain .now) _ (p .parse .ensures) _ (d .address .given .1) _ (g .padding-fits .ensures) (c .if1 .left)
 
 returns-3 : tie.Need-returns-3
 returns-3 c =
     let p = c .before .before in
     let a = p .before .before .args in
-    variable-none (a .fixed) (a .used) (a .plain .now) _ (p .parse .ensures) (c .enum-told .given .1)
+    read-none (a .n) (a .plain .now) _ (p .parse .ensures) (c .enum-told .given .1)
 
 pub read-variable-spec : {M : Type 1} → statement M
 read-variable-spec =
@@ -56,9 +56,10 @@ read-variable-spec =
     (λ c. search needs)
     (λ c κs. search needs)
     (λ c κs. search needs)
-    add-t11
+    add-t10
     (λ c. search needs)
-    add-t13
+    add-t12
+    (λ c. search needs)
     returns
     (λ c. search needs)
     returns-2

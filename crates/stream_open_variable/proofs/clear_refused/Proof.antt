@@ -1,7 +1,7 @@
 use borrow.Author.Needs.{needs}
-use Rattle.stream_open_request.proofs.RequestLaws.{settled-law}
-use Rattle.stream_open_request.proofs.clear_refused.Statement.{statement}
-use Rattle.stream_open_request.proofs.clear_refused.Tie as tie
+use Rattle.stream_open_variable.proofs.VariableLaws.{settled-law}
+use Rattle.stream_open_variable.proofs.clear_refused.Statement.{statement}
+use Rattle.stream_open_variable.proofs.clear_refused.Tie as tie
 
 returns : tie.Need-returns
 returns c =

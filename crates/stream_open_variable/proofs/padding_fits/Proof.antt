@@ -1,9 +1,9 @@
 -- Each return is one case of the tests.
 use native.Mathlib.Omega.{arith}
 use borrow.Author.Needs.{needs}
-use Rattle.stream_open_request.proofs.RequestLaws.{padding-none, padding-short, padding-over, padding-law}
-use Rattle.stream_open_request.proofs.padding_fits.Statement.{statement}
-use Rattle.stream_open_request.proofs.padding_fits.Tie as tie
+use Rattle.stream_open_variable.proofs.VariableLaws.{padding-none, padding-short, padding-over, padding-law}
+use Rattle.stream_open_variable.proofs.padding_fits.Statement.{statement}
+use Rattle.stream_open_variable.proofs.padding_fits.Tie as tie
 
 returns : tie.Need-returns
 returns c = padding-none _ _ (c .if1 .taken)

@@ -1,0 +1,2 @@
+-- Laws of the definitions of opening a variable header.
+pub mod VariableLaws
