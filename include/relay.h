@@ -559,6 +559,36 @@ uint64_t relay_recording_compare(const uint8_t *first, size_t first_len, const u
                                  size_t second_len, uint8_t *out, size_t out_len, uint64_t *answer,
                                  size_t answer_len);
 
+/* a report of what was mended: four words for each change */
+#define RELAY_CHANGE_WORDS 4
+#define RELAY_CHANGE_ENTRY 0    /* its index, or RELAY_CHANGE_OF_COUNT */
+#define RELAY_CHANGE_FIELD 1    /* 0 the count, 1 an offset, 2 a length, 3 a direction */
+#define RELAY_CHANGE_OLD 2      /* the field's number before, */
+#define RELAY_CHANGE_NEW 3      /*   and behind the call */
+#define RELAY_CHANGE_OF_COUNT 4096
+
+/* a recording that was mended */
+#define RELAY_AT_CHANGES 0 /* how many there are in the report */
+
+/*
+ * Mends a damaged recording where it stands: a count over 4,096 or past the
+ * file is lowered to the most that fits; a direction above 2 becomes 2; a
+ * length is cut to 65,507 and to the end of the file; each offset is set so
+ * that the bodies stand back to back. Clocks and bodies are not written. The
+ * outcome is a well-formed recording, and mending it again changes nothing.
+ *
+ * file    a recording, of 4 bytes at least
+ * report  RELAY_CHANGE_WORDS words for each field that was changed, in the
+ *         order of the file; 4 + 12 * 4,096 words hold every report. Words
+ *         behind it stay as they were
+ * answer  RELAY_AT_CHANGES
+ *
+ * Refusals, in this order: 1 (answer), 2 (the file is under 4 bytes), 3 (the
+ * report is shorter than the one due). A refusal writes nothing.
+ */
+uint64_t relay_recording_mend(uint8_t *file, size_t file_len, uint64_t *report, size_t report_len,
+                              uint64_t *answer, size_t answer_len);
+
 #ifdef __cplusplus
 }
 #endif

@@ -1,4 +1,4 @@
-"""Recordings of datagrams: the format, and two recordings side by side.
+"""Recordings of datagrams: the format, two recordings side by side, and mending a damaged one.
 
 A recording is a count (4 bytes), for each entry offset, length, direction and clock
 (4, 2, 1 and 8 bytes), all big-endian, and then the bodies back to back. An independent
@@ -105,6 +105,41 @@ def printed(first: bytes | None, second: bytes | None) -> bytes:
     return b"refused %d\n" % number if number else text
 
 
+# Mending.
+
+OF_COUNT = 4_096  # the count's entry in a report
+COUNT_FIELD, OFFSET_FIELD, LENGTH_FIELD, DIRECTION_FIELD = range(4)
+
+
+class Change(NamedTuple):
+    """A field whose number is another one, as it is reported."""
+
+    entry: int
+    field: int
+    old: int
+    new: int
+
+
+def mend(file: bytes) -> tuple[bytes, list[Change]]:
+    """The mended file, of 4 bytes at least, and what was changed."""
+    mended, fields = bytearray(file), []
+    (stands,) = COUNT.unpack_from(file)
+    count = min(stands, MAX_ENTRIES, (len(file) - COUNT.size) // CONTENTS.size)
+    COUNT.pack_into(mended, 0, count)
+    fields.append(Change(OF_COUNT, COUNT_FIELD, stands, count))
+    place = contents_end(count)
+    for index in range(count):
+        at = contents_end(index)
+        offset, length, direction, clock = CONTENTS.unpack_from(file, at)
+        cut = min(length, MAX_BODY, len(file) - place)
+        CONTENTS.pack_into(mended, at, place, cut, min(direction, UNKNOWN), clock)
+        fields.append(Change(index, OFFSET_FIELD, offset, place))
+        fields.append(Change(index, LENGTH_FIELD, length, cut))
+        fields.append(Change(index, DIRECTION_FIELD, direction, min(direction, UNKNOWN)))
+        place += cut
+    return bytes(mended), [change for change in fields if change.old != change.new]
+
+
 # Examples.
 
 
@@ -144,7 +179,29 @@ def selftest() -> list[str]:
         "65,508 bytes": (recorded([Entry(0, 0, bytes(MAX_BODY + 1))]), None),
     }
     failed = [name for name, (a, b, text) in texts.items() if printed(a, b) != text]
-    return failed + [name for name, (file, entries) in read_as.items() if read(file) != entries]
+    failed += [name for name, (file, entries) in read_as.items() if read(file) != entries]
+    return failed + [name for name, holds in mending_examples() if not holds]
+
+
+def mending_examples():
+    """Names, and whether each holds."""
+    good = recorded([Entry(0, 1, b"ab"), Entry(2, 3, b"c")])
+    yield "nothing to mend", mend(good) == (good, [])
+    scrambled = COUNT.pack(3) + CONTENTS.pack(9, 65_535, 3, 7) + CONTENTS.pack(34, 2, 1, 8) + b"ab"
+    mended, changes = mend(scrambled)
+    yield "what was changed", changes == [
+        (OF_COUNT, COUNT_FIELD, 3, 2),
+        (0, OFFSET_FIELD, 9, 34),
+        (0, LENGTH_FIELD, 65_535, 2),
+        (0, DIRECTION_FIELD, 3, 2),
+        (1, OFFSET_FIELD, 34, 36),
+        (1, LENGTH_FIELD, 2, 0),
+    ]
+    yield "mended", read(mended) == [Entry(2, 7, b"ab"), Entry(1, 8, b"")]
+    yield "mended again", mend(mended) == (mended, [])
+    yield "4 bytes", mend(b"\xff" * 4) == (bytes(4), [(OF_COUNT, COUNT_FIELD, 2**32 - 1, 0)])
+    many = mend(COUNT.pack(4_097) + bytes(15 * 4_097))[1]
+    yield "4,097 entries", many[0] == (OF_COUNT, COUNT_FIELD, 4_097, 4_096)
 
 
 if __name__ == "__main__":

@@ -377,6 +377,20 @@ def recording_compare(first: bytes, second: bytes, out: bytes, answer: Words) ->
     return accepted(out=text + out[len(text) :], answer=front(answer, len(text)))
 
 
+def recording_mend(file: bytes, report: Words, answer: Words) -> Left:
+    if len(answer) != ANSWER_WORDS:
+        return refused(SETTINGS)
+    if len(file) < recordings.COUNT.size:
+        return refused(recordings.LENGTH)
+    mended, changes = recordings.mend(file)
+    words = tuple(itertools.chain.from_iterable(changes))
+    if len(report) < len(words):
+        return refused(recordings.ROOM)
+    return accepted(
+        file=mended, report=words + report[len(words) :], answer=front(answer, len(changes))
+    )
+
+
 # Each function with the numbers that it may return.
 
 NUMBERS = {
@@ -397,6 +411,7 @@ NUMBERS = {
     plan_make: {0, 1, 3, 12},
     plan_check: {0, 1, 12},
     recording_compare: {0, 1, 2, 3, 5},
+    recording_mend: {0, 1, 2, 3},
 }
 
 FUNCTIONS = {f"relay_{function.__name__}": function for function in NUMBERS}
@@ -539,6 +554,13 @@ def recording_examples():
     yield "no room", recording_compare(first, second, text[1:], ANSWER) == refused(3)
     yield "ill-formed", recording_compare(first, second[:-1], b"", ANSWER) == refused(5)
     yield "answer's length", recording_compare(first, bytes(40_000), FILLED, ()) == refused(1)
+    words = (recordings.OF_COUNT, recordings.COUNT_FIELD, 1, 0)
+    said = recording_mend(b"\0\0\0\1xyz", (7,) * 5, ANSWER)
+    yield "mended", said.wrote["file"] == bytes(4) + b"xyz"
+    yield "its report", said.wrote["report"] == (*words, 7)
+    yield "how many changes", said.wrote["answer"] == (1, *ANSWER[1:])
+    yield "too short a report", recording_mend(b"\0\0\0\1xyz", (7,) * 3, ANSWER) == refused(3)
+    yield "too short a file", recording_mend(bytes(3), (), ANSWER) == refused(2)
 
 
 def selftest() -> list[str]:

@@ -62,6 +62,17 @@ def damaged(dice: random.Random, file: bytes) -> bytes:
     return file[:place] + bytes([value]) + file[place + 1 :]
 
 
+def scrambled(dice: random.Random, file: bytes) -> bytes:
+    """With some numbers of its contents changed, its count among them."""
+    changed = bytearray(file)
+    for _ in range(dice.choice((0, 1, 1, 2, 5))):
+        place, size = dice.choice(((0, 4), (4, 4), (8, 2), (10, 1), (19, 4), (23, 2), (25, 1)))
+        values = (0, 1, 2, 3, 19, 34, 4_096, 4_097, 65_507, 65_508, 256**size - 1, len(file))
+        if place + size <= len(file):
+            changed[place : place + size] = (dice.choice(values) % 256**size).to_bytes(size)
+    return bytes(changed)
+
+
 class Recordings(Scenario):
     """Pairs of files that have much in common."""
 
@@ -82,7 +93,26 @@ class Recordings(Scenario):
         values = {"first": first, "second": second, "out": self.room(due)}
         self.call("recording_compare", **values, answer=self.answer)
 
+    def mend(self) -> None:
+        file = scrambled(self.dice, self.file(self.entries))
+        if self.often(3):
+            file = file[: self.dice.randrange(6)]
+        if self.often(1):
+            file = recordings.COUNT.pack(self.dice.choice((4_097, 2**32 - 1))) + bytes(62_000)
+        due = 4 * len(recordings.mend(file)[1]) if len(file) >= COUNT.size else 3
+        lent = max(0, due + self.dice.choice((0, 0, 0, 1, 4, -1 if self.often(30) else 9)))
+        report = tuple(self.dice.getrandbits(64) for _ in range(lent))
+        number, left = self.call("recording_mend", file=file, report=report, answer=self.answer)
+        if number == 0 and self.often(30):
+            mended = left["file"]
+            self.call("recording_mend", file=mended, report=(), answer=self.answer)
+            out = self.room(40)
+            values = {"first": mended, "second": mended, "out": out}
+            self.call("recording_compare", **values, answer=self.answer)
+
     def step(self) -> None:
         if self.often(20):
             self.entries = any_entries(self.dice)
-        self.compare()
+        if self.often(50):
+            return self.mend()
+        return self.compare()

@@ -464,6 +464,24 @@ static void compared(void)
     printf("recordings: differ 0 byte 1\n");
 }
 
+static void mended(void)
+{
+    /* Direction 9, and a body that begins at 19 and not at 20. */
+    uint8_t file[] = {0, 0, 0, 1, 0, 0, 0, 20, 0, 2, 9, 0, 0, 0, 0, 0, 0, 0, 7, 'a', 'b'};
+    const uint64_t expected[] = {0, 1, 20, 19, 0, 3, 9, 2};
+    uint64_t report[8], answer[RELAY_ANSWER_WORDS];
+    check_number(relay_recording_mend(file, sizeof file, report, 7, answer, RELAY_ANSWER_WORDS),
+                 RELAY_REFUSED_ROOM, "a report of 7 words");
+    check_number(relay_recording_mend(file, sizeof file, report, 8, answer, RELAY_ANSWER_WORDS),
+                 RELAY_OK, "a scrambled recording");
+    check(answer[RELAY_AT_CHANGES] == 2, "how many changes");
+    check(memcmp(report, expected, sizeof expected) == 0, "the report");
+    check(file[7] == 19 && file[10] == 2, "the mended recording");
+    check_number(relay_recording_mend(file, 3, NULL, 0, answer, RELAY_ANSWER_WORDS),
+                 RELAY_REFUSED_LENGTH, "a file of 3 bytes");
+    printf("mended: offset 20 is now 19, direction 9 is now 2\n");
+}
+
 int main(void)
 {
     client_to_server();
@@ -472,6 +490,7 @@ int main(void)
     response();
     plans();
     compared();
+    mended();
     wrong_lengths();
     names();
     printf("smoke test passed\n");

@@ -158,6 +158,17 @@ static void recording_compare(void)
                                      answer, RELAY_ANSWER_WORDS);
 }
 
+/* Of two entries, the second one's body past the file. */
+static uint8_t scrambled[34 + 10];
+static uint64_t changes[4 * 7];
+
+static void recording_mend(void)
+{
+    memset(scrambled, 0xff, sizeof scrambled);
+    number = relay_recording_mend(scrambled, sizeof scrambled, changes, 4 * 7, answer,
+                                  RELAY_ANSWER_WORDS);
+}
+
 /* With the most stack that each was seen to take. */
 static struct function {
     const char *name;
@@ -181,6 +192,7 @@ static struct function {
     {"relay_plan_make", plan_make, 0},
     {"relay_plan_check", plan_check, 0},
     {"relay_recording_compare", recording_compare, 0},
+    {"relay_recording_mend", recording_mend, 0},
 };
 
 enum { FUNCTIONS = sizeof functions / sizeof functions[0] };
@@ -288,6 +300,7 @@ static void try_plans_and_recordings(void)
     second[3] = 2;
     measure(recording_compare, RELAY_REFUSED_MALFORMED);
     second[3] = 1;
+    measure(recording_mend, RELAY_OK);
 }
 
 /* A line for each function; the last one names the deepest. */

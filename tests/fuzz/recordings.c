@@ -1,6 +1,7 @@
 /*
  * The fuzz target of recordings: an input makes two files, and what the library
- * answers of them is held to a second account of the format, which is here.
+ * answers of them, compared and mended, is held to a second account of the
+ * format, which is here.
  * Buffers are lent beside pages that nobody may touch (lend.h).
  *
  * An input begins with a byte of ways and one of room. Then come the entries of
@@ -24,6 +25,7 @@ enum {
     MAX_FILE = 32768,
     MAX_ENTRIES = 4096,
     MAX_BODY = 65507,
+    CHANGES = 4 + 12 * (FILE_ROOM / CONTENTS), /* words of the longest report */
 };
 
 /* Ways of an input. */
@@ -172,22 +174,75 @@ static uint64_t expect_compare(const struct file *a, const struct file *b)
     return RELAY_OK;
 }
 
+/* What a report is to have, and the mended file. */
+static uint64_t changes[CHANGES];
+static size_t change_words;
+static struct file mended;
+
+static void change(uint64_t entry, uint64_t field, uint64_t old, uint64_t new)
+{
+    if (old == new)
+        return;
+    changes[change_words++] = entry;
+    changes[change_words++] = field;
+    changes[change_words++] = old;
+    changes[change_words++] = new;
+}
+
+static uint64_t least(uint64_t a, uint64_t b)
+{
+    return a < b ? a : b;
+}
+
+/* Of a file of 4 bytes at least. */
+static void expect_mend(const struct file *file)
+{
+    uint64_t stands = number_at(file, 0, 4);
+    uint64_t count = least(least(stands, MAX_ENTRIES), (file->len - 4) / CONTENTS);
+    uint64_t place = 4 + CONTENTS * count;
+    change_words = 0;
+    mended = *file;
+    put(&mended, 0, count, 4);
+    change(RELAY_CHANGE_OF_COUNT, 0, stands, count);
+    for (uint64_t i = 0; i < count; i++) {
+        size_t at = 4 + CONTENTS * (size_t)i;
+        uint64_t len = number_at(file, at + 4, 2), direction = file->bytes[at + 6];
+        uint64_t cut = least(least(len, MAX_BODY), file->len - place);
+        put(&mended, at, place, 4);
+        put(&mended, at + 4, cut, 2);
+        put(&mended, at + 6, least(direction, 2), 1);
+        change(i, 1, number_at(file, at, 4), place);
+        change(i, 2, len, cut);
+        change(i, 3, direction, least(direction, 2));
+        place += cut;
+    }
+}
+
 /* ---- calls */
 
-static uint64_t compares[NUMBERS];
+static uint64_t compares[NUMBERS], mends[NUMBERS];
+
+/* How often each number of a function was given; those that it may give and never did. */
+static uint64_t tell(const char *name, const uint64_t *counts, unsigned may)
+{
+    uint64_t calls = 0;
+    fprintf(stderr, "%-28s", name);
+    for (unsigned n = 0; n < NUMBERS; n++) {
+        calls += counts[n];
+        if (counts[n] > 0)
+            fprintf(stderr, " %u: %llu", n, (unsigned long long)counts[n]);
+        else if (may >> n & 1)
+            fprintf(stderr, " %u: never", n);
+    }
+    fprintf(stderr, "\n");
+    return calls;
+}
 
 static void report(void)
 {
-    uint64_t calls = 0;
-    fprintf(stderr, "relay_recording_compare     ");
-    for (unsigned n = 0; n < NUMBERS; n++) {
-        calls += compares[n];
-        if (compares[n] > 0)
-            fprintf(stderr, " %u: %llu", n, (unsigned long long)compares[n]);
-        else if (n != 4)
-            fprintf(stderr, " %u: never", n);
-    }
-    fprintf(stderr, "\n%llu calls checked\n", (unsigned long long)calls);
+    uint64_t calls = tell("relay_recording_compare", compares, 0x2f);
+    calls += tell("relay_recording_mend", mends, 0x0f);
+    fprintf(stderr, "%llu calls checked\n", (unsigned long long)calls);
 }
 
 /* The room given: exact, one more, one less, none, much. */
@@ -236,6 +291,52 @@ static void check_compare(const struct file *a, const struct file *b, uint8_t wa
         fail("nothing is written beside a buffer");
 }
 
+static void check_mend(const struct file *file, uint8_t ways, uint8_t room)
+{
+    static uint64_t lent_report[CHANGES + 100];
+    uint64_t answer[RELAY_ANSWER_WORDS + 1];
+    int at_start = (ways & AT_START) != 0;
+    size_t words = RELAY_ANSWER_WORDS, due = 0;
+    uint64_t number = RELAY_REFUSED_LENGTH;
+    if (ways & BAD_ANSWER)
+        words = room % 2 ? RELAY_ANSWER_WORDS - 1 : RELAY_ANSWER_WORDS + 1;
+    if (file->len >= 4) {
+        expect_mend(file);
+        due = room_of(room, change_words);
+        number = due < change_words ? RELAY_REFUSED_ROOM : RELAY_OK;
+    }
+    if (words != RELAY_ANSWER_WORDS)
+        number = RELAY_REFUSED_SETTINGS;
+    memset(lent_report, 0xa5, sizeof lent_report);
+    memset(answer, 0x5a, sizeof answer);
+
+    struct lent lent_file = lend(0, LEND_CHANGE, file->bytes, file->len, at_start);
+    struct lent told = lend(1, LEND_CHANGE, lent_report, due * sizeof *lent_report, at_start);
+    struct lent said = lend(2, LEND_CHANGE, answer, words * sizeof *answer, at_start);
+    uint64_t got = relay_recording_mend(lent_file.theirs, lent_file.len,
+                                        (uint64_t *)(void *)told.theirs, due,
+                                        (uint64_t *)(void *)said.theirs, words);
+    if (got != number)
+        fail("the number of mending");
+    mends[got]++;
+    if (number == RELAY_OK) {
+        memcpy(lent_report, changes, change_words * sizeof *changes);
+        answer[RELAY_AT_CHANGES] = change_words / RELAY_CHANGE_WORDS;
+        if (!well_formed(&mended))
+            fail("what is mended is well formed");
+    } else {
+        mended = *file;
+    }
+    if (memcmp(lent_file.ours, mended.bytes, file->len) != 0)
+        fail("what is written to `file`");
+    if (memcmp(told.ours, lent_report, due * sizeof *lent_report) != 0)
+        fail("what is written to `report`");
+    if (memcmp(said.ours, answer, words * sizeof *answer) != 0)
+        fail("what is written to `answer` by mending");
+    if (!lend_intact(&lent_file) || !lend_intact(&told) || !lend_intact(&said))
+        fail("nothing is written beside a buffer");
+}
+
 int LLVMFuzzerTestOneInput(const uint8_t *data, size_t size)
 {
     static struct file a, b;
@@ -265,5 +366,6 @@ int LLVMFuzzerTestOneInput(const uint8_t *data, size_t size)
     if (ways & TOO_LONG)
         lengthen(&b, MAX_FILE + 1);
     check_compare(&a, &b, ways, room);
+    check_mend(&a, ways, room);
     return 0;
 }

@@ -1,16 +1,15 @@
 -- Where two strings agree, one byte further; and the cases of a difference, in the order of the code.
 -- Assumes nothing.
-use mathlib.Core.Path.{_≡_, refl, sym, ap, _∙_}
+use mathlib.Core.Path.{_≡_, ap, _∙_}
 use mathlib.Core.Bool.{Bool, true, false}
 use mathlib.Core.List.{List}
 use Prim.Native.Nat.{ℕ, zero, suc, _+_, _-_, _≤_, _<_}
 use native.Mathlib.Omega.{arith}
-use lib.Dec.{ltb, eqb}
+use lib.Dec.{eqb}
 use lib.ListN.{getD}
 use borrow.Author.Tests.{eq-eqb, ne-eqb, lt-ltb, le-ltb}
 use Rattle.recording.specs.Format.{count, entry}
 use Rattle.recording.specs.declared.Entry.{Entry}
-use Rattle.comparison.specs.declared.Difference.{Difference}
 use Rattle.comparison.specs.declared.Difference.the-variants.{Same, Length, Meta, Byte, FirstOnly, SecondOnly}
 use Rattle.comparison.specs.Differences.{agree, bodies, between, differenceAt}
 

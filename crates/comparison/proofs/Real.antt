@@ -5,7 +5,7 @@ use mathlib.Core.Path.{_≡_, refl, sym, ap, subst, _∙_}
 use mathlib.Core.Bool.{Bool, true, false}
 use mathlib.Core.List.{List}
 use mathlib.Core.Logic.{_⊎_, inl, inr, ⊎-elim}
-use Prim.Native.Nat.{ℕ, zero, suc, _+_, _-_, _≤_, _<_, max}
+use Prim.Native.Nat.{ℕ, zero, suc, _+_, _≤_, _<_, max}
 use native.Mathlib.Omega.{arith}
 use lib.Dec.{ltb, eqb}
 use lib.ListN.{length, getD, length-drop}
@@ -16,7 +16,7 @@ use Rattle.recording.proofs.WellFormedLaws.{body-within}
 use Rattle.comparison.specs.declared.Difference.{Difference}
 use Rattle.comparison.specs.declared.Difference.the-variants.{Same, Length, Meta, Byte, FirstOnly, SecondOnly}
 use Rattle.comparison.specs.Differences.{agree, bodies, between, differenceAt}
-use Rattle.comparison.specs.Meaning.{Both, SameLength, SameMeta, FirstByte, Equal, Says}
+use Rattle.comparison.specs.Meaning.{Both, SameLength, SameMeta, Equal, Says}
 use Rattle.comparison.proofs.DifferenceLaws.{agree-at, some-byte, no-byte, lengths-differ, directions-differ, clocks-differ, by-bodies, second-only, first-only, in-neither, in-both}
 
 -- decided

@@ -8,12 +8,12 @@ use native.Mathlib.Omega.{arith}
 use lib.Dec.{leb}
 use lib.ListN.{length, length-append}
 use borrow.Author.Tests.{leb-true}
-use Rattle.recording.specs.Format.{count, placeOf, isWellFormed}
+use Rattle.recording.specs.Format.{count, isWellFormed}
 use Rattle.recording.proofs.WellFormedLaws.{well-formed}
 use Rattle.comparison.specs.Differences.{differenceAt}
 use Rattle.comparison_text.specs.Text.{header, lines, text, refusedLine, refusal, printedBy, printed}
 use Rattle.recording.specs.Written.{Written}
-use Rattle.recording.proofs.WrittenLaws.{also, room, room-behind}
+use Rattle.recording.proofs.WrittenLaws.{also, room-behind}
 use Rattle.comparison_text.proofs.LineLaws.{header-short, line-short}
 use Rattle.comparison_text.proofs.TextLaws.{no-lines, length-next}
 

@@ -1,27 +1,29 @@
--- Recordings: the computed facts, and the order of a comparison's refusals.
+-- Recordings: the computed facts, and the orders of refusals.
 -- Assumes nothing.
-use mathlib.Core.Path.{_≡_, refl, sym, ap, _∙_}
-use mathlib.Core.Bool.{Bool, true, false}
+use mathlib.Core.Path.{_≡_, refl, sym, ap}
+use mathlib.Core.Bool.{Bool, true, false, cond}
 use mathlib.Core.List.{List}
 use mathlib.Core.Logic.{_⊎_, inl, inr}
-use Prim.Native.Nat.{ℕ, _+_, _≤_, _<_}
+use Prim.Native.Nat.{ℕ, zero, suc, _+_, _≤_, _<_}
 use native.Mathlib.Omega.{arith}
-use lib.Dec.{T, leb}
+use lib.Dec.{T, leb, eqb}
 use lib.ListN.{length}
 use borrow.Author.Tests.{leb-true, leb-false}
 use Rattle.octets.specs.Buffers.{put, same}
-use Rattle.octets.specs.Numbers.{be}
-use Rattle.recording.specs.Format.{entryAt, count, WellFormed, isGood, areGood, isWellFormed}
+use Rattle.octets.specs.Numbers.{be, toBe}
+use Rattle.recording.specs.Format.{entryAt, WellFormed, isGood, areGood, isWellFormed}
 use Rattle.recording.proofs.WellFormedLaws.{well-formed-exactly}
 use Rattle.comparison.specs.Differences.{agree, bodies, between, differenceAt}
 use Rattle.comparison_text.specs.Decimal.{digits, decimal}
 use Rattle.comparison_text.specs.Text.{header, lineOf, refusedLine, lines, text, refusal, printed}
 use Rattle.comparison_text.proofs.TextLaws.{first-long, second-long, first-ill, second-ill, compared}
-use Rattle.recording.specs.Written.{Written}
-use Rattle.relay.specs.Recordings.{AfterCompare, comparesRecordings}
-use Rattle.relay.proofs.RecordingLaws.{no-answer, a-refusal, no-room, a-text}
+use Rattle.mending.specs.Mend.{mendedCount, mendedEntry, putEntry, mendedFrom, mended}
+use Rattle.mending.specs.Report.{changed, entryChanges, changesFrom, changes, report, words, refusal as refusalOfMending}
+use Rattle.mending.proofs.RefusalLaws.{too-short, no-room as no-report-room, has-room}
+use Rattle.relay.specs.Recordings.{AfterCompare, comparesRecordings, AfterMend, mendedBy, mendsRecording}
+use Rattle.relay.proofs.RecordingLaws.{no-answer, a-refusal, no-room, a-text, no-mend-answer, not-mended, a-mending}
 use Rattle.edges.specs.Numbers.{every}
-use Rattle.edges.specs.Recordings.{layoutFacts, textFacts, CompareOrder, Recordings}
+use Rattle.edges.specs.Recordings.{layoutFacts, textFacts, CompareOrder, mendFacts, MendOrder, Recordings}
 
 layout : T (every layoutFacts)
 unfolding layoutFacts same be entryAt isGood areGood isWellFormed
@@ -74,5 +76,53 @@ module _ (a b out answer : List ℕ) where
             (record { fits = omega arith; ends = refl; puts = refl })));
       }
 
+-- ---- mending
+
+mending : T (every mendFacts)
+unfolding mendFacts same be toBe put entryAt mendedCount mendedEntry putEntry mendedFrom mended changed entryChanges changesFrom changes words
+mending = tt
+
+module _ (file lent answer : List ℕ) where
+  abbrev told : AfterMend → ℕ
+  told r = r .number
+
+  module _ (e : length answer ≡ 9) where
+    not-mended-by : (n : ℕ) → n ≡ refusalOfMending file (length lent) → (n ≡ 0 → ⊥) → mendsRecording file lent answer .number ≡ n
+    not-mended-by n f g = sym (ap told (not-mended file lent answer e n f g))
+
+    mends : 4 ≤ length file → length (words (report file)) ≤ length lent → mendsRecording file lent answer .number ≡ 0
+    mends h k =
+        sym (ap told (a-mending file lent answer e (has-room file (length lent) h k) (mended file) (put lent 0 (words (report file)))
+        (length (report file)) refl refl refl))
+
+  kept : (mendsRecording file lent answer .number ≡ 0 → ⊥)
+      → mendsRecording file lent answer ≡ record { number = mendsRecording file lent answer .number; file = file; report = lent; answer = answer }
+  unfolding mendsRecording
+  kept g = go (eqb (length answer) 9) g
+    where
+      unwritten : AfterMend → AfterMend
+      unwritten x = record { number = x .number; file = file; report = lent; answer = answer }
+
+      by : (n : ℕ) → (mendedBy file lent answer n .number ≡ 0 → ⊥) → mendedBy file lent answer n ≡ unwritten (mendedBy file lent answer n)
+      by zero k = absurd (k refl)
+      by (suc n) k = refl
+
+      go : (b : Bool)
+          → (cond b (mendedBy file lent answer (refusalOfMending file (length lent))) (record { number = 1; file = file; report = lent; answer = answer }) .number ≡ 0 → ⊥)
+          → cond b (mendedBy file lent answer (refusalOfMending file (length lent))) (record { number = 1; file = file; report = lent; answer = answer })
+          ≡ unwritten (cond b (mendedBy file lent answer (refusalOfMending file (length lent))) (record { number = 1; file = file; report = lent; answer = answer }))
+      go true k = by (refusalOfMending file (length lent)) k
+      go false k = refl
+
+  mend-order : MendOrder file lent answer
+  mend-order =
+      record {
+        settings = λ n. sym (ap told (no-mend-answer file lent answer n));
+        too-short = λ e h. not-mended-by e 2 (too-short file (length lent) h) (λ z. absurd (omega arith));
+        no-room = λ e h k. not-mended-by e 3 (no-report-room file (length lent) h k) (λ z. absurd (omega arith));
+        mends = mends;
+        kept = kept;
+      }
+
 pub recordings : Recordings
-recordings = record { layout = layout; texts = texts; compare-order = order }
+recordings = record { layout = layout; texts = texts; compare-order = order; mending = mending; mend-order = mend-order }

@@ -1,17 +1,19 @@
--- Recordings: the scope's numbers, the layout of a file and the example of a comparison as computed facts, and the order in which
--- a comparison is refused. Numbers are written out as the scope has them.
+-- Recordings: the scope's numbers, the layout of a file, the example of a comparison and a mended file as computed facts, and the
+-- orders in which a comparison and mending are refused. Numbers are written out as the scope has them.
 -- Assumes nothing.
 use mathlib.Core.Path.{_≡_}
-use mathlib.Core.Bool.{Bool, true, false}
+use mathlib.Core.Bool.{true, false}
 use mathlib.Core.List.{List, [], _∷_, _++_}
 use mathlib.Core.Logic.{_⊎_}
-use Prim.Native.Nat.{ℕ, _+_, _^_, _≤_, _<_}
+use Prim.Native.Nat.{ℕ, _+_, _≤_, _<_}
 use lib.Dec.{T}
 use lib.ListN.{length, replicate}
 use Rattle.recording.specs.declared.Entry.{Entry}
 use Rattle.recording.specs.Format.{maxEntries, maxBody, unknown, entryAt, count, placeOf, WellFormed, isGood, isWellFormed}
 use Rattle.comparison_text.specs.Text.{maxFile, refusal, text, printed}
-use Rattle.relay.specs.Recordings.{comparesRecordings}
+use Rattle.mending.specs.Mend.{mendedEntry, mended}
+use Rattle.mending.specs.Report.{report, words}
+use Rattle.relay.specs.Recordings.{comparesRecordings, mendsRecording}
 use Rattle.edges.specs.Numbers.{Fact, fact, number, bits, every}
 
 -- ---- a file's layout
@@ -97,7 +99,43 @@ module _ (a b out answer : List ℕ) where
     pub compared : length answer ≡ 9 → length a ≤ 32768 → length b ≤ 32768 → WellFormed a → WellFormed b
         → length (text a b) ≤ length out → said ≡ 0
 
+-- ---- a mended file: a count of 3 where two fit, an offset, a length past the file and a direction that are none
+
+abbrev pub scrambled : List ℕ
+scrambled = counted 3 ++ (contents 9 255 3 ++ (contents 34 2 1 ++ (97 ∷ 98 ∷ [])))
+
+unfoldable pub mendFacts : List Fact
+mendFacts =
+    fact (mended scrambled) (counted 2 ++ (contents 34 2 2 ++ (contents 36 0 1 ++ (97 ∷ 98 ∷ []))))
+    -- entry, field, old and new: the count is entry 4,096 and field 0, then offset 1, length 2 and direction 3
+    ∷ fact (words (report scrambled))
+    (4096 ∷ 0 ∷ 3 ∷ 2 ∷ 0 ∷ 1 ∷ 9 ∷ 34 ∷ 0 ∷ 2 ∷ 255 ∷ 2 ∷ 0 ∷ 3 ∷ 3 ∷ 2 ∷ 1 ∷ 1 ∷ 34 ∷ 36 ∷ 1 ∷ 2 ∷ 2 ∷ 0 ∷ [])
+    -- a file of 4 bytes, and one that is well formed
+    ∷ fact (mended (255 ∷ 255 ∷ 255 ∷ 255 ∷ [])) (counted 0)
+    ∷ fact (words (report (255 ∷ 255 ∷ 255 ∷ 255 ∷ []))) (4096 ∷ 0 ∷ 4294967295 ∷ 0 ∷ [])
+    ∷ fact (mended two ++ words (report two)) two
+    -- 65,507 and 4,096 are the most
+    ∷ fact (mendedEntry (entryOf 9 65535 255) 19 100000 .len ∷ mendedEntry (entryOf 9 65535 255) 19 100000 .direction ∷ []) (65507 ∷ 2 ∷ [])
+    ∷ []
+
+-- ---- the order of refusals of mending: 1, 2, 3
+
+module _ (file lent answer : List ℕ) where
+  abbrev pub told : ℕ
+  told = mendsRecording file lent answer .number
+
+  pub record MendOrder : Type 0 where
+    pub settings : (length answer ≡ 9 → ⊥) → told ≡ 1
+    pub too-short : length answer ≡ 9 → length file < 4 → told ≡ 2
+    pub no-room : length answer ≡ 9 → 4 ≤ length file → length lent < length (words (report file)) → told ≡ 3
+    pub mends : length answer ≡ 9 → 4 ≤ length file → length (words (report file)) ≤ length lent → told ≡ 0
+    -- a refusal changes nothing
+    pub kept : (told ≡ 0 → ⊥)
+        → mendsRecording file lent answer ≡ record { number = told; file = file; report = lent; answer = answer }
+
 pub record Recordings : Type 0 where
   pub layout : T (every layoutFacts)
   pub texts : T (every textFacts)
   pub compare-order : (a b out answer : List ℕ) → CompareOrder a b out answer
+  pub mending : T (every mendFacts)
+  pub mend-order : (file lent answer : List ℕ) → MendOrder file lent answer

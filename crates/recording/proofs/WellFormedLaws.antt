@@ -59,9 +59,9 @@ goods-pass s (suc n) i r =
     ∙ ap (areGood s n (i + 1)) (sym (next-start s i))
     ∙ goods-pass s n (i + 1) (record { each = λ k l u. r .each k (omega arith) (omega arith); ends = rw e at (r .ends) })
 
-first : (s : List ℕ) → start s 0 ≡ placeOf (count s)
+pub first-start : (s : List ℕ) → start s 0 ≡ placeOf (count s)
 unfolding start
-first s = refl
+first-start s = refl
 
 pub well-formed : (s : List ℕ) → isWellFormed s ≡ true → WellFormed s
 unfolding isWellFormed
@@ -71,7 +71,7 @@ well-formed s h =
     let a = and-both (leb 4 (length s)) (cond (leb (count s) 4096) contents false) h in
     let b = and-both (leb (count s) 4096) contents (a .1) in
     let d = and-both (leb (placeOf (count s)) (length s)) entries (b .1) in
-    let g = goods s (count s) 0 (ap (areGood s (count s) 0) (first s) ∙ d .1) in
+    let g = goods s (count s) 0 (ap (areGood s (count s) 0) (first-start s) ∙ d .1) in
     let e : 0 + count s ≡ count s = omega arith in
     record {
       counted = leb-true _ _ (a .0);
@@ -85,7 +85,7 @@ passes-test : (s : List ℕ) → WellFormed s → isWellFormed s ≡ true
 passes-test s w =
     let e : 0 + count s ≡ count s = omega arith in
     sym (by-entries s (w .counted) (w .few) (w .contents))
-    ∙ ap (areGood s (count s) 0) (sym (first s))
+    ∙ ap (areGood s (count s) 0) (sym (first-start s))
     ∙ goods-pass s (count s) 0 (record { each = λ k l u. w .good k (omega arith); ends = rw e (w .bodies) })
 
 -- the test passes exactly the well-formed recordings

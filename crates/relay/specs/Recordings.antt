@@ -7,6 +7,8 @@ use lib.Dec.{leb, eqb}
 use lib.ListN.{length, set}
 use Rattle.octets.specs.Buffers.{put}
 use Rattle.comparison_text.specs.Text.{refusal, text}
+use Rattle.mending.specs.Mend.{mended}
+use Rattle.mending.specs.Report.{report as changesOf, words, refusal as mendRefusal}
 use Rattle.words.specs.Answers.{answerWords}
 
 -- ---- two recordings side by side
@@ -30,3 +32,29 @@ module _ (first second out answer : List ℕ) where
       cond (eqb (length answer) answerWords)
       (compared (refusal first second) (text first second) out answer)
       (record { number = 1; out = out; answer = answer })
+
+-- ---- a recording mended
+
+pub record AfterMend : Type 0 where
+  pub number : ℕ
+  pub file : List ℕ
+  pub report : List ℕ
+  pub answer : List ℕ
+
+module _ (file report answer : List ℕ) where
+  -- of a file with this refusal, 0 for none
+  abbrev pub mendedBy : ℕ → AfterMend
+  mendedBy zero =
+      record {
+        number = 0;
+        file = mended file;
+        report = put report 0 (words (changesOf file));
+        answer = set answer 0 (length (changesOf file));
+      }
+  mendedBy (suc n) = record { number = suc n; file = file; report = report; answer = answer }
+
+  unfoldable pub mendsRecording : AfterMend
+  mendsRecording =
+      cond (eqb (length answer) answerWords)
+      (mendedBy (mendRefusal file (length report)))
+      (record { number = 1; file = file; report = report; answer = answer })

@@ -2,7 +2,7 @@
 use super::SETTINGS;
 use words::ANSWER;
 ghost use mathlib.Core.Path.{_≡_};
-ghost use Rattle.relay.specs.Recordings.{comparesRecordings};
+ghost use Rattle.relay.specs.Recordings.{comparesRecordings, mendsRecording};
 
 // The number of refusal 3.
 const ROOM: u64 = 3;
@@ -31,5 +31,27 @@ pub extern "C" fn relay_recording_compare(
     }
     let length = comparison_text::write_text(first, second, out);
     answer[0] = length as u64;
+    0
+}
+
+// Mends the recording in the lent file and writes what changed into the report. The answer is the number of changes.
+#[no_mangle]
+pub extern "C" fn relay_recording_mend(
+    file: &mut [u8],
+    report: &mut [u64],
+    answer: &mut [u64],
+) -> u64
+    ensures { λ r. ⌜ record { number = r; file = now (file .exit); report = now (report .exit); answer = now (answer .exit) }
+        ≡ mendsRecording (now (file .entry)) (now (report .entry)) (now (answer .entry)) ⌝ }
+{
+    if answer.len() != ANSWER {
+        return SETTINGS;
+    }
+    let refused = mending::refusal(file, report.len());
+    if refused != 0 {
+        return refused;
+    }
+    let changes = mending::mend(file, report);
+    answer[0] = changes as u64;
     0
 }

@@ -215,6 +215,14 @@ extern "C" {
         answer: *mut u64,
         answer_len: usize,
     ) -> u64;
+    fn relay_recording_mend(
+        file: *mut u8,
+        file_len: usize,
+        report: *mut u64,
+        report_len: usize,
+        answer: *mut u64,
+        answer_len: usize,
+    ) -> u64;
 }
 
 /// A new table, of all words.
@@ -631,6 +639,23 @@ pub(crate) fn recording_compare(
             second.len(),
             out.as_mut_ptr(),
             out.len(),
+            answer.as_mut_ptr(),
+            answer.len(),
+        )
+    };
+    answer::checked(number, answer)
+}
+
+/// Mends a recording and writes what was changed.
+pub(crate) fn recording_mend(file: &mut [u8], report: &mut [u64]) -> Result<Answer, Refusal> {
+    let mut answer = NO_ANSWER;
+    // SAFETY: the rule of lending.
+    let number = unsafe {
+        relay_recording_mend(
+            file.as_mut_ptr(),
+            file.len(),
+            report.as_mut_ptr(),
+            report.len(),
             answer.as_mut_ptr(),
             answer.len(),
         )

@@ -14,6 +14,7 @@
 //! | seal or open a stream from server to client | [`ResponseStream`] |
 //! | plan a long report in datagrams | [`Plan`] |
 //! | tell where two recordings differ | [`recording::compare`] |
+//! | mend a damaged recording | [`recording::mend`] |
 //!
 //! # A datagram
 //!

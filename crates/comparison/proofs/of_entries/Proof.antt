@@ -1,6 +1,6 @@
 -- `comparison::of_entries` meets its contract: each test decides a case of `between`.
 -- Assumes nothing.
-use mathlib.Core.Path.{_≡_, ap, _∙_}
+use mathlib.Core.Path.{ap, _∙_}
 use native.Mathlib.Omega.{arith}
 use borrow.Author.Needs.{needs}
 use Rattle.comparison.specs.Differences.{bodies}

@@ -1,6 +1,5 @@
 -- `comparison_text::text_length` meets its contract.
 -- Assumes nothing.
-use mathlib.Core.Path.{_≡_, ap, _∙_}
 use native.Mathlib.Omega.{arith}
 use borrow.Author.Needs.{needs}
 use Rattle.recording.proofs.WellFormedLaws.{well-formed}

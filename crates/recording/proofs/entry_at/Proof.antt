@@ -1,6 +1,5 @@
 -- `recording::entry_at` meets its contract: each field is what was read.
 -- Assumes nothing.
-use mathlib.Core.Path.{_≡_, refl}
 use borrow.Author.Needs.{needs}
 use Rattle.recording.specs.Format.{entryAt}
 use Rattle.recording.proofs.entry_at.Statement.{statement}

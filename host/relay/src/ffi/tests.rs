@@ -4,7 +4,9 @@ use std::collections::HashMap;
 use std::fs;
 use std::path::Path;
 
-use crate::{answer, recording, Method, Pool, Refusal, SealSession, Table, MAX_CHUNK, MAX_DATAGRAM};
+use crate::{
+    answer, recording, Method, Pool, Refusal, SealSession, Table, MAX_CHUNK, MAX_DATAGRAM,
+};
 
 /// The header without its comments.
 fn header() -> String {
@@ -78,7 +80,7 @@ fn list(parameters: &str) -> Vec<String> {
 fn every_function_is_declared_as_in_the_header() {
     let in_header = parameters(&header(), "uint64_t");
     let here = parameters(include_str!("../ffi.rs"), "fn");
-    assert_eq!(in_header.len(), 17);
+    assert_eq!(in_header.len(), 18);
     assert_eq!(here.len(), in_header.len());
     for (name, parameters) in in_header {
         let expected: Vec<String> = list(&parameters).iter().map(|p| in_rust(p)).collect();
@@ -98,6 +100,7 @@ fn sizes_are_the_headers() {
         ("MAX_DATAGRAM", MAX_DATAGRAM),
         ("MAX_CHUNK", MAX_CHUNK),
         ("MAX_COMPARED", recording::MAX_COMPARED),
+        ("CHANGE_WORDS", recording::Change::WORDS),
     ] {
         assert_eq!(numbers[&format!("RELAY_{name}")], size as u64, "{name}");
     }

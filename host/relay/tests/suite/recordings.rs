@@ -1,6 +1,6 @@
-//! Recordings side by side.
+//! Recordings side by side, and mended.
 
-use relay::recording::{compare, compare_into, MAX_COMPARED};
+use relay::recording::{compare, compare_into, mend, mend_into, Change, Field, MAX_COMPARED};
 use relay::Refusal;
 
 /// Direction, clock and body.
@@ -94,4 +94,71 @@ fn the_most_entries_that_a_file_holds_are_compared() {
     let text = compare(&clocks(0), &clocks(1)).unwrap();
     assert_eq!(text.lines().count(), 1 + 2_184);
     assert_eq!(text.lines().last(), Some("meta 2183"));
+}
+
+#[test]
+fn a_scrambled_recording_is_mended() {
+    let good = recorded(&[(0, 1, b"ab"), (2, 3, b"c")]);
+    let mut file = good.clone();
+    file[3] = 9; // the count
+    file[7] = 0; // the first offset
+    file[14] = 3; // in the first clock, which stays
+    file[25] = 200; // the second direction
+    let changes = mend(&mut file).unwrap();
+    let told = |field, old, new| Change { field, old, new };
+    assert_eq!(
+        changes,
+        [
+            told(Field::Count, 9, 2),
+            told(Field::Offset(0), 0, 34),
+            told(Field::Direction(1), 200, 2),
+        ]
+    );
+    assert_eq!(changes[1].to_string(), "entry 0: offset 0 is now 34");
+    let mut expected = good;
+    expected[14] = 3;
+    assert_eq!(file, expected);
+    assert_eq!(mend(&mut file).unwrap(), []);
+    assert_eq!(compare(&file, &file).unwrap(), "entries 2 2\n");
+}
+
+#[test]
+fn bodies_are_cut_to_the_file() {
+    let mut file = recorded(&[(0, 1, b"abcd"), (1, 2, b"efgh")]);
+    file.truncate(34 + 5);
+    file[8] = 0xff; // a length of 65,284
+    let changes = mend(&mut file).unwrap();
+    let told = |field, old, new| Change { field, old, new };
+    assert_eq!(
+        changes,
+        [
+            told(Field::Length(0), 0xff04, 5),
+            told(Field::Offset(1), 38, 39),
+            told(Field::Length(1), 4, 0),
+        ]
+    );
+    assert_eq!(&file[34..], b"abcde");
+}
+
+#[test]
+fn the_reports_room_is_exact_and_a_refusal_writes_nothing() {
+    assert_eq!(mend(&mut [0, 0, 1]), Err(Refusal::Length));
+    let scrambled = [0, 0, 0, 1, 0x5a];
+    let mut file = scrambled;
+    let mut report = [0x5a; 6];
+    assert_eq!(mend_into(&mut file, &mut report[..3]), Err(Refusal::Room));
+    assert_eq!((file, report), (scrambled, [0x5a; 6]));
+    assert_eq!(mend_into(&mut file, &mut report), Ok(1));
+    assert_eq!(file, [0, 0, 0, 0, 0x5a]);
+    assert_eq!(report, [4_096, 0, 1, 0, 0x5a, 0x5a]);
+}
+
+#[test]
+fn a_count_of_all_ones_is_lowered_to_4096() {
+    let mut file = vec![0; 4 + 15 * 4_097];
+    file[..4].fill(0xff);
+    let changes = mend(&mut file).unwrap();
+    assert_eq!(changes[0].new, 4_096);
+    assert_eq!(changes.len(), 1 + 4_096); // each offset too
+    assert_eq!(mend(&mut file).unwrap(), []);
 }

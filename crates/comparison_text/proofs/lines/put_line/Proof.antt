@@ -1,7 +1,6 @@
 -- `comparison_text::lines::put_line` meets its contract: each arm writes the line of its case.
 -- Assumes nothing.
 use borrow.Author.Needs.{needs}
-use lib.ListN.{length}
 use Rattle.comparison_text.specs.Text.{lineOf}
 use Rattle.recording.proofs.WrittenLaws.{nothing}
 use Rattle.comparison_text.proofs.LineLaws.{room-of, line-of}

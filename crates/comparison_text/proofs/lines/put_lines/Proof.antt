@@ -1,10 +1,9 @@
 -- `comparison_text::lines::put_lines` meets its contract: the lines so far stand in the buffer.
 -- Assumes nothing.
-use mathlib.Core.Path.{_≡_, sym, ap, subst}
-use Prim.Native.Nat.{ℕ, _+_, _-_, _≤_}
+use mathlib.Core.Path.{_≡_, sym, subst}
+use Prim.Native.Nat.{_-_, _≤_}
 use native.Mathlib.Omega.{arith}
 use borrow.Author.Needs.{needs}
-use lib.ListN.{length}
 use Rattle.comparison_text.specs.Text.{lines}
 use Rattle.recording.specs.Written.{Written}
 use Rattle.recording.proofs.WrittenLaws.{nothing, size}
