@@ -303,6 +303,11 @@ def open(call, table):
     """The answer, and the table afterwards."""
     if not lawful(table):
         return Answer(SETTINGS, None, call.output), table
+    return open_untested(call, table)
+
+
+def open_untested(call, table):
+    """The same without the test of the table, which a retention of 59 does not pass."""
     number, header, text = judge(call)
     if number == 0:
         packet = header.session, header.packet
@@ -623,6 +628,48 @@ def reply_examples():
         yield "1 before 12", begin_reply(unlawful, 1_000, 1, 1) == (SETTINGS, None)
 
 
+# The same datagram twice: why a session is remembered for 60 seconds at least.
+
+
+def answers_of(step, state, calls):
+    """The numbers that a list of calls gets, each with what the one before left."""
+    numbers = []
+    for call in calls:
+        given, state = step(call, state)
+        numbers.append(given.number)
+    return numbers
+
+
+def twice(method, client, address, padding, payload):
+    """A datagram sealed at 1,030, for its side at 1,000, at 1,060 and at 1,061."""
+    text = plaintext(client, 1_030, address, bytes(padding), payload)
+    data = sealed(datagram.KEYS[method], ID, 5, text)
+    lent = ((1_000, PEER, b"\xa5"), (1_060, OTHER_PEER, b"\x5a"), (1_061, PEER, b"\0"))
+    for clock, peer, fill in lent:
+        yield Call(method, datagram.KEYS[method], client, clock, peer, data, fill * len(text))
+
+
+def breaking_runs():
+    sides = itertools.product((1, 2), (None, CLIENT), ADDRESSES, (0, 7), (b"", b"reading"))
+    for side in sides:
+        calls = list(twice(*side))
+        for retention, again in ((59, 0), (60, REPLAY)):
+            book = functools.partial(open_by_book, retention=retention)
+            untested = (retention,) + (0,) * (TABLE_WORDS - 1)
+            expected = [0, again, TIME]
+            yield f"{retention} by the book, {side}", answers_of(book, {}, calls) == expected
+            by_table = answers_of(open_untested, untested, calls)
+            yield f"{retention} by the table, {side}", by_table == expected
+        unlawful = (59,) + (0,) * (TABLE_WORDS - 1)
+        yield f"59 refused, {side}", answers_of(open, unlawful, calls) == [SETTINGS] * 3
+        lawful_table = table_with(60)
+        yield f"60 is lawful, {side}", answers_of(open, lawful_table, calls) == [0, REPLAY, TIME]
+        every = [calls[0]._replace(clock=clock) for clock in range(990, 1_130)]
+        for retention in (60, 61, 3_600):
+            numbers = answers_of(open, table_with(retention), every)
+            yield f"every second, {retention}, {side}", numbers.count(0) == 1
+
+
 # Random lists: the table against the book, and rearranged.
 
 
@@ -648,6 +695,8 @@ def book_runs():
         yield f"list {number}, replies", replies_by_book(retention, calls)
         same = not calls or counts == counted(retention, calls, answers)
         yield f"list {number}, calls counted", same
+        taken = [call.datagram for call, given in zip(calls, answers) if given.number == 0]
+        yield f"list {number}, no datagram twice", len(taken) == len(set(taken))
         if FULL in (given.number for given in answers):
             continue
         for turn in range(3):
@@ -681,8 +730,9 @@ def replies_by_book(retention, calls):
 
 def selftest():
     """The names of the examples that this code fails."""
-    edges = (marked_edges(), worked_example(), order_examples(), table_examples(), book_runs())
-    return [name for name, holds in itertools.chain(*edges) if not holds]
+    edges = (marked_edges(), worked_example(), order_examples(), table_examples())
+    runs = (breaking_runs(), book_runs())
+    return [name for name, holds in itertools.chain(*edges, *runs) if not holds]
 
 
 if __name__ == "__main__":

@@ -625,6 +625,20 @@ def pool_examples():
         yield f"making {method} of {words}", make(method, pool) == (SETTINGS, pool)
 
 
+def heads_once():
+    """A head at every second from before its time to behind it: accepted once."""
+    for method in (1, 2):
+        data = request_of(method, datagram.NAME + b"\0\0x", time=CLOCK + 30)
+        for pool in (new_pool(method), new_pool(method, (9, CLOCK - 60, SALTS_OF[method]))):
+            numbers = {}
+            for clock in range(CLOCK - 10, CLOCK + 70):
+                answer, pool = opened(method, data, clock, pool)
+                numbers[clock - CLOCK] = answer.number
+            yield f"once, {method}", list(numbers.values()).count(0) == 1
+            yield f"kept while timely, {method}", numbers[60] == REPLAY
+            yield f"then stale, {method}", numbers[61] == TIME
+
+
 def counter_examples():
     words = words_from(KEYS[1])
     for counter, number in ((2**64 - 3, 0), (2**64 - 2, COUNTER), (2**64 - 1, COUNTER)):
@@ -646,7 +660,7 @@ def counter_examples():
 def selftest():
     """The names of the examples that this code fails."""
     checks = (whole_streams(), wanted_numbers(), malformed_requests(), order_examples())
-    checks += (pool_examples(), counter_examples(), second_calls(), empty_chunks())
+    checks += (pool_examples(), heads_once(), counter_examples(), second_calls(), empty_chunks())
     return [name for name, holds in itertools.chain(*checks) if not holds]
 
 

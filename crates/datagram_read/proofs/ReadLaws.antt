@@ -82,15 +82,23 @@ pub record Opens (method : ℕ) (key : List ℕ) (side : Side) (clock : ℕ) (s 
   pub authentic : bodyAuthentic key (sessionOf key s) (packetOf key s) (drop 16 s) ≡ true
   pub main : Reads side clock (sessionOf key s) (packetOf key s) (bodyText key (sessionOf key s) (packetOf key s) (drop 16 s)) h
 
--- what a header that was read says of its session
+-- what a header that was read says of its session and its packet ID
 abbrev sessionIn : Opened → ℕ → ℕ
 sessionIn (Datagram h) other = h .session
 sessionIn (Refused r) other = other
+
+abbrev packetIn : Opened → ℕ → ℕ
+packetIn (Datagram h) other = h .packet
+packetIn (Refused r) other = other
 
 module _ (id packet time padding : ℕ) (h : Header) where
   with-session : (p : Parsed) → headerWith id packet time padding p ≡ Datagram h → h .session ≡ id
   with-session (Found a) e = sym (ap (λ (o : Opened). sessionIn o id) e)
   with-session NoAddress e = absurd (not-refused Malformed h e)
+
+  with-packet : (p : Parsed) → headerWith id packet time padding p ≡ Datagram h → h .packet ≡ packet
+  with-packet (Found a) e = sym (ap (λ (o : Opened). packetIn o packet) e)
+  with-packet NoAddress e = absurd (not-refused Malformed h e)
 
 module _ (method : ℕ) (key : List ℕ) (side : Side) (clock : ℕ) (s out : List ℕ) where
   abbrev id : ℕ
@@ -147,6 +155,10 @@ module _ (method : ℕ) (key : List ℕ) (side : Side) (clock : ℕ) (s out : Li
       pub header-session : h .session ≡ id
       unfolding readAddress
       header-session = with-session id packet (timeOf plain) (paddingOf side plain) h (parseAt plain (fixedLength side + paddingOf side plain)) (d .main .address)
+
+      pub header-packet : h .packet ≡ packet
+      unfolding readAddress
+      header-packet = with-packet id packet (timeOf plain) (paddingOf side plain) h (parseAt plain (fixedLength side + paddingOf side plain)) (d .main .address)
 
       -- the plaintext is in the buffer
       pub opened-out : readOut method key side clock s out ≡ put out 0 plain

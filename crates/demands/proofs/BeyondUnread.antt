@@ -41,10 +41,10 @@ part-end (suc m) (suc k) (suc j) [] e = refl
 part-end (suc m) k (suc j) (x ∷ l) e = let f : j ≡ m + k = omega arith in part-end m k j l f
 
 module _ (n : ℕ) (s t : List ℕ) (e : Begins n s t) where
-  beginning : (m : ℕ) → m ≤ n → take m t ≡ take m s
+  pub beginning : (m : ℕ) → m ≤ n → take m t ≡ take m s
   beginning m h = sym (take-take m n t h) ∙ ap (take m) e ∙ take-take m n s h
 
-  part : (m k : ℕ) → m + k ≤ n → take k (drop m t) ≡ take k (drop m s)
+  pub part : (m k : ℕ) → m + k ≤ n → take k (drop m t) ≡ take k (drop m s)
   part m k h = part-end m k (m + k) t refl ∙ ap (drop m) (beginning (m + k) h) ∙ sym (part-end m k (m + k) s refl)
 
   -- and is as long

@@ -198,15 +198,15 @@ module _ (key : List ℕ) (p : Octets key) (sender : Sender) (time : ℕ) (addre
   abbrev sent : List ℕ
   sent = datagram key sender time address padding payload
 
-  session-sent : sender .id < 2 ^ 64 → sessionOf key sent ≡ sender .id
+  pub session-sent : sender .id < 2 ^ 64 → sessionOf key sent ≡ sender .id
   unfolding datagram
   session-sent h = session-back key p (sender .id) (sender .packet) body h
 
-  packet-sent : sender .packet < 2 ^ 64 → packetOf key sent ≡ sender .packet
+  pub packet-sent : sender .packet < 2 ^ 64 → packetOf key sent ≡ sender .packet
   unfolding datagram
   packet-sent h = packet-back key p (sender .id) (sender .packet) body h
 
-  body-sent : drop 16 sent ≡ body
+  pub body-sent : drop 16 sent ≡ body
   unfolding datagram
   body-sent =
       drop-at (separateBlock key (sender .id) (sender .packet)) body 16 (length-separateBlock key (sender .id) (sender .packet))

@@ -16,7 +16,7 @@ use Rattle.session_book.specs.Book.{Page, one, pageAlive, page, crowded,
 use Rattle.session_book.specs.Runs.{tableOutcome, tableOutcomeBy, tableNextBy, tableNext, tableOutcomes, tableAfter}
 use Rattle.session_book.specs.Demand3.{Each, Pairs, clocks, PortFits, lastOf, lastReading, View, viewOfPage, tableSession, Named}
 use Rattle.session_book.specs.Counts.{isOpened, isRepeat, names, answeredSo, tableBehind, Begins, CountsCalls, NoEarlyEight, CallsCounted}
-use Rattle.session_book.proofs.Pages.{page-alive}
+use Rattle.session_book.proofs.Pages.{page-alive, page-head}
 use Rattle.session_book.proofs.Swap.{made, page-turn, accept-alive, new-alive}
 use Rattle.session_book.proofs.Shuffle.{cons-head, cons-tail}
 use Rattle.session_book.proofs.Words.{lawful-table}
@@ -52,9 +52,6 @@ stopped n a x e = omega arith
 -- and stays where nothing is added
 within : (n a : ℕ) → n ≡ min a (2 ^ 64 - 1) → min (n + 0) (2 ^ 64 - 1) ≡ n
 within n a e = omega arith
-
-page-head : (R t id : ℕ) (q : Page) (b : List Page) → q .id ≡ id → pageAlive R t q ≡ true → page R t id (q ∷ b) ≡ some q
-page-head R t id q b e a = ap₂ (λ (x y : Bool). cond (x && y) (some q) (page R t id b)) (eq-eqb (q .id) id e) a
 
 module _ {H : Type 0} (decide : Call → Decision H) (belongs : Call → Option ℕ) (R : ℕ) where
   after-append : (t : List ℕ) (l m : List Call) → tableAfter decide t (l ++ m) ≡ tableAfter decide (tableAfter decide t l) m

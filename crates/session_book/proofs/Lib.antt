@@ -1,5 +1,6 @@
 pub mod Pages
 pub mod Swap
+pub mod BookOnce
 pub mod Shuffle
 pub mod Rearrange
 pub mod Second
@@ -12,3 +13,4 @@ pub mod Step
 pub mod First
 pub mod Counts
 pub mod Demand3
+pub mod TableOnce

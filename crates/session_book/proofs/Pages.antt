@@ -1,5 +1,5 @@
 -- The book's pages: lookup, count and removal, and books that differ only in the order of their pages. Assumes nothing.
-use mathlib.Core.Path.{_≡_, refl, sym, ap, _∙_, subst}
+use mathlib.Core.Path.{_≡_, refl, sym, ap, ap₂, _∙_, subst}
 use mathlib.Core.Logic.{_≢_}
 use mathlib.Core.Bool.{Bool, true, false, cond, _&&_, and-eq-true-iff}
 use mathlib.Core.List.{List, [], _∷_}
@@ -7,8 +7,8 @@ use mathlib.Core.Option.{none, some, Option·none-ne-some, Option·some-ne-none,
 use Prim.Native.Nat.{ℕ, _+_, _≤_, zero-le}
 use native.Mathlib.Omega.{arith}
 use lib.Dec.{eqb}
-use Rattle.session_book.specs.Book.{Page, one, pageAlive, page, living, without}
-use borrow.Author.Tests.{eqb-true, ne-eqb}
+use Rattle.session_book.specs.Book.{Page, one, until, pageAlive, page, living, without}
+use borrow.Author.Tests.{leb-false, eqb-true, eq-eqb, ne-eqb, lt-leb}
 
 -- ---- removal
 
@@ -76,6 +76,25 @@ page-alive R t id (x ∷ b) q e = go (page-alive R t id b q) (eqb (x .id) id && 
         → cond y (some x) (page R t id b) ≡ some q → pageAlive R t q ≡ true
     go ih true f g = ap (λ (w : Page). pageAlive R t w) (sym (Option·some-injective _ _ g)) ∙ and-eq-true-iff (eqb (x .id) id) _ .0 f .1
     go ih false f g = ih g
+
+-- a page in front
+pub page-head : (R t id : ℕ) (q : Page) (b : List Page) → q .id ≡ id → pageAlive R t q ≡ true → page R t id (q ∷ b) ≡ some q
+page-head R t id q b e a = ap₂ (λ (x y : Bool). cond (x && y) (some q) (page R t id b)) (eq-eqb (q .id) id e) a
+
+pub dead-after : (R t u : ℕ) (q : Page) → t ≤ u → pageAlive R t q ≡ false → pageAlive R u q ≡ false
+dead-after R t u q h e = lt-leb u (until R q) (omega (arith, leb-false t (until R q) e))
+
+-- the page found at one reading is the one found later, if it is alive then
+pub page-later : (R t u id : ℕ) (b : List Page) (q : Page) → t ≤ u → page R t id b ≡ some q → pageAlive R u q ≡ true → page R u id b ≡ some q
+page-later R t u id [] q h e a = e
+page-later R t u id (x ∷ b) q h e a = go (page-later R t u id b q h) (eqb (x .id) id) (pageAlive R t x) refl e
+  where
+    go : (page R t id b ≡ some q → pageAlive R u q ≡ true → page R u id b ≡ some q) → (y z : Bool) → pageAlive R t x ≡ z
+        → cond (y && z) (some x) (page R t id b) ≡ some q → cond (y && pageAlive R u x) (some x) (page R u id b) ≡ some q
+    go ih true true f g =
+        let s : x ≡ q = Option·some-injective _ _ g in rw (ap (pageAlive R u) s ∙ a) g
+    go ih true false f g = rw (dead-after R t u x h f) (ih g a)
+    go ih false z f g = ih g a
 
 one-and : (x y : Bool) → one (x && y) ≤ one x
 one-and true true = omega arith

@@ -10,9 +10,9 @@ use native.Mathlib.Omega.{arith}
 use lib.Dec.{eqb, leb}
 use Rattle.session_table.specs.Sizes.{capacity}
 use Rattle.session_table.specs.Table.{Record, live, holds}
-use Rattle.session_book.specs.Book.{Page, one, until, pageAlive, page, living, without}
-use borrow.Author.Tests.{leb-true, leb-false, eqb-true, eqb-false, eq-eqb, le-leb, lt-leb}
-use Rattle.session_book.proofs.Pages.{page-alive, livingOf, held, livingOf-held, living-split, Distinct, distinct-put, page-put}
+use Rattle.session_book.specs.Book.{Page, one, pageAlive, page, living, without}
+use borrow.Author.Tests.{leb-true, eqb-true, eqb-false, eq-eqb, le-leb}
+use Rattle.session_book.proofs.Pages.{page-alive, dead-after, page-later, livingOf, held, livingOf-held, living-split, Distinct, distinct-put, page-put}
 use Rattle.session_book.proofs.Search.{tally, tally-but}
 use Rattle.session_book.proofs.Window.{Match}
 
@@ -25,24 +25,9 @@ alive R clock last = leb clock (last + R)
 pub alive-before : (R t u last : ℕ) → t ≤ u → alive R u last ≡ true → alive R t last ≡ true
 alive-before R t u last h e = le-leb t (last + R) (omega (arith, leb-true u (last + R) e))
 
-pub dead-after : (R t u : ℕ) (q : Page) → t ≤ u → pageAlive R t q ≡ false → pageAlive R u q ≡ false
-dead-after R t u q h e = lt-leb u (until R q) (omega (arith, leb-false t (until R q) e))
-
 -- a record is alive as long as its page
 pub alive-same : (R u : ℕ) (r : Record) (q : Page) → Match r q → alive R u (r .last) ≡ pageAlive R u q
 alive-same R u r q m = ap (alive R u) (m .last)
-
--- the page found at one reading is the one found later, if it is alive then
-page-later : (R t u id : ℕ) (b : List Page) (q : Page) → t ≤ u → page R t id b ≡ some q → pageAlive R u q ≡ true → page R u id b ≡ some q
-page-later R t u id [] q h e a = e
-page-later R t u id (x ∷ b) q h e a = go (page-later R t u id b q h) (eqb (x .id) id) (pageAlive R t x) refl e
-  where
-    go : (page R t id b ≡ some q → pageAlive R u q ≡ true → page R u id b ≡ some q) → (y z : Bool) → pageAlive R t x ≡ z
-        → cond (y && z) (some x) (page R t id b) ≡ some q → cond (y && pageAlive R u x) (some x) (page R u id b) ≡ some q
-    go ih true true f g =
-        let s : x ≡ q = Option·some-injective _ _ g in rw (ap (pageAlive R u) s ∙ a) g
-    go ih true false f g = rw (dead-after R t u x h f) (ih g a)
-    go ih false z f g = ih g a
 
 -- no page at one reading, none later
 pub livingOf-none-later : (R t u id : ℕ) (b : List Page) → t ≤ u → page R t id b ≡ none → livingOf R u id b ≡ 0

@@ -4,7 +4,8 @@
 //! late, overtaken, replayed, forged or stamped with a wrong time; sessions are
 //! forgotten and begun again. The library opens all of them, and everything that it
 //! answers is held to a model of the plain rules that shares nothing with it. The
-//! first half runs with one method, the second with the other.
+//! first half runs with one method, the second with the other. Then every datagram
+//! of a shorter run comes again at every later second until it is stale.
 //!
 //! The first disagreement ends the run with exit status 1.
 
@@ -24,6 +25,7 @@ mod options;
 mod payload;
 mod random;
 mod receiver;
+mod replays;
 mod replies;
 mod report;
 mod rules;

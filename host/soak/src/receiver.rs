@@ -15,7 +15,7 @@ use crate::payload::{Message, Payloads};
 use crate::rules::{self, Call, Verdict};
 
 /// How long a silent session is remembered.
-const RETENTION: u64 = 60;
+pub const RETENTION: u64 = 60;
 
 /// Neither zero nor likely in a plaintext for long.
 const FILL: u8 = 0xa5;

@@ -5,6 +5,7 @@ use std::io::{self, IsTerminal, Write};
 use crate::disagreement::Disagreement;
 use crate::meter::Meter;
 use crate::receiver::Counted;
+use crate::replays::Again;
 use crate::rules;
 use crate::soak::{State, Summary};
 use crate::tally::Tally;
@@ -63,6 +64,7 @@ pub fn summary(summary: &Summary) {
     sessions(summary);
     throughput(summary);
     conclusion(summary);
+    replays(&summary.again);
 }
 
 fn table(summary: &Summary) {
@@ -194,6 +196,22 @@ fn conclusion(summary: &Summary) {
     println!(
         "The sessions were compared {} times: the library and the rules agree.",
         summary.looks
+    );
+}
+
+/// What became of the run that came again.
+fn replays(again: &Again) {
+    println!(
+        "{} datagrams came again at every second until they were stale, {} copies in all: {} repeats, {} stale.",
+        grouped(again.sent),
+        grouped(again.copies.accepted + again.copies.refused()),
+        grouped(again.copies.refused_with(rules::REPLAY)),
+        grouped(again.copies.refused_with(rules::WRONG_TIME))
+    );
+    println!(
+        "{} were counted, none twice, while {} sessions were forgotten and begun again.",
+        grouped(again.first.accepted + again.copies.accepted),
+        grouped(again.begun_again)
     );
 }
 

@@ -14,7 +14,7 @@ const LENGTHS: std::ops::RangeInclusive<usize> = 32..=65_507;
 pub const OUTSIDE: usize = 32;
 
 /// How far a timestamp may be from the clock.
-const TIME: u64 = 30;
+pub const TIME: u64 = 30;
 
 /// Numbers of refusals.
 pub const LENGTH: u64 = 2;

@@ -12,6 +12,7 @@ use crate::options::Options;
 use crate::payload::Payloads;
 use crate::random::Random;
 use crate::receiver::{Answer, Counted, Receiver};
+use crate::replays::{Again, Replays};
 use crate::replies::Replies;
 use crate::tally::Tally;
 
@@ -56,6 +57,8 @@ pub struct Summary {
     pub looks: u64,
     /// What the sessions that are alive at the end have counted.
     pub sessions: Vec<Counted>,
+    /// What became of a run that came again, second by second.
+    pub again: Again,
 }
 
 /// How far a run is.
@@ -213,6 +216,7 @@ impl Soak {
             counted: self.network.ledger.close()?,
             looks: self.looks,
             sessions,
+            again: Replays::run(self.options.seed, &self.payloads)?,
         })
     }
 }
