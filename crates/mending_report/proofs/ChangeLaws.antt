@@ -33,13 +33,6 @@ pub is-changed : (i f old new : ℕ) → (old ≡ new → ⊥)
 unfolding changed
 is-changed i f old new e = rw (ne-eqb old new e)
 
-pub at-most-one : (i f old new : ℕ) → length (changed i f old new) ≤ 1
-at-most-one i f old new = go (eqb old new) refl
-  where
-    go : (t : Bool) → eqb old new ≡ t → length (changed i f old new) ≤ 1
-    go true e = omega (arith, ap length (unchanged i f old new (eqb-true old new e)))
-    go false e = omega (arith, ap length (is-changed i f old new (eqb-false old new e)))
-
 -- how many changes there are does not go by entry and field
 pub as-many : (i f old new : ℕ) → length (changed 0 0 old new) ≡ length (changed i f old new)
 as-many i f old new = go (eqb old new) refl
