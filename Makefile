@@ -35,7 +35,7 @@ test:
 # ARGS="rounds_12 salts_255" for some of them.
 mistakes:
 	@tools/need rt python3=python3
-	rt check demands edges
+	rt check demands edges sip004_demands
 	tools/mistakes $(ARGS)
 
 library: $(LIBRARY)
@@ -64,7 +64,7 @@ uninstall:
 # The table of speeds and its plot, in target/bench. ARGS=--quick for a short run. docs/PERFORMANCE.md speaks of copies of a full
 # run's: cp target/bench/speed.txt target/bench/speed.svg docs/
 bench: PROGRAM := bench
-bench: arguments target/staticlib/libbench.a
+bench: arguments library target/staticlib/libbench.a
 	@tools/need libcrypto.so=libssl-dev libnettle.so=nettle-dev libbearssl.so=libbearssl-dev
 	@$(CARGO) run --release $(HOST) -p $(PROGRAM) -- $(ARGS)
 

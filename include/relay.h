@@ -1,5 +1,6 @@
 /*
- * Bhajnolith: a verified Shadowsocks 2022 (SIP022) relay core.
+ * Bhajnolith: a verified Shadowsocks 2022 (SIP022) relay core, and the streams
+ * and datagrams of the 2017 edition (SIP004).
  *
  * Link with librelay.a. No function allocates, keeps a pointer, reads a clock
  * or makes random numbers: the caller lends every buffer and brings the time,
@@ -22,14 +23,15 @@
  *   A buffer is a pointer and a length: in bytes for uint8_t, in words for
  *   uint64_t. A length of 0 may come with any pointer, NULL too. Buffers that
  *   one call writes must not overlap any other buffer of the call. Keys have
- *   16 bytes (method 1) or 32 (method 2), and so have salts.
- *   RELAY_REFUSED_SETTINGS is: a method that there is not; a key, salt, table,
- *   pool, session, stream or answer of another length than its own; a table
- *   whose retention is not 60 to 3,600; a pool of another method; a session
- *   whose side is neither 0 nor 1; a stream at another turn than the call's,
- *   with a length of 0 or above 65,535 at a payload, or with a length above
- *   65,535 or another counter than 1 at a variable header. Nothing is written
- *   then.
+ *   16 bytes (methods 1 and 11), 24 (method 12) or 32 (methods 2 and 13), and so
+ *   have salts.
+ *   RELAY_REFUSED_SETTINGS is: a method that there is not, or that is the other
+ *   edition's; a key, salt, table, pool, session, stream or answer of another
+ *   length than its own; a table whose retention is not 60 to 3,600; a pool of
+ *   another method; a session whose side is neither 0 nor 1; a stream at another
+ *   turn than the call's, at a payload with a length that its edition has not (0
+ *   or above 65,535; by SIP004 above 16,383), or with a length above 65,535 or
+ *   another counter than 1 at a variable header. Nothing is written then.
  *
  * WHAT A REFUSAL WRITES
  *   No refusal changes a pool or a sending session; a salt that
@@ -46,7 +48,7 @@
  *   time.
  *
  * STACK
- *   A call takes up to 8,664 bytes of the caller's stack, its arguments
+ *   A call takes up to 8,648 bytes of the caller's stack, its arguments
  *   included: opening a datagram. tests/stack.c measured it on x86-64, by the
  *   deepest byte that a call changes of a painted stack. The only recursion is
  *   over the digits of a number of a comparison, five at most. Allow 16 KiB.
@@ -72,29 +74,35 @@ extern "C" {
 #define RELAY_VERSION_MINOR 1
 #define RELAY_VERSION_PATCH 0
 
-/* ---- sizes, in words but for the last two */
+/* ---- sizes, in words but for the last three */
 
-#define RELAY_TABLE_WORDS 833    /* a session table: 64 sessions */
-#define RELAY_POOL_WORDS 1537    /* a salt pool: 256 salts */
-#define RELAY_SESSION_WORDS 4    /* a sending session */
-#define RELAY_STREAM_WORDS 8     /* one direction of a stream */
-#define RELAY_ANSWER_WORDS 9     /* an answer */
-#define RELAY_MAX_DATAGRAM 65507 /* bytes */
-#define RELAY_MAX_CHUNK 65535    /* bytes */
+#define RELAY_TABLE_WORDS 833        /* a session table: 64 sessions */
+#define RELAY_POOL_WORDS 1537        /* a salt pool: 256 salts */
+#define RELAY_SESSION_WORDS 4        /* a sending session */
+#define RELAY_STREAM_WORDS 8         /* one direction of a stream */
+#define RELAY_ANSWER_WORDS 9         /* an answer */
+#define RELAY_MAX_DATAGRAM 65507     /* bytes */
+#define RELAY_MAX_CHUNK 65535        /* bytes */
+#define RELAY_SIP004_MAX_CHUNK 16383 /* bytes, by the 2017 edition */
 
 /* ---- methods */
 
 #define RELAY_AES_128_GCM 1 /* 2022-blake3-aes-128-gcm: 16-byte keys and salts */
 #define RELAY_AES_256_GCM 2 /* 2022-blake3-aes-256-gcm: 32-byte keys and salts */
 
+/* of the 2017 edition: lawful in the functions named relay_sip004_ alone, which take no others */
+#define RELAY_SIP004_AES_128_GCM 11 /* aes-128-gcm: 16-byte keys and salts */
+#define RELAY_SIP004_AES_192_GCM 12 /* aes-192-gcm: 24-byte keys and salts */
+#define RELAY_SIP004_AES_256_GCM 13 /* aes-256-gcm: 32-byte keys and salts */
+
 /* ---- what a function returns */
 
 #define RELAY_OK 0
 #define RELAY_REFUSED_SETTINGS 1      /* method; length or words of what was lent */
-#define RELAY_REFUSED_LENGTH 2        /* datagram not 32 to 65,507 bytes, chunk over 65,535 */
+#define RELAY_REFUSED_LENGTH 2        /* datagram too short or over 65,507 bytes, chunk too long */
 #define RELAY_REFUSED_ROOM 3          /* `out` is shorter than the bytes due */
 #define RELAY_REFUSED_NOT_AUTHENTIC 4 /* a tag is wrong, or the stream has ended */
-#define RELAY_REFUSED_MALFORMED 5     /* header too short, bad address or padding */
+#define RELAY_REFUSED_MALFORMED 5     /* bad header, address or padding; a length over 16,383 */
 #define RELAY_REFUSED_TYPE 6          /* wrong type byte */
 #define RELAY_REFUSED_TIME 7          /* timestamp and clock differ by over 30 seconds */
 #define RELAY_REFUSED_REPLAY 8        /* packet ID not fresh, or salt seen before */
@@ -172,6 +180,9 @@ static inline const char *relay_refusal_name(uint64_t number)
 /* anything sealed */
 #define RELAY_AT_SEALED_LENGTH 0 /* bytes written to `out` */
 
+/* an opened datagram of the 2017 edition */
+#define RELAY_AT_PLAINTEXT_LENGTH 0 /* bytes written to `out` */
+
 /* plans */
 #define RELAY_AT_DATAGRAMS 0 /* how many the plan made has */
 #define RELAY_AT_GOOD 0      /* 1 for a good plan, else 0 */
@@ -205,15 +216,17 @@ static inline const char *relay_refusal_name(uint64_t number)
 /* ---- words of a stream; the last four are secret */
 
 #define RELAY_STREAM_TURN 0    /* what the stream does next: */
-#define RELAY_TURN_ENDED 0     /*   nothing: a tag or a variable header was wrong, or a length 0 */
+#define RELAY_TURN_ENDED 0     /*   nothing: a tag, a variable header or a length was wrong */
 #define RELAY_TURN_LENGTH 1    /*   opens a length */
 #define RELAY_TURN_PAYLOAD 2   /*   opens a payload */
 #define RELAY_TURN_SEALING 3   /*   seals */
 #define RELAY_TURN_VARIABLE 4  /*   opens a request's variable header */
-#define RELAY_STREAM_METHOD 1
+#define RELAY_STREAM_METHOD 1  /* 1 and 2, or 11 to 13: which functions take the stream */
 #define RELAY_STREAM_COUNTER 2 /* of the next piece */
-#define RELAY_STREAM_LENGTH 3  /* of the payload (1 to 65,535) or variable header that is next */
-#define RELAY_STREAM_SUBKEY 4  /* 4 words, bytes big-endian; method 1 has zeros in the last two */
+#define RELAY_STREAM_LENGTH 3  /* of the payload (1 to 65,535; by SIP004 0 to 16,383) or variable
+                                * header that is next */
+#define RELAY_STREAM_SUBKEY 4  /* 4 words, bytes big-endian; methods 1 and 11 have zeros in the last
+                                * two, method 12 in the last, which are not read */
 
 /* ---- words of a salt pool: the method, then 256 records of 6 words, which are in use (not 0), time,
  * and the salt in 4 words, big-endian */
@@ -486,6 +499,106 @@ uint64_t relay_stream_seal_chunk(uint64_t *stream, size_t stream_len, const uint
 uint64_t relay_stream_open_chunk(uint64_t *stream, size_t stream_len, const uint8_t *bytes,
                                  size_t bytes_len, uint8_t *out, size_t out_len, uint64_t *answer,
                                  size_t answer_len);
+
+/* ---- the 2017 edition (SIP004)
+ *
+ * Methods 11 to 13 alone. The subkey is HKDF with SHA-1 of key and salt, info
+ * "ss-subkey". A plaintext is handed on as it is: there is no header, time,
+ * window or pool, so nothing here tells a datagram or a stream that comes twice.
+ */
+
+/*
+ * Seals one datagram to the front of `out`: salt, ciphertext and tag.
+ *
+ * salt     random, new for each datagram: the nonce is all zeros, so two datagrams
+ *          of one key and salt let others read and forge both
+ * payload  may be empty
+ * out      the payload with the salt and 16 bytes more
+ * answer   RELAY_AT_SEALED_LENGTH
+ *
+ * Refusals, in this order: 1 (lengths, method), 2 (over 65,507 bytes sealed), 3.
+ * A refusal writes nothing.
+ */
+uint64_t relay_sip004_datagram_seal(uint64_t method, const uint8_t *key, size_t key_len,
+                                    const uint8_t *salt, size_t salt_len, const uint8_t *payload,
+                                    size_t payload_len, uint8_t *out, size_t out_len,
+                                    uint64_t *answer, size_t answer_len);
+
+/*
+ * Opens one datagram.
+ *
+ * datagram  salt, ciphertext and tag: the salt and 16 bytes at least, 65,507 at most
+ * out       room for the datagram's length less the salt and 16: the plaintext
+ * answer    RELAY_AT_PLAINTEXT_LENGTH
+ *
+ * Refusals, in this order: 1 (lengths, method), 2, 3, 4. A refusal writes nothing.
+ */
+uint64_t relay_sip004_datagram_open(uint64_t method, const uint8_t *key, size_t key_len,
+                                    const uint8_t *datagram, size_t datagram_len, uint8_t *out,
+                                    size_t out_len, uint64_t *answer, size_t answer_len);
+
+/*
+ * Begins a stream that seals. The host sends the salt before the first chunk.
+ *
+ * salt    random, new for each stream
+ * stream  RELAY_STREAM_WORDS words, all of them written: RELAY_TURN_SEALING, the
+ *         method, counter 0, 0, the subkey
+ *
+ * Refusals: 1 (lengths, method), and nothing is written.
+ */
+uint64_t relay_sip004_stream_begin_seal(uint64_t method, const uint8_t *key, size_t key_len,
+                                        const uint8_t *salt, size_t salt_len, uint64_t *stream,
+                                        size_t stream_len);
+
+/*
+ * Begins a stream that opens.
+ *
+ * salt    the stream's first bytes, as many as the key has, which the host takes off:
+ *         they count in no number of bytes used or wanted
+ * stream  RELAY_STREAM_WORDS words, all of them written: RELAY_TURN_LENGTH, the
+ *         method, counter 0, 0, the subkey
+ *
+ * Refusals: 1 (lengths, method), and nothing is written. Whether the key is the
+ * sender's the first chunk tells.
+ */
+uint64_t relay_sip004_stream_begin_open(uint64_t method, const uint8_t *key, size_t key_len,
+                                        const uint8_t *salt, size_t salt_len, uint64_t *stream,
+                                        size_t stream_len);
+
+/*
+ * Seals a length with its payload.
+ *
+ * stream   one that seals; two counters further behind the call
+ * payload  0 to 16,383 bytes
+ * out      the payload with 34 bytes more
+ * answer   RELAY_AT_SEALED_LENGTH
+ *
+ * Refusals, in this order: 1 (lengths, method, a stream at another turn), 4 (a
+ * stream that has ended), 11, 2 (over 16,383 bytes), 3. A refusal writes nothing.
+ */
+uint64_t relay_sip004_stream_seal_chunk(uint64_t *stream, size_t stream_len,
+                                        const uint8_t *payload, size_t payload_len, uint8_t *out,
+                                        size_t out_len, uint64_t *answer, size_t answer_len);
+
+/*
+ * Opens the next piece of a stream: a length (18 bytes) or a payload, by turns.
+ *
+ * stream  one that opens; one counter further behind an accepted piece
+ * bytes   what has come in; bytes behind the piece are not read
+ * out     at a payload: room for it, and it is written to the front
+ * answer  RELAY_AT_USED, RELAY_AT_CHUNK_LENGTH (the length that was read, or of
+ *         the payload); with RELAY_REFUSED_MORE, RELAY_AT_WANTED
+ *
+ * Refusals, in this order: 1 (lengths, method, a stream at another turn, a payload
+ * above 16,383 bytes), 4 (a stream that has ended), 11, 10, 3, 4, 5 (a length above
+ * 16,383). They write nothing to `out`. 4 and 5 end the stream: they write
+ * RELAY_TURN_ENDED, and from then on it is 4. The others leave the stream as it was,
+ * so the same call can be made again with more bytes or more room. A length of 0 is
+ * a chunk as any other: its payload is the tag alone.
+ */
+uint64_t relay_sip004_stream_open_chunk(uint64_t *stream, size_t stream_len, const uint8_t *bytes,
+                                        size_t bytes_len, uint8_t *out, size_t out_len,
+                                        uint64_t *answer, size_t answer_len);
 
 /* ---- plans: a long report in a client's datagrams under a path limit */
 

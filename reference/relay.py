@@ -6,7 +6,7 @@ names that they have in the header, without the lengths, and stand in the same o
 
 The functions here only sort the words that a host lends into states and back, and
 answers into words: what is sealed, opened and refused, datagram.py, sessions.py,
-streams.py and recordings.py say.
+streams.py, sip004.py and recordings.py say.
 
     python3 reference/relay.py --selftest
 """
@@ -25,11 +25,11 @@ import openssl  # noqa: E402
 import plans  # noqa: E402
 import recordings  # noqa: E402
 import sessions  # noqa: E402
+import sip004  # noqa: E402
 import streams  # noqa: E402
-from datagram import KEY_LENGTHS, SETTINGS  # noqa: E402
+from datagram import SETTINGS  # noqa: E402
 from sessions import NOT_AUTHENTIC, Peer  # noqa: E402
-from streams import EMPTY, ENDED, LENGTH_NEXT, MAX_CHUNK, MORE, PAYLOAD_NEXT  # noqa: E402
-from streams import VARIABLE_NEXT  # noqa: E402
+from streams import EMPTY, ENDED, MORE, SIP022, Edition  # noqa: E402
 
 TABLE_WORDS = sessions.TABLE_WORDS
 POOL_WORDS = streams.POOL_WORDS
@@ -278,23 +278,22 @@ def stream_open_response(
     return head_left(given, answer)
 
 
-def stream_seal_chunk(stream: Words, payload: bytes, out: bytes, answer: Words) -> Left:
+def chunk_sealed(
+    edition: Edition, stream: Words, payload: bytes, out: bytes, answer: Words
+) -> Left:
     if not fits(stream, answer):
         return refused(SETTINGS)
     turn, method, counter, _, *subkey = stream
-    if turn == ENDED and method in KEY_LENGTHS:
-        return refused(NOT_AUTHENTIC if payload else EMPTY)
+    if turn == ENDED and method in edition.key_lengths:
+        return refused(NOT_AUTHENTIC if len(payload) >= edition.least else EMPTY)
     if turn != SEALING:
         return refused(SETTINGS)
     sender = streams.Sender(method, counter, tuple(subkey))
-    return sealed_left(streams.seal_chunk(sender, payload, out), answer)
+    return sealed_left(streams.seal_chunk(sender, payload, out, edition), answer)
 
 
-def opens(stream: Words) -> bool:
-    """Whether a stream of the right length is at a turn of opening, or ended."""
-    turn, length = stream[0], stream[3]
-    measured = turn in (PAYLOAD_NEXT, VARIABLE_NEXT) and length <= MAX_CHUNK
-    return measured or turn in (ENDED, LENGTH_NEXT)
+def stream_seal_chunk(stream: Words, payload: bytes, out: bytes, answer: Words) -> Left:
+    return chunk_sealed(SIP022, stream, payload, out, answer)
 
 
 def receiver_in(stream: Words) -> streams.Receiver:
@@ -313,7 +312,7 @@ def opening_refused(given: streams.Answer, stream: Words, answer: Words) -> Left
 
 
 def stream_open_variable(stream: Words, bytes: bytes, out: bytes, answer: Words) -> Left:
-    if not fits(stream, answer) or not opens(stream):
+    if not fits(stream, answer):
         return refused(SETTINGS)
     given = streams.open_variable(receiver_in(stream), bytes, out)
     if given.number:
@@ -327,10 +326,10 @@ def stream_open_variable(stream: Words, bytes: bytes, out: bytes, answer: Words)
     )
 
 
-def stream_open_chunk(stream: Words, bytes: bytes, out: bytes, answer: Words) -> Left:
-    if not fits(stream, answer) or not opens(stream):
+def chunk_opened(edition: Edition, stream: Words, bytes: bytes, out: bytes, answer: Words) -> Left:
+    if not fits(stream, answer):
         return refused(SETTINGS)
-    given = streams.step(receiver_in(stream), bytes, out)
+    given = streams.step(receiver_in(stream), bytes, out, edition)
     if given.number:
         return opening_refused(given, stream, answer)
     return accepted(
@@ -338,6 +337,59 @@ def stream_open_chunk(stream: Words, bytes: bytes, out: bytes, answer: Words) ->
         stream=receiver_words(given.stream),
         answer=front(answer, given.count, given.said.length),
     )
+
+
+def stream_open_chunk(stream: Words, bytes: bytes, out: bytes, answer: Words) -> Left:
+    return chunk_opened(SIP022, stream, bytes, out, answer)
+
+
+# The 2017 edition.
+
+
+def sip004_datagram_seal(
+    method: int, key: bytes, salt: bytes, payload: bytes, out: bytes, answer: Words
+) -> Left:
+    if len(answer) != ANSWER_WORDS:
+        return refused(SETTINGS)
+    number, sealed = sip004.seal_datagram(method, key, salt, payload, len(out))
+    return datagram_left(number, sealed, out, answer)
+
+
+def sip004_datagram_open(
+    method: int, key: bytes, datagram: bytes, out: bytes, answer: Words
+) -> Left:
+    if len(answer) != ANSWER_WORDS:
+        return refused(SETTINGS)
+    number, text = sip004.open_datagram(method, key, datagram, len(out))
+    return datagram_left(number, text, out, answer)
+
+
+def datagram_left(number: int, written: bytes, out: bytes, answer: Words) -> Left:
+    if number:
+        return refused(number)
+    return accepted(out=written + out[len(written) :], answer=front(answer, len(written)))
+
+
+def sip004_stream_begin_seal(method: int, key: bytes, salt: bytes, stream: Words) -> Left:
+    number, sender = sip004.begin_sealing(method, key, salt)
+    if number or len(stream) != STREAM_WORDS:
+        return refused(SETTINGS)
+    return accepted(stream=sender_words(sender))
+
+
+def sip004_stream_begin_open(method: int, key: bytes, salt: bytes, stream: Words) -> Left:
+    number, receiver = sip004.begin_opening(method, key, salt)
+    if number or len(stream) != STREAM_WORDS:
+        return refused(SETTINGS)
+    return accepted(stream=receiver_words(receiver))
+
+
+def sip004_stream_seal_chunk(stream: Words, payload: bytes, out: bytes, answer: Words) -> Left:
+    return chunk_sealed(sip004.SIP004, stream, payload, out, answer)
+
+
+def sip004_stream_open_chunk(stream: Words, bytes: bytes, out: bytes, answer: Words) -> Left:
+    return chunk_opened(sip004.SIP004, stream, bytes, out, answer)
 
 
 # Plans.
@@ -408,6 +460,12 @@ NUMBERS = {
     stream_open_response: {0, 1, 4, 6, 7, 10, 13, 14},
     stream_seal_chunk: {0, 1, 2, 3, 4, 11, 14},
     stream_open_chunk: {0, 1, 3, 4, 10, 11, 14},
+    sip004_datagram_seal: {0, 1, 2, 3},
+    sip004_datagram_open: {0, 1, 2, 3, 4},
+    sip004_stream_begin_seal: {0, 1},
+    sip004_stream_begin_open: {0, 1},
+    sip004_stream_seal_chunk: {0, 1, 2, 3, 4, 11},
+    sip004_stream_open_chunk: {0, 1, 3, 4, 5, 10, 11},
     plan_make: {0, 1, 3, 12},
     plan_check: {0, 1, 12},
     recording_compare: {0, 1, 2, 3, 5},
@@ -534,6 +592,44 @@ def response_examples():
     yield "answer's length", stream_seal_response(*said, ANSWER[1:]) == refused(1)
 
 
+def sip004_examples():
+    key, salt = bytes(range(24)), bytes(range(100, 124))
+    wrote = sip004_datagram_seal(12, key, salt, b"abc", FILLED, ANSWER).wrote
+    sealed = wrote["out"][:43]
+    yield "a datagram", wrote["answer"] == (43, *ANSWER[1:]) and wrote["out"][43:] == FILLED[43:]
+    opened = sip004_datagram_open(12, key, sealed, FILLED, ANSWER)
+    yield "opened", opened == accepted(out=b"abc" + FILLED[3:], answer=(3, *ANSWER[1:]))
+    yield "no room", sip004_datagram_open(12, key, sealed, b"ab", ANSWER) == refused(3)
+    yield "forged", sip004_datagram_open(12, key, sealed[:-1] + b"x", FILLED, ANSWER) == refused(4)
+    yield "answer's length", sip004_datagram_open(12, key, b"", b"", ANSWER[1:]) == refused(1)
+    sender = sip004_stream_begin_seal(12, key, salt, STREAM).wrote["stream"]
+    receiver = sip004_stream_begin_open(12, key, salt, STREAM).wrote["stream"]
+    yield "sender", sender[:4] == (3, 12, 0, 0) and sender[7] == 0
+    yield "receiver", receiver == (1, *sender[1:])
+    yield "stream's length", sip004_stream_begin_open(12, key, salt, STREAM[1:]) == refused(1)
+    for payload in (b"", b"abc"):
+        wrote = sip004_stream_seal_chunk(sender, payload, FILLED, ANSWER).wrote
+        chunk, length = wrote["out"][: wrote["answer"][0]], len(payload)
+        yield "chunk", len(chunk) == length + 34 and wrote["stream"] == (3, 12, 2, *sender[3:])
+        wrote = sip004_stream_open_chunk(receiver, chunk, b"", ANSWER).wrote
+        yield "length", wrote["answer"] == (18, length, *ANSWER[2:])
+        later = wrote["stream"]
+        yield "a payload is next", later == (2, 12, 1, length, *sender[4:])
+        wrote = sip004_stream_open_chunk(later, chunk[18:], FILLED, ANSWER).wrote
+        yield "payload", wrote["out"] == payload + FILLED[length:]
+        yield "used", wrote["answer"] == (16 + length, length, *ANSWER[2:])
+        yield "a length is next", wrote["stream"] == (1, 12, 2, 0, *sender[4:])
+    long = streams.sealed_piece(sip004.subkey(key, salt), 0, b"\x40\0")
+    given = sip004_stream_open_chunk(receiver, long, FILLED, ANSWER)
+    yield "a long length", given == Left(5, {"out": FILLED, "stream": (0, *receiver[1:])})
+    ended = (0, *sender[1:])
+    yield "sealing, ended", sip004_stream_seal_chunk(ended, b"", FILLED, ANSWER) == refused(4)
+    for method in (1, 2, 10, 14, 267):
+        other = (3, method, *sender[2:])
+        yield f"by {method}", sip004_stream_seal_chunk(other, b"", FILLED, ANSWER) == refused(1)
+    yield "of SIP022", stream_seal_chunk(sender, b"abc", FILLED, ANSWER) == refused(1)
+
+
 def plan_examples():
     said = 1, datagram.V4, 1_500, 2_901
     made = plan_make(*said, (9,) * 7, ANSWER)
@@ -566,7 +662,7 @@ def recording_examples():
 def selftest() -> list[str]:
     """The names of the examples that this code fails."""
     checks = itertools.chain(datagram_examples(), stream_examples(), response_examples())
-    checks = itertools.chain(checks, plan_examples(), recording_examples())
+    checks = itertools.chain(checks, sip004_examples(), plan_examples(), recording_examples())
     return plans.selftest() + [name for name, holds in checks if not holds]
 
 

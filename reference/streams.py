@@ -2,6 +2,7 @@
 
 An independent reference for the proved code: the heads of both directions and the
 chunks behind them, sealed and opened, and the pool as its 1,537 words. Plain and slow.
+Chunks are said over what an edition sets for them, for sip004.py too.
 
 Each call checks in the order of its refusals; the first that is not met is raised
 as Refused and answered.
@@ -39,6 +40,11 @@ SALTS = 256
 RECORD_WORDS = 6
 POOL_WORDS = 1 + SALTS * RECORD_WORDS
 KEPT = 60  # seconds
+
+# What an edition sets for the chunks of a stream: the key lengths by method, and how many bytes a
+# payload has at least and at most.
+Edition = collections.namedtuple("Edition", "key_lengths least greatest")
+SIP022 = Edition(KEY_LENGTHS, 1, MAX_CHUNK)
 
 # What a receiving stream opens next.
 ENDED, LENGTH_NEXT, PAYLOAD_NEXT, _, VARIABLE_NEXT = range(5)
@@ -109,13 +115,13 @@ def opened_piece(secret, counter, sealed):
 
 
 def words_from(data):
-    """A subkey or a salt as four words, zeros behind one of 16 bytes."""
+    """A subkey or a salt as four words, zeros behind one of less than 32 bytes."""
     data = data.ljust(32, b"\0")
     return tuple(int.from_bytes(data[at : at + 8], "big") for at in range(0, 32, 8))
 
 
-def secret_of(stream):
-    return b"".join(map(u64, stream.subkey))[: KEY_LENGTHS[stream.method]]
+def secret_of(stream, edition=SIP022):
+    return b"".join(map(u64, stream.subkey))[: edition.key_lengths[stream.method]]
 
 
 # Section 3.1.3: the headers.
@@ -217,9 +223,9 @@ def require_settings(method, key, *salts):
         require(SALT_LENGTHS[method] == len(salt), SETTINGS)
 
 
-def require_size(chunk, before, output):
+def require_size(chunk, before, output, greatest=MAX_CHUNK):
     """The length of what is sealed: a chunk of this length and tag, and the bytes before it."""
-    require(chunk <= MAX_CHUNK, LENGTH)
+    require(chunk <= greatest, LENGTH)
     length = before + chunk + TAG_LENGTH
     require(length <= len(output), ROOM)
     return length
@@ -260,15 +266,15 @@ def head(key, salt, *texts):
     return salt + b"".join(sealed_piece(secret, *each) for each in enumerate(texts))
 
 
-def seal_chunk(stream, payload, output):
+def seal_chunk(stream, payload, output, edition=SIP022):
     try:
-        require(stream.method in KEY_LENGTHS, SETTINGS)
-        require(payload, EMPTY)
+        require(stream.method in edition.key_lengths, SETTINGS)
+        require(len(payload) >= edition.least, EMPTY)
         require(stream.counter + 2 <= LAST_COUNTER, COUNTER)
-        require_size(len(payload), LENGTH_CHUNK, output)
+        require_size(len(payload), LENGTH_CHUNK, output, edition.greatest)
     except Refused as refusal:
         return refusal.answer(stream, output)
-    secret, counter = secret_of(stream), stream.counter
+    secret, counter = secret_of(stream, edition), stream.counter
     data = sealed_piece(secret, counter, u16(len(payload)))
     data += sealed_piece(secret, counter + 1, payload)
     return written(data, stream._replace(counter=counter + 2), output)
@@ -314,6 +320,7 @@ def accept_variable(stream, data, output):
     require(stream.method in KEY_LENGTHS, SETTINGS)
     require(stream.turn != ENDED, NOT_AUTHENTIC)
     require(stream.turn == VARIABLE_NEXT and stream.counter == 1, SETTINGS)
+    require(stream.length <= MAX_CHUNK, SETTINGS)
     length, end = stream.length, stream.length + TAG_LENGTH
     require_bytes(data, end)
     require(length <= len(output), ROOM)
@@ -348,18 +355,19 @@ def open_response(method, key, clock, request_salt, data, output=b""):
     return Answer(0, end, Response(time, length), stream, output)
 
 
-def step(stream, data, output):
-    """Opens the next chunk. Refusals 4 and 14 end the stream."""
+def step(stream, data, output, edition=SIP022):
+    """Opens the next chunk. Refusals 4, 5 and 14 end the stream."""
     try:
-        return accept_chunk(stream, data, output)
+        return accept_chunk(stream, data, output, edition)
     except Refused as refusal:
         return refusal.answer(left_by(refusal, stream), output)
 
 
-def accept_chunk(stream, data, output):
-    require(stream.method in KEY_LENGTHS, SETTINGS)
-    require(stream.turn != VARIABLE_NEXT, SETTINGS)
-    require(stream.turn != PAYLOAD_NEXT or stream.length, SETTINGS)
+def accept_chunk(stream, data, output, edition):
+    lengths = range(edition.least, edition.greatest + 1)
+    require(stream.method in edition.key_lengths, SETTINGS)
+    require(stream.turn in (ENDED, LENGTH_NEXT, PAYLOAD_NEXT), SETTINGS)
+    require(stream.turn != PAYLOAD_NEXT or stream.length in lengths, SETTINGS)
     require(stream.turn != ENDED, NOT_AUTHENTIC)
     require(stream.counter < LAST_COUNTER, COUNTER)
     text_length = stream.length if stream.turn == PAYLOAD_NEXT else 2
@@ -367,13 +375,14 @@ def accept_chunk(stream, data, output):
     require_bytes(data, end)
     if stream.turn == PAYLOAD_NEXT:
         require(text_length <= len(output), ROOM)
-    text = opened_piece(secret_of(stream), stream.counter, data[:end])
+    text = opened_piece(secret_of(stream, edition), stream.counter, data[:end])
     later = stream._replace(counter=stream.counter + 1)
     if stream.turn == PAYLOAD_NEXT:
         later = later._replace(turn=LENGTH_NEXT, length=0)
         return Answer(0, end, Chunk(text_length), later, text + output[text_length:])
     length = int.from_bytes(text, "big")
-    require(length, EMPTY)
+    require(length >= edition.least, EMPTY)
+    require(length <= edition.greatest, MALFORMED)
     later = later._replace(turn=PAYLOAD_NEXT, length=length)
     return Answer(0, end, Chunk(length), later, output)
 

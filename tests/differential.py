@@ -6,9 +6,9 @@
 
 Every call is made of target/staticlib/librelay.a and of reference/relay.py. Compared are the
 number returned and all that was lent, each buffer whole: what is to be written, what is to be
-left alone, and the memory on both sides of it. First come the calls of the program vectors,
-then sequences by dice; then the same of plans. At the end every number that a function may return
-must have been seen.
+left alone, and the memory on both sides of it. First come the calls of the programs of vectors,
+then sequences by dice; then the same of plans and of the 2017 edition. At the end every number that
+a function may return must have been seen.
 """
 
 from __future__ import annotations
@@ -32,12 +32,14 @@ import openssl  # noqa: E402
 import planning  # noqa: E402
 import relay  # noqa: E402
 import recorded  # noqa: E402
+import sip004_scenarios  # noqa: E402
 from oddities import odd  # noqa: E402
 from recording_scenarios import Recordings  # noqa: E402
 from scenarios import SCENARIOS  # noqa: E402
 
 CALLS = 60_000
 PLAN_CALLS = 10_000  # by dice, beside these
+SIP004_CALLS = 20_000
 SEQUENCE = 150  # steps of a scenario
 ODD_PERCENT = 6  # of the calls by dice have one thing odd
 FREESTANDING = {"memcpy", "memmove", "memset", "memcmp", "bcmp"}  # what a compiler may put in
@@ -111,7 +113,7 @@ class Comparison:
         for name, function in relay.FUNCTIONS.items():
             seen = self.seen[name]
             each = ", ".join(f"{number}: {seen[number]}" for number in sorted(seen))
-            print(f"{name:28} {seen.total():6} calls   {each}")
+            print(f"{name:30} {seen.total():6} calls   {each}")
             missing = relay.NUMBERS[function] - set(seen)
             if missing:
                 print(f"{name}: never returned {', '.join(map(str, sorted(missing)))}")
@@ -174,6 +176,9 @@ def compare(seed: str, count: int) -> bool:
     for name, values in planning.calls():
         calls.run(name, **values)
     by_dice(calls, seed, calls.calls + PLAN_CALLS, (planning.Planning,))
+    for name, values in sip004_scenarios.calls():
+        calls.run(name, **values)
+    by_dice(calls, seed, calls.calls + SIP004_CALLS, (sip004_scenarios.Sip004,))
     whole = calls.report()
     print(f"seed {seed}: {calls.calls} calls, 0 differ")
     return whole

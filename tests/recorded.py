@@ -1,5 +1,5 @@
-"""The calls about datagrams, session tables and streams of the proved program vectors, as calls of
-the library: every edge that they hold, through the exported functions."""
+"""The calls about datagrams, session tables and streams, of both editions, of the proved programs of
+vectors, as calls of the library: every edge that they hold, through the exported functions."""
 
 from __future__ import annotations
 
@@ -12,6 +12,8 @@ from library import ROOT, Value  # noqa: E402
 sys.path[:0] = [str(ROOT / "reference"), str(ROOT / "tools")]
 import datagram_vectors  # noqa: E402
 import session_cases  # noqa: E402
+import sip004_calls  # noqa: E402
+import sip004_cases  # noqa: E402
 import stream_calls  # noqa: E402
 import stream_cases  # noqa: E402
 from relay import ANSWER_WORDS, CLIENT_SIDE, SERVER_SIDE, SESSION_WORDS  # noqa: E402
@@ -139,7 +141,43 @@ def streams() -> Iterator[Call]:
                 }
 
 
+# The 2017 edition.
+
+SIP004_NAMES = {
+    sip004_calls.SEAL_DATAGRAM: "relay_sip004_datagram_seal",
+    sip004_calls.OPEN_DATAGRAM: "relay_sip004_datagram_open",
+    sip004_calls.BEGIN_SEALING: "relay_sip004_stream_begin_seal",
+    sip004_calls.BEGIN_OPENING: "relay_sip004_stream_begin_open",
+    sip004_calls.SEAL_CHUNK: "relay_sip004_stream_seal_chunk",
+    sip004_calls.OPEN_CHUNK: "relay_sip004_stream_open_chunk",
+}
+
+
+def sip004(record) -> Call:
+    call, start = record.call, stream_calls.slot_start(record.call.slot)
+    data = "payload" if call.kind in sip004_calls.SEALING else "bytes"
+    if call.kind == sip004_calls.OPEN_DATAGRAM:
+        data = "datagram"
+    return SIP004_NAMES[call.kind], {
+        "method": call.method,
+        "key": call.key,
+        "salt": call.salt,
+        data: call.data,
+        "out": bytes([FILL]) * call.room,
+        "stream": record.before[start : start + STREAM_WORDS],
+        "answer": ANSWER,
+    }
+
+
+def sip004_groups() -> Iterator[Call]:
+    for _, calls in sip004_cases.make_groups():
+        for record in calls.records:
+            if isinstance(record, stream_calls.Run):
+                yield sip004(record)
+
+
 def calls() -> Iterator[Call]:
     yield from datagrams()
     yield from tables()
     yield from streams()
+    yield from sip004_groups()

@@ -243,7 +243,30 @@ class Line:
         self.receiver: relay.Words | None = None  # its head is not opened yet
 
 
-class Streams(Scenario):
+class Lines(Scenario):
+    """What lines are lent to their calls as."""
+
+    def bytes_of(self, line: Line) -> bytes:
+        """What has come in of a line: all, or only a part; damaged at times."""
+        data = line.data
+        if self.often(15):
+            data = data[: self.dice.randrange(len(data) + 1)]
+        if self.often(15):
+            data = data[: self.dice.choice((17, 18, 19, 42, 43, 58, 59, 60, 90, 91, 92))]
+        if self.often(10):
+            data += pattern(self.dice, self.dice.choice(SIZES))
+        return flipped(self.dice, data) if self.often(5) else data
+
+    def disturbed(self, stream: relay.Words) -> relay.Words:
+        """At times with other words: a counter near its end, another turn, anything."""
+        if self.often(2):
+            return (*stream[:2], LAST - self.dice.randrange(4), *stream[3:])
+        if self.often(3):
+            return (self.dice.choice((0, 1, 2, 3, 4, 5, LAST)), *stream[1:])
+        return few_changed(self.dice, stream) if self.often(2) else stream
+
+
+class Streams(Lines):
     """Requests with their responses, chunks in both directions, and a server's pool."""
 
     def __init__(self, run: Run, dice: random.Random) -> None:
@@ -322,17 +345,6 @@ class Streams(Scenario):
         line = Line(salt, bound, sender, streams.head(self.key, salt, fixed, text))
         (self.requests, self.responses)[kind].append(line)
 
-    def bytes_of(self, line: Line) -> bytes:
-        """What has come in of a line: all, or only a part; damaged at times."""
-        data = line.data
-        if self.often(15):
-            data = data[: self.dice.randrange(len(data) + 1)]
-        if self.often(15):
-            data = data[: self.dice.choice((17, 18, 19, 42, 43, 58, 59, 60, 90, 91, 92))]
-        if self.often(10):
-            data += pattern(self.dice, self.dice.choice(SIZES))
-        return flipped(self.dice, data) if self.often(5) else data
-
     def open_request(self, line: Line) -> None:
         values = {"clock": self.clock, "bytes": self.bytes_of(line), "pool": self.pool}
         lent = {"stream": self.blank, "answer": self.answer}
@@ -374,14 +386,6 @@ class Streams(Scenario):
             line.data = line.data[left["answer"][6 if variable else 0] :]
         if len(left["stream"]) == relay.STREAM_WORDS and (number == 0 or self.often(20)):
             line.receiver = left["stream"]
-
-    def disturbed(self, stream: relay.Words) -> relay.Words:
-        """At times with other words: a counter near its end, another turn, anything."""
-        if self.often(2):
-            return (*stream[:2], LAST - self.dice.randrange(4), *stream[3:])
-        if self.often(3):
-            return (self.dice.choice((0, 1, 2, 3, 4, 5, LAST)), *stream[1:])
-        return few_changed(self.dice, stream) if self.often(2) else stream
 
     def at_counter(self) -> None:
         """A line whose two ends are near the last counter, or far up."""

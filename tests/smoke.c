@@ -372,6 +372,140 @@ static void response(void)
     printf("response: head and 1 chunk, %zu bytes; refused for another request\n", len);
 }
 
+/* ---- the 2017 edition */
+
+struct sip004_method {
+    uint64_t method;
+    size_t len; /* of keys and salts */
+};
+
+static const uint8_t LONG_KEY[32] = "a key that is as long as needed";
+static const uint8_t LONG_SALT[32] = "and so is this salt of a sender";
+
+static size_t sip004_seal(struct sip004_method m, const char *payload, uint8_t *out, size_t room)
+{
+    uint64_t answer[RELAY_ANSWER_WORDS];
+    check_number(relay_sip004_datagram_seal(m.method, LONG_KEY, m.len, LONG_SALT, m.len,
+                                            text(payload), strlen(payload), out, room, answer,
+                                            RELAY_ANSWER_WORDS),
+                 RELAY_OK, "sealing a datagram of the 2017 edition");
+    return (size_t)answer[RELAY_AT_SEALED_LENGTH];
+}
+
+static uint64_t sip004_open(struct sip004_method m, const uint8_t *datagram, size_t len,
+                            uint8_t *out, size_t room, uint64_t *answer)
+{
+    return relay_sip004_datagram_open(m.method, LONG_KEY, m.len, datagram, len, out, room, answer,
+                                      RELAY_ANSWER_WORDS);
+}
+
+static void sip004_datagram(struct sip004_method m)
+{
+    uint64_t answer[RELAY_ANSWER_WORDS];
+    uint8_t datagram[100], out[100];
+    size_t len = sip004_seal(m, "ping", datagram, sizeof datagram);
+    check(len == m.len + 4 + 16 && memcmp(datagram, LONG_SALT, m.len) == 0, "the salt is in front");
+    memset(out, 0xa5, sizeof out);
+    check_number(sip004_open(m, datagram, len, out, 3, answer), RELAY_REFUSED_ROOM, "3 bytes");
+    check_number(sip004_open(m, datagram, m.len + 15, out, sizeof out, answer),
+                 RELAY_REFUSED_LENGTH, "less than a salt and a tag");
+    datagram[len - 1] ^= 1;
+    check_number(sip004_open(m, datagram, len, out, sizeof out, answer),
+                 RELAY_REFUSED_NOT_AUTHENTIC, "a forged one");
+    check(all(out, sizeof out, 0xa5), "refusals leave the buffer as it was");
+    datagram[len - 1] ^= 1;
+    check_number(sip004_open(m, datagram, len, out, 4, answer), RELAY_OK, "opening it");
+    check(answer[RELAY_AT_PLAINTEXT_LENGTH] == 4 && memcmp(out, "ping", 4) == 0, "its payload");
+    m.method = METHOD;
+    check_number(sip004_open(m, datagram, len, out, 4, answer), RELAY_REFUSED_SETTINGS,
+                 "a method of the other edition");
+}
+
+static size_t sip004_seal_chunk(uint64_t *stream, const char *payload, uint8_t *out, size_t room)
+{
+    uint64_t answer[RELAY_ANSWER_WORDS];
+    check_number(relay_sip004_stream_seal_chunk(stream, RELAY_STREAM_WORDS, text(payload),
+                                                strlen(payload), out, room, answer,
+                                                RELAY_ANSWER_WORDS),
+                 RELAY_OK, "sealing a chunk of the 2017 edition");
+    return (size_t)answer[RELAY_AT_SEALED_LENGTH];
+}
+
+static uint64_t sip004_step(uint64_t *stream, const uint8_t *bytes, size_t len, uint8_t *out,
+                            size_t room, uint64_t *answer)
+{
+    return relay_sip004_stream_open_chunk(stream, RELAY_STREAM_WORDS, bytes, len, out, room, answer,
+                                          RELAY_ANSWER_WORDS);
+}
+
+static size_t sip004_open_chunk(uint64_t *stream, const uint8_t *bytes, size_t len,
+                                const char *payload)
+{
+    uint64_t answer[RELAY_ANSWER_WORDS];
+    uint8_t out[100];
+    check_number(sip004_step(stream, bytes, 17, NULL, 0, answer), RELAY_REFUSED_MORE, "17 bytes");
+    check(answer[RELAY_AT_WANTED] == 18, "a length is wanted");
+    check_number(sip004_step(stream, bytes, len, NULL, 0, answer), RELAY_OK, "opening a length");
+    size_t used = (size_t)answer[RELAY_AT_USED];
+    check(answer[RELAY_AT_CHUNK_LENGTH] == strlen(payload), "what it says");
+    check_number(sip004_step(stream, bytes + used, len - used, out, strlen(payload), answer),
+                 RELAY_OK, "opening a payload");
+    check(memcmp(out, payload, strlen(payload)) == 0, "the payload");
+    return used + (size_t)answer[RELAY_AT_USED];
+}
+
+static void sip004_begin(struct sip004_method m, uint64_t *sender, uint64_t *receiver)
+{
+    check_number(relay_sip004_stream_begin_seal(m.method, LONG_KEY, m.len, LONG_SALT, m.len, sender,
+                                                RELAY_STREAM_WORDS),
+                 RELAY_OK, "beginning to seal");
+    check_number(relay_sip004_stream_begin_open(m.method, LONG_KEY, m.len, LONG_SALT, m.len,
+                                                receiver, RELAY_STREAM_WORDS),
+                 RELAY_OK, "beginning to open");
+    check(sender[RELAY_STREAM_TURN] == RELAY_TURN_SEALING &&
+              receiver[RELAY_STREAM_TURN] == RELAY_TURN_LENGTH,
+          "their turns");
+    check(sender[RELAY_STREAM_COUNTER] == 0 && receiver[RELAY_STREAM_COUNTER] == 0, "counters");
+    check(all((const uint8_t *)(sender + RELAY_STREAM_SUBKEY) + m.len, 32 - m.len, 0),
+          "zeros behind a shorter subkey");
+}
+
+/* Two chunks, of which the second is empty, and one that is no chunk. */
+static void sip004_stream(struct sip004_method m)
+{
+    static const uint8_t long_payload[RELAY_SIP004_MAX_CHUNK + 1];
+    uint64_t sender[RELAY_STREAM_WORDS], receiver[RELAY_STREAM_WORDS], answer[RELAY_ANSWER_WORDS];
+    uint8_t bytes[200];
+    sip004_begin(m, sender, receiver);
+    size_t len = sip004_seal_chunk(sender, "first", bytes, sizeof bytes);
+    len += sip004_seal_chunk(sender, "", bytes + len, sizeof bytes - len);
+    check_number(relay_sip004_stream_seal_chunk(sender, RELAY_STREAM_WORDS, long_payload,
+                                                sizeof long_payload, NULL, 0, answer,
+                                                RELAY_ANSWER_WORDS),
+                 RELAY_REFUSED_LENGTH, "16384 bytes");
+    size_t at = sip004_open_chunk(receiver, bytes, len, "first");
+    at += sip004_open_chunk(receiver, bytes + at, len - at, "");
+    check(at == len && receiver[RELAY_STREAM_COUNTER] == 4, "all bytes are used");
+    for (int turn = 0; turn < 2; turn++)
+        check_number(sip004_step(receiver, bytes, len, NULL, 0, answer),
+                     RELAY_REFUSED_NOT_AUTHENTIC, "a chunk that is none");
+    check_number(relay_stream_seal_chunk(sender, RELAY_STREAM_WORDS, text("x"), 1, bytes,
+                                         sizeof bytes, answer, RELAY_ANSWER_WORDS),
+                 RELAY_REFUSED_SETTINGS, "a stream of this edition in the other's call");
+}
+
+static void sip004(void)
+{
+    static const struct sip004_method methods[] = {{RELAY_SIP004_AES_128_GCM, 16},
+                                                   {RELAY_SIP004_AES_192_GCM, 24},
+                                                   {RELAY_SIP004_AES_256_GCM, 32}};
+    for (size_t i = 0; i < sizeof methods / sizeof methods[0]; i++) {
+        sip004_datagram(methods[i]);
+        sip004_stream(methods[i]);
+    }
+    printf("2017 edition: datagrams and streams of 3 methods opened; forged ones refused\n");
+}
+
 /* ---- a plan */
 
 static void plans(void)
@@ -488,6 +622,7 @@ int main(void)
     server_to_client();
     request();
     response();
+    sip004();
     plans();
     compared();
     mended();

@@ -1,7 +1,7 @@
 /*
  * How much stack each function of librelay.a takes. It is called on a stack of its own that was
  * painted before; the deepest byte that is no longer paint tells how far down the call went,
- * arguments and return address included. Both methods are tried, with texts on either side of
+ * arguments and return address included. All methods are tried, with texts on either side of
  * every length at which the library works differently, accepted and refused.
  *
  *     cc -O2 -Iinclude tests/stack.c target/staticlib/librelay.a -o stack && ./stack
@@ -129,6 +129,43 @@ static void stream_open_chunk(void)
                                      out, sizeof out, answer, RELAY_ANSWER_WORDS);
 }
 
+static void sip004_datagram_seal(void)
+{
+    number = relay_sip004_datagram_seal(method, KEY, key_len, SALT, key_len, payload, payload_len,
+                                        sealed, sizeof sealed, answer, RELAY_ANSWER_WORDS);
+}
+
+static void sip004_datagram_open(void)
+{
+    number = relay_sip004_datagram_open(method, KEY, key_len, sealed, sealed_len, out, sizeof out,
+                                        answer, RELAY_ANSWER_WORDS);
+}
+
+static void sip004_stream_begin_seal(void)
+{
+    number = relay_sip004_stream_begin_seal(method, KEY, key_len, SALT, key_len, sender,
+                                            RELAY_STREAM_WORDS);
+}
+
+static void sip004_stream_begin_open(void)
+{
+    number = relay_sip004_stream_begin_open(method, KEY, key_len, SALT, key_len, receiver,
+                                            RELAY_STREAM_WORDS);
+}
+
+static void sip004_stream_seal_chunk(void)
+{
+    number = relay_sip004_stream_seal_chunk(sender, RELAY_STREAM_WORDS, payload, payload_len,
+                                            sealed, sizeof sealed, answer, RELAY_ANSWER_WORDS);
+}
+
+static void sip004_stream_open_chunk(void)
+{
+    number = relay_sip004_stream_open_chunk(receiver, RELAY_STREAM_WORDS, sealed + used,
+                                            sealed_len - used, out, sizeof out, answer,
+                                            RELAY_ANSWER_WORDS);
+}
+
 static void plan_make(void)
 {
     number = relay_plan_make(method, ADDRESS, sizeof ADDRESS, 1500, payload_len, plan, PLAN_WORDS,
@@ -189,6 +226,12 @@ static struct function {
     {"relay_stream_open_response", stream_open_response, 0},
     {"relay_stream_seal_chunk", stream_seal_chunk, 0},
     {"relay_stream_open_chunk", stream_open_chunk, 0},
+    {"relay_sip004_datagram_seal", sip004_datagram_seal, 0},
+    {"relay_sip004_datagram_open", sip004_datagram_open, 0},
+    {"relay_sip004_stream_begin_seal", sip004_stream_begin_seal, 0},
+    {"relay_sip004_stream_begin_open", sip004_stream_begin_open, 0},
+    {"relay_sip004_stream_seal_chunk", sip004_stream_seal_chunk, 0},
+    {"relay_sip004_stream_open_chunk", sip004_stream_open_chunk, 0},
     {"relay_plan_make", plan_make, 0},
     {"relay_plan_check", plan_check, 0},
     {"relay_recording_compare", recording_compare, 0},
@@ -255,10 +298,15 @@ static void open_datagram(void (*call)(void))
     measure(call, RELAY_REFUSED_REPLAY);
 }
 
+static void open_piece(void (*call)(void), uint64_t expected)
+{
+    measure(call, expected);
+    used += (size_t)answer[RELAY_AT_USED];
+}
+
 static void open_chunk(uint64_t expected)
 {
-    measure(stream_open_chunk, expected);
-    used += (size_t)answer[RELAY_AT_USED];
+    open_piece(stream_open_chunk, expected);
 }
 
 static void try_datagrams(void)
@@ -289,6 +337,27 @@ static void try_streams(void)
     open_chunk(RELAY_REFUSED_MORE);
 }
 
+static void try_sip004_datagrams(void)
+{
+    seal(sip004_datagram_seal);
+    sealed[sealed_len - 1] ^= 1;
+    measure(sip004_datagram_open, RELAY_REFUSED_NOT_AUTHENTIC);
+    sealed[sealed_len - 1] ^= 1;
+    measure(sip004_datagram_open, RELAY_OK);
+}
+
+static void try_sip004_streams(void)
+{
+    measure(sip004_stream_begin_seal, RELAY_OK);
+    measure(sip004_stream_begin_open, RELAY_OK);
+    seal(sip004_stream_seal_chunk);
+    open_piece(sip004_stream_open_chunk, RELAY_OK);
+    open_piece(sip004_stream_open_chunk, RELAY_OK);
+    measure(sip004_stream_open_chunk, RELAY_REFUSED_MORE);
+    used = 0;
+    measure(sip004_stream_open_chunk, RELAY_REFUSED_NOT_AUTHENTIC);
+}
+
 static void try_plans_and_recordings(void)
 {
     measure(plan_make, RELAY_OK);
@@ -308,7 +377,7 @@ static void report(void)
 {
     const struct function *deepest = functions;
     for (int i = 0; i < FUNCTIONS; i++) {
-        printf("%-28s %6zu bytes\n", functions[i].name, functions[i].deepest);
+        printf("%-30s %6zu bytes\n", functions[i].name, functions[i].deepest);
         if (functions[i].deepest > deepest->deepest)
             deepest = &functions[i];
     }
@@ -318,19 +387,42 @@ static void report(void)
            deepest->name, LIMIT);
 }
 
+/* Around blocks of 16 bytes, 256 bytes and 256 blocks, and the longest datagram. */
+static const size_t lengths[] = {0, 1, 15, 16, 17, 200, 256, 300, 1400, 4096, 4200, 65449};
+
+enum { LENGTHS = sizeof lengths / sizeof lengths[0] };
+
+static void try_sip022(void)
+{
+    for (size_t i = 0; i < LENGTHS; i++) {
+        payload_len = lengths[i];
+        try_datagrams();
+        if (payload_len > 0)
+            try_streams();
+        try_plans_and_recordings();
+    }
+}
+
+static void try_sip004(void)
+{
+    for (size_t i = 0; i < LENGTHS; i++) {
+        payload_len = lengths[i];
+        try_sip004_datagrams();
+        if (payload_len > RELAY_SIP004_MAX_CHUNK)
+            payload_len = RELAY_SIP004_MAX_CHUNK;
+        try_sip004_streams();
+    }
+}
+
 int main(void)
 {
-    /* Around blocks of 16 bytes, 256 bytes and 256 blocks, and the longest datagram. */
-    static const size_t lengths[] = {0, 1, 15, 16, 17, 200, 256, 300, 1400, 4096, 4200, 65449};
     for (method = RELAY_AES_128_GCM; method <= RELAY_AES_256_GCM; method++) {
         key_len = method == RELAY_AES_128_GCM ? 16 : 32;
-        for (size_t i = 0; i < sizeof lengths / sizeof lengths[0]; i++) {
-            payload_len = lengths[i];
-            try_datagrams();
-            if (payload_len > 0)
-                try_streams();
-            try_plans_and_recordings();
-        }
+        try_sip022();
+    }
+    for (method = RELAY_SIP004_AES_128_GCM; method <= RELAY_SIP004_AES_256_GCM; method++) {
+        key_len = 16 + 8 * (size_t)(method - RELAY_SIP004_AES_128_GCM);
+        try_sip004();
     }
     report();
     return 0;

@@ -3,6 +3,7 @@
 Every vector is first checked with reference/gcm.py.
 """
 
+import itertools
 import sys
 
 sys.dont_write_bytecode = True  # no __pycache__ in the tree
@@ -10,7 +11,7 @@ import vectors  # noqa: E402
 import gcm  # noqa: E402
 from vectors import Case  # noqa: E402
 
-CAVP = "aes-gcm-cavp.txt"
+CAVP = ("aes-gcm-cavp.txt", "aes-192-gcm-cavp.txt")
 
 SEALED, OPENED, REFUSED = range(3)
 
@@ -27,12 +28,12 @@ def cavp_bytes(field):
 
 
 def cavp_groups():
-    """The CAVP file's cases by key length and kind, in the order of their first lines."""
+    """The CAVP files' cases by key length and kind, in the order of their first lines."""
     groups = {}
-    for bits, direction, *fields in vectors.lines(CAVP):
+    for bits, direction, *fields in itertools.chain(*map(vectors.lines, CAVP)):
         key, nonce, text, ciphertext, tag = map(cavp_bytes, fields)
         if len(key) * 8 != int(bits):
-            raise ValueError(f"{CAVP}: {bits} {direction}: a key of another length")
+            raise ValueError(f"CAVP: {bits} {direction}: a key of another length")
         name, kind = f"{bits} {direction}", {"enc": SEALED, "dec": OPENED}[direction]
         if fields[2] == "FAIL":
             name, kind = f"{name} FAIL", REFUSED

@@ -16,7 +16,9 @@ import aes_vectors  # noqa: E402
 import blake3_vectors  # noqa: E402
 import datagram_vectors  # noqa: E402
 import gcm_vectors  # noqa: E402
+import hash_vectors  # noqa: E402
 import session_vectors  # noqa: E402
+import sip004_vectors  # noqa: E402
 import stream_vectors  # noqa: E402
 
 # In the program's order.
@@ -24,9 +26,11 @@ MODULES = (
     aes_vectors,
     blake3_vectors,
     gcm_vectors,
+    hash_vectors,
     datagram_vectors,
     session_vectors,
     stream_vectors,
+    sip004_vectors,
 )
 
 

@@ -45,11 +45,31 @@ static const struct {
     [PLAN_MAKE] = {"relay_plan_make", B(ADDRESS) | B(PLAN) | B(ANSWER),
                    SETTINGS_ONLY | N(3) | N(12)},
     [PLAN_CHECK] = {"relay_plan_check", B(ADDRESS) | B(PLAN) | B(ANSWER), SETTINGS_ONLY | N(12)},
+    [SIP004_DATAGRAM_SEAL] = {"relay_sip004_datagram_seal",
+                              B(KEY) | B(SALT) | B(PAYLOAD) | B(OUT) | B(ANSWER),
+                              SETTINGS_ONLY | N(2) | N(3)},
+    [SIP004_DATAGRAM_OPEN] = {"relay_sip004_datagram_open", B(KEY) | B(INPUT) | B(OUT) | B(ANSWER),
+                              SETTINGS_ONLY | N(2) | N(3) | N(4)},
+    [SIP004_BEGIN_SEAL] = {"relay_sip004_stream_begin_seal", B(KEY) | B(SALT) | B(STREAM),
+                           SETTINGS_ONLY},
+    [SIP004_BEGIN_OPEN] = {"relay_sip004_stream_begin_open", B(KEY) | B(SALT) | B(STREAM),
+                           SETTINGS_ONLY},
+    [SIP004_SEAL_CHUNK] = {"relay_sip004_stream_seal_chunk",
+                           B(STREAM) | B(PAYLOAD) | B(OUT) | B(ANSWER),
+                           SETTINGS_ONLY | N(2) | N(3) | N(4) | N(11)},
+    [SIP004_OPEN_CHUNK] = {"relay_sip004_stream_open_chunk",
+                           B(STREAM) | B(INPUT) | B(OUT) | B(ANSWER),
+                           SETTINGS_ONLY | N(3) | N(4) | N(5) | N(10) | N(11)},
 };
 
 const char *name_of(enum function function)
 {
     return TABLE_OF[function].name;
+}
+
+int of_sip004(enum function function)
+{
+    return function >= SIP004_DATAGRAM_SEAL;
 }
 
 int takes(enum function function, enum buffer buffer)
@@ -69,8 +89,9 @@ size_t size_of(enum buffer buffer, size_t len)
     return words ? len * sizeof(uint64_t) : len;
 }
 
-/* Heads write their stream and never read it; out, answer and a plan made are written only; a reply
- * session begins on a table that is only read, and a plan is checked on words that are. */
+/* Heads and beginnings write their stream and never read it; out, answer and a plan made are
+ * written only; a reply session begins on a table that is only read, and a plan is checked on words
+ * that are. */
 static enum lend_use use_of(enum function function, enum buffer buffer)
 {
     if (function == PLAN_CHECK)
@@ -79,7 +100,8 @@ static enum lend_use use_of(enum function function, enum buffer buffer)
         return LEND_READ;
     if (buffer == OUT || buffer == ANSWER || buffer == PLAN || function <= BEGIN_SERVER)
         return LEND_WRITE;
-    int begun = function == SEAL_CHUNK || function == OPEN_CHUNK || function == OPEN_VARIABLE;
+    int begun = function == SEAL_CHUNK || function == OPEN_CHUNK || function == OPEN_VARIABLE ||
+                function == SIP004_SEAL_CHUNK || function == SIP004_OPEN_CHUNK;
     return buffer == STREAM && !begun ? LEND_WRITE : LEND_CHANGE;
 }
 
@@ -151,6 +173,30 @@ static uint64_t call_plans(const struct call *c, const struct left *left)
                             WORDS(ANSWER));
 }
 
+static uint64_t call_sip004(const struct call *c, const struct left *left)
+{
+    switch (c->function) {
+    case SIP004_DATAGRAM_SEAL:
+        return relay_sip004_datagram_seal(c->method, BYTES(KEY), BYTES(SALT), BYTES(PAYLOAD),
+                                          BYTES(OUT), WORDS(ANSWER));
+    case SIP004_DATAGRAM_OPEN:
+        return relay_sip004_datagram_open(c->method, BYTES(KEY), BYTES(INPUT), BYTES(OUT),
+                                          WORDS(ANSWER));
+    case SIP004_BEGIN_SEAL:
+        return relay_sip004_stream_begin_seal(c->method, BYTES(KEY), BYTES(SALT), WORDS(STREAM));
+    case SIP004_BEGIN_OPEN:
+        return relay_sip004_stream_begin_open(c->method, BYTES(KEY), BYTES(SALT), WORDS(STREAM));
+    case SIP004_SEAL_CHUNK:
+        return relay_sip004_stream_seal_chunk(WORDS(STREAM), BYTES(PAYLOAD), BYTES(OUT),
+                                              WORDS(ANSWER));
+    case SIP004_OPEN_CHUNK:
+        return relay_sip004_stream_open_chunk(WORDS(STREAM), BYTES(INPUT), BYTES(OUT),
+                                              WORDS(ANSWER));
+    default:
+        abort();
+    }
+}
+
 struct left make_call(const struct call *call, size_t input_there)
 {
     struct left left = {0};
@@ -166,7 +212,9 @@ struct left make_call(const struct call *call, size_t input_there)
         left.lent[b] = lend(b, use_of(call->function, b), call->buffers[b].data, len, at_start);
     }
     int about_streams = call->function == POOL_NEW || call->function >= SEAL_REQUEST;
-    if (call->function >= PLAN_MAKE)
+    if (of_sip004(call->function))
+        left.number = call_sip004(call, &left);
+    else if (call->function >= PLAN_MAKE)
         left.number = call_plans(call, &left);
     else
         left.number = about_streams ? call_streams(call, &left) : call_datagrams(call, &left);

@@ -27,6 +27,12 @@ enum function {
     OPEN_CHUNK,
     PLAN_MAKE,
     PLAN_CHECK,
+    SIP004_DATAGRAM_SEAL,
+    SIP004_DATAGRAM_OPEN,
+    SIP004_BEGIN_SEAL,
+    SIP004_BEGIN_OPEN,
+    SIP004_SEAL_CHUNK,
+    SIP004_OPEN_CHUNK,
     FUNCTIONS
 };
 
@@ -72,6 +78,9 @@ struct left {
 };
 
 const char *name_of(enum function function);
+
+/* Whether the function is the 2017 edition's. */
+int of_sip004(enum function function);
 
 /* Whether the function takes the buffer. */
 int takes(enum function function, enum buffer buffer);

@@ -3,12 +3,27 @@
 #include "relay.h"
 
 #include <openssl/evp.h>
+#include <openssl/kdf.h>
 #include <stdlib.h>
 #include <string.h>
 
 size_t key_length(uint64_t method)
 {
     return method == RELAY_AES_128_GCM ? 16 : method == RELAY_AES_256_GCM ? 32 : 0;
+}
+
+size_t sip004_key_length(uint64_t method)
+{
+    switch (method) {
+    case RELAY_SIP004_AES_128_GCM:
+        return 16;
+    case RELAY_SIP004_AES_192_GCM:
+        return 24;
+    case RELAY_SIP004_AES_256_GCM:
+        return 32;
+    default:
+        return 0;
+    }
 }
 
 uint64_t get_number(const uint8_t *bytes, size_t len)
@@ -94,12 +109,25 @@ void derive_subkey(const uint8_t *key, size_t key_len, const uint8_t *salt, size
         subkey[i] = (uint8_t)(words[i / 4] >> 8 * (i % 4));
 }
 
-/* ---- AES and GCM by OpenSSL */
+/* ---- HKDF, AES and GCM by OpenSSL */
 
 static void must(int done)
 {
     if (done != 1)
         abort();
+}
+
+void sip004_subkey(const uint8_t *key, size_t key_len, const uint8_t *salt, uint8_t *subkey)
+{
+    static const uint8_t info[] = "ss-subkey";
+    EVP_PKEY_CTX *context = EVP_PKEY_CTX_new_id(EVP_PKEY_HKDF, NULL);
+    must(EVP_PKEY_derive_init(context));
+    must(EVP_PKEY_CTX_set_hkdf_md(context, EVP_sha1()));
+    must(EVP_PKEY_CTX_set1_hkdf_key(context, key, (int)key_len));
+    must(EVP_PKEY_CTX_set1_hkdf_salt(context, salt, (int)key_len));
+    must(EVP_PKEY_CTX_add1_hkdf_info(context, info, sizeof info - 1));
+    must(EVP_PKEY_derive(context, subkey, &key_len));
+    EVP_PKEY_CTX_free(context);
 }
 
 static EVP_CIPHER_CTX *begin(const EVP_CIPHER *cipher, const uint8_t *key, const uint8_t *nonce,
@@ -134,6 +162,8 @@ void block_decrypt(const uint8_t *key, size_t key_len, const uint8_t *block, uin
 
 static const EVP_CIPHER *gcm(size_t key_len)
 {
+    if (key_len == 24)
+        return EVP_aes_192_gcm();
     return key_len == 16 ? EVP_aes_128_gcm() : EVP_aes_256_gcm();
 }
 

@@ -1,5 +1,5 @@
 /*
- * The ciphers of the protocol, independent of the library: AES and GCM by
+ * The ciphers of the protocol, independent of the library: AES, GCM and HKDF by
  * OpenSSL, BLAKE3's key derivation from its paper. With them the fuzz target
  * makes authentic messages of any contents, and knows what is authentic.
  */
@@ -11,12 +11,18 @@
 
 enum { TAG_LEN = 16 };
 
-/* A method's length of keys and salts; 0 for no method. */
+/* A method's length of keys and salts; 0 for no method of SIP022. */
 size_t key_length(uint64_t method);
+
+/* The same by the 2017 edition. */
+size_t sip004_key_length(uint64_t method);
 
 /* The subkey, as long as the key, of a salt or of a datagram's session ID. */
 void derive_subkey(const uint8_t *key, size_t key_len, const uint8_t *salt, size_t salt_len,
                    uint8_t *subkey);
+
+/* The same of a salt by the 2017 edition, which is as long as the key. */
+void sip004_subkey(const uint8_t *key, size_t key_len, const uint8_t *salt, uint8_t *subkey);
 
 void block_encrypt(const uint8_t *key, size_t key_len, const uint8_t *block, uint8_t *out);
 void block_decrypt(const uint8_t *key, size_t key_len, const uint8_t *block, uint8_t *out);

@@ -78,7 +78,7 @@ void craft_head_step(const struct step *step)
 void craft_chunk_step(const struct step *step)
 {
     const uint64_t *stream = host.streams[step->who % STREAMS];
-    size_t key_len = key_length(stream[1]);
+    size_t key_len = key_length(stream[1]) + sip004_key_length(stream[1]); /* at most one has it */
     uint8_t subkey[32], said[2];
     struct span length = {said, 2}, payload = {filled, length_of(step->length)}, whole = {text, 0};
     if (key_len == 0)

@@ -42,6 +42,19 @@ static size_t len_of(const struct call *c, enum buffer b)
     return c->buffers[b].len;
 }
 
+/* What an edition sets: the lengths of keys by method, and of a chunk at least and at most. */
+struct edition {
+    size_t (*key_length)(uint64_t method);
+    size_t least, greatest;
+};
+
+static const struct edition *edition_of(const struct call *c)
+{
+    static const struct edition sip022 = {key_length, 1, RELAY_MAX_CHUNK},
+                                sip004 = {sip004_key_length, 0, RELAY_SIP004_MAX_CHUNK};
+    return of_sip004(c->function) ? &sip004 : &sip022;
+}
+
 static uint64_t larger(uint64_t a, uint64_t b)
 {
     return a > b ? a : b;
@@ -62,12 +75,12 @@ static int lawful_retention(uint64_t retention)
 
 static int lawful_buffer(const struct call *c, enum buffer b)
 {
-    size_t len = len_of(c, b);
+    size_t len = len_of(c, b), key_len = edition_of(c)->key_length(c->method);
     switch (b) {
     case KEY:
     case SALT:
     case REQUEST_SALT:
-        return key_length(c->method) != 0 && len == key_length(c->method);
+        return key_len != 0 && len == key_len;
     case TABLE:
         return len == RELAY_TABLE_WORDS &&
                (c->function == TABLE_NEW || lawful_retention(words_of(c, TABLE)[0]));
@@ -90,15 +103,16 @@ static int lawful_buffer(const struct call *c, enum buffer b)
 static int lawful_turn(const struct call *c)
 {
     const uint64_t *w = words_of(c, STREAM);
-    if (key_length(w[1]) == 0)
+    const struct edition *edition = edition_of(c);
+    if (edition->key_length(w[1]) == 0)
         return 0;
-    if (c->function == SEAL_CHUNK)
+    if (c->function == SEAL_CHUNK || c->function == SIP004_SEAL_CHUNK)
         return w[0] == RELAY_TURN_SEALING || w[0] == RELAY_TURN_ENDED;
     if (c->function == OPEN_VARIABLE)
         return w[0] == RELAY_TURN_ENDED ||
                (w[0] == RELAY_TURN_VARIABLE && w[2] == 1 && w[3] <= RELAY_MAX_CHUNK);
     return w[0] <= RELAY_TURN_LENGTH ||
-           (w[0] == RELAY_TURN_PAYLOAD && w[3] > 0 && w[3] <= RELAY_MAX_CHUNK);
+           (w[0] == RELAY_TURN_PAYLOAD && w[3] >= edition->least && w[3] <= edition->greatest);
 }
 
 static int lawful(const struct call *c)
@@ -110,7 +124,8 @@ static int lawful(const struct call *c)
         return c->retention == 0 || lawful_retention(c->retention);
     if (c->function == POOL_NEW)
         return key_length(c->method) != 0;
-    if (c->function == SEAL_CHUNK || c->function == OPEN_CHUNK || c->function == OPEN_VARIABLE)
+    if (c->function == SEAL_CHUNK || c->function == OPEN_CHUNK || c->function == OPEN_VARIABLE ||
+        c->function == SIP004_SEAL_CHUNK || c->function == SIP004_OPEN_CHUNK)
         return lawful_turn(c);
     return 1;
 }
@@ -236,8 +251,11 @@ static uint64_t expect_datagram(const struct call *c, struct expectation *e)
 static void subkey_words(const struct call *c, const uint8_t *salt, uint64_t *words)
 {
     uint8_t subkey[32] = {0};
-    size_t len = key_length(c->method);
-    derive_subkey(bytes_of(c, KEY), len, salt, len, subkey);
+    size_t len = len_of(c, KEY);
+    if (of_sip004(c->function))
+        sip004_subkey(bytes_of(c, KEY), len, salt, subkey);
+    else
+        derive_subkey(bytes_of(c, KEY), len, salt, len, subkey);
     for (int i = 0; i < 4; i++)
         words[i] = get_number(subkey + 8 * i, 8);
 }
@@ -295,21 +313,22 @@ static void stream_subkey(const uint64_t *words, uint8_t *subkey)
 static uint64_t expect_sealed_chunk(const struct call *c, struct expectation *e)
 {
     const uint64_t *w = words_of(c, STREAM);
-    if (len_of(c, PAYLOAD) == 0)
+    const struct edition *edition = edition_of(c);
+    if (len_of(c, PAYLOAD) < edition->least)
         return RELAY_REFUSED_EMPTY;
     if (w[0] == RELAY_TURN_ENDED)
         return RELAY_REFUSED_NOT_AUTHENTIC;
     if (w[2] >= UINT64_MAX - 1)
         return RELAY_REFUSED_COUNTER;
-    uint64_t number = expect_size(c, e, len_of(c, PAYLOAD), RELAY_MAX_CHUNK, 2 + 2 * TAG_LEN);
+    uint64_t number = expect_size(c, e, len_of(c, PAYLOAD), edition->greatest, 2 + 2 * TAG_LEN);
     if (number != RELAY_OK)
         return number;
     uint8_t subkey[32], said[2];
     struct span length = {said, sizeof said};
     put_number(said, 2, len_of(c, PAYLOAD));
     stream_subkey(w, subkey);
-    size_t len = craft_piece(subkey, key_length(w[1]), w[2], length, sealed);
-    craft_piece(subkey, key_length(w[1]), w[2] + 1, span_of(c, PAYLOAD), sealed + len);
+    size_t len = craft_piece(subkey, edition->key_length(w[1]), w[2], length, sealed);
+    craft_piece(subkey, edition->key_length(w[1]), w[2] + 1, span_of(c, PAYLOAD), sealed + len);
     set_state(e, RELAY_TURN_SEALING, w[1], w[2] + 2, 0, w + 4);
     return RELAY_OK;
 }
@@ -581,6 +600,7 @@ static uint64_t expect_response(const struct call *c, struct expectation *e)
 static uint64_t expect_opened_chunk(const struct call *c, struct expectation *e)
 {
     const uint64_t *w = words_of(c, STREAM);
+    const struct edition *edition = edition_of(c);
     int payload = w[0] == RELAY_TURN_PAYLOAD;
     size_t len = payload ? (size_t)w[3] : 2;
     uint8_t subkey[32];
@@ -593,11 +613,13 @@ static uint64_t expect_opened_chunk(const struct call *c, struct expectation *e)
     if (payload && len_of(c, OUT) < len)
         return RELAY_REFUSED_ROOM;
     stream_subkey(w, subkey);
-    if (!piece_opens(subkey, key_length(w[1]), w[2], bytes_of(c, INPUT), len + TAG_LEN))
+    if (!piece_opens(subkey, edition->key_length(w[1]), w[2], bytes_of(c, INPUT), len + TAG_LEN))
         return RELAY_REFUSED_NOT_AUTHENTIC;
     uint64_t length = payload ? len : get_number(opened, 2);
-    if (length == 0)
+    if (length < edition->least)
         return RELAY_REFUSED_EMPTY;
+    if (length > edition->greatest)
+        return RELAY_REFUSED_MALFORMED;
     uint64_t turn = payload ? RELAY_TURN_LENGTH : RELAY_TURN_PAYLOAD;
     set_state(e, turn, w[1], w[2] + 1, payload ? 0 : length, w + 4);
     e->words[RELAY_AT_USED] = len + TAG_LEN;
@@ -608,18 +630,76 @@ static uint64_t expect_opened_chunk(const struct call *c, struct expectation *e)
     return RELAY_OK;
 }
 
+/* ---- the 2017 edition */
+
+static const uint8_t ZERO_NONCE[12];
+
+static uint64_t expect_sip004_sealed(const struct call *c, struct expectation *e)
+{
+    size_t len = len_of(c, KEY), around = len + TAG_LEN;
+    uint64_t number = expect_size(c, e, len_of(c, PAYLOAD), RELAY_MAX_DATAGRAM - around, around);
+    if (number != RELAY_OK)
+        return number;
+    uint8_t subkey[32];
+    sip004_subkey(bytes_of(c, KEY), len, bytes_of(c, SALT), subkey);
+    memcpy(sealed, bytes_of(c, SALT), len);
+    gcm_seal(subkey, len, ZERO_NONCE, bytes_of(c, PAYLOAD), len_of(c, PAYLOAD), sealed + len);
+    return RELAY_OK;
+}
+
+static uint64_t expect_sip004_opened(const struct call *c, struct expectation *e)
+{
+    size_t len = len_of(c, INPUT), key_len = len_of(c, KEY), around = key_len + TAG_LEN;
+    const uint8_t *datagram = bytes_of(c, INPUT);
+    uint8_t subkey[32];
+    if (len < around || len > RELAY_MAX_DATAGRAM)
+        return RELAY_REFUSED_LENGTH;
+    if (len_of(c, OUT) < len - around)
+        return RELAY_REFUSED_ROOM;
+    sip004_subkey(bytes_of(c, KEY), key_len, datagram, subkey);
+    if (!gcm_open(subkey, key_len, ZERO_NONCE, datagram + key_len, len - key_len, opened))
+        return RELAY_REFUSED_NOT_AUTHENTIC;
+    e->due = len - around;
+    e->text = opened;
+    e->words[RELAY_AT_PLAINTEXT_LENGTH] = e->due;
+    e->words_len = 1;
+    return RELAY_OK;
+}
+
+static uint64_t expect_sip004_begun(const struct call *c, struct expectation *e)
+{
+    uint64_t words[4];
+    int seals = c->function == SIP004_BEGIN_SEAL;
+    subkey_words(c, bytes_of(c, SALT), words);
+    set_state(e, seals ? RELAY_TURN_SEALING : RELAY_TURN_LENGTH, c->method, 0, 0, words);
+    return RELAY_OK;
+}
+
 /* ---- all */
 
 struct expectation expect(const struct call *call)
 {
     static uint64_t (*const rules[FUNCTIONS])(const struct call *, struct expectation *) = {
-        [BEGIN_CLIENT] = expect_begun,      [BEGIN_SERVER] = expect_begun,
-        [DATAGRAM_SEAL] = expect_datagram,  [OPEN_SERVER] = expect_opened,
-        [OPEN_CLIENT] = expect_opened,      [SEAL_REQUEST] = expect_sealed_request,
-        [OPEN_REQUEST] = expect_request,    [SEAL_RESPONSE] = expect_sealed_response,
-        [OPEN_RESPONSE] = expect_response,  [SEAL_CHUNK] = expect_sealed_chunk,
-        [OPEN_CHUNK] = expect_opened_chunk, [OPEN_VARIABLE] = expect_variable,
-        [PLAN_MAKE] = expect_plan,          [PLAN_CHECK] = expect_plan,
+        [BEGIN_CLIENT] = expect_begun,
+        [BEGIN_SERVER] = expect_begun,
+        [DATAGRAM_SEAL] = expect_datagram,
+        [OPEN_SERVER] = expect_opened,
+        [OPEN_CLIENT] = expect_opened,
+        [SEAL_REQUEST] = expect_sealed_request,
+        [OPEN_REQUEST] = expect_request,
+        [SEAL_RESPONSE] = expect_sealed_response,
+        [OPEN_RESPONSE] = expect_response,
+        [SEAL_CHUNK] = expect_sealed_chunk,
+        [OPEN_CHUNK] = expect_opened_chunk,
+        [OPEN_VARIABLE] = expect_variable,
+        [PLAN_MAKE] = expect_plan,
+        [PLAN_CHECK] = expect_plan,
+        [SIP004_DATAGRAM_SEAL] = expect_sip004_sealed,
+        [SIP004_DATAGRAM_OPEN] = expect_sip004_opened,
+        [SIP004_BEGIN_SEAL] = expect_sip004_begun,
+        [SIP004_BEGIN_OPEN] = expect_sip004_begun,
+        [SIP004_SEAL_CHUNK] = expect_sealed_chunk,
+        [SIP004_OPEN_CHUNK] = expect_opened_chunk,
     };
     struct expectation e = {0};
     if (!lawful(call))

@@ -2,7 +2,7 @@
 
 #include "relay.h"
 
-enum { GROUPS = 32, GROUP = 64 };
+enum { GROUPS = 40, GROUP = 64 };
 
 /* The groups behind those of the functions' numbers. */
 enum { INPUT_LENGTHS = FUNCTIONS, HEADERS, PACKETS, TURNS, RECORDS };
@@ -29,7 +29,7 @@ static void changed_words(const struct call *call, const struct left *left, enum
 {
     const uint64_t *before = call->buffers[b].data;
     const uint64_t *after = (const void *)left->lent[b].ours;
-    size_t record = b == TABLE ? 11 : 6;
+    size_t record = b == TABLE ? RELAY_RECORD_WORDS : 6;
     for (size_t i = 1; i < call->buffers[b].len; i++)
         if (before[i] != after[i])
             feature(RECORDS + (unsigned)((i - 1) % record), magnitude(after[i] - before[i]));

@@ -13,7 +13,9 @@ uint8_t filled[LEND_SIZE + 256];
 
 static uint8_t damaged[LEND_SIZE]; /* the input of a call that is spoiled */
 
-void host_begin(uint64_t method, uint64_t clock)
+enum { OLDER_METHODS = 14 }; /* the low bits of a fault of the method, near the 2017 edition's */
+
+void host_begin(uint64_t method, uint64_t sip004_method, uint64_t clock)
 {
     if (filled[0] == 0) {
         for (size_t i = 0; i < sizeof filled; i++)
@@ -26,6 +28,7 @@ void host_begin(uint64_t method, uint64_t clock)
     }
     memset(&host, 0, sizeof host);
     host.method = method;
+    host.sip004_method = sip004_method;
     host.clock = clock;
     for (unsigned i = 0; i < DATAGRAMS; i++)
         datagrams[i].len = 0;
@@ -52,14 +55,15 @@ uint64_t word_of(uint64_t value)
     }
 }
 
-/* Short ones mostly; the highest are around the limits of a message. Few of them, since they take
- * the time of a hundred others. */
+/* Short ones mostly; the highest are around the limits of a message, those below them around the
+ * limit of a chunk of the 2017 edition. Few of them, since they take the time of a hundred
+ * others. */
 size_t length_of(uint16_t length)
 {
-    if (length < 0xfe00 || host.long_messages == LONG_MESSAGES)
+    if (length < 0xfd00 || host.long_messages == LONG_MESSAGES)
         return length & 0x3ff;
     host.long_messages++;
-    return (size_t)length + 65;
+    return length < 0xfe00 ? RELAY_SIP004_MAX_CHUNK + (length & 0xffu) - 0x80 : (size_t)length + 65;
 }
 
 size_t padding_of(uint16_t place)
@@ -111,11 +115,12 @@ void lend_to(struct call *call, enum buffer b, const void *data, size_t len)
 struct call new_call(const struct step *step)
 {
     struct call call = {.function = step->code % STEP_CODES};
-    call.method = host.method;
+    int older = of_sip004(call.function);
+    call.method = older ? host.sip004_method : host.method;
     call.clock = host.clock;
     unsigned side = step->how >> 3; /* all buffers at their ends, at their starts, or mixed */
     call.edges = side == 31 ? UINT_MAX : side * 0x9e3779b1u >> 16;
-    lend_to(&call, KEY, key, key_length(host.method));
+    lend_to(&call, KEY, key, older ? sip004_key_length(call.method) : key_length(call.method));
     lend_to(&call, POOL, host.pool, RELAY_POOL_WORDS);
     lend_to(&call, ANSWER, filled, RELAY_ANSWER_WORDS);
     lend_to(&call, OUT, filled + (step->place & 0xff), 0);
@@ -144,16 +149,19 @@ void give_room(struct call *call, const struct step *step, size_t due)
     call->buffers[OUT].len = room;
 }
 
-/* The low 4 bits of a fault name a buffer, or the method; three more say what is wrong: the
- * length, the method, or a bit of an input. */
+/* The low 4 bits of a fault name a buffer, or the method, near those of either edition; three more
+ * say what is wrong: the length, the method, or a bit of an input. */
 void spoil(struct call *call, const struct step *step)
 {
-    static const uint64_t methods[8] = {0, 3, 257, (1ull << 32) + 1, UINT64_MAX, 1, 2, 4};
+    static const uint64_t methods[2][8] = {
+        {0, 3, 257, (1ull << 32) + 1, UINT64_MAX, 1, 2, 4},
+        {10, 14, 256 + 11, (1ull << 32) + 12, 5, 11, 12, 13},
+    };
     unsigned which = step->fault & 15, way = step->fault >> 4 & 7;
     if (step->fault < 128)
         return;
     if (which >= BUFFERS) {
-        call->method = methods[way];
+        call->method = methods[which == OLDER_METHODS][way];
         return;
     }
     struct lending *lending = &call->buffers[which];

@@ -59,7 +59,7 @@ struct patch {
 };
 
 struct host {
-    uint64_t method, clock;
+    uint64_t method, sip004_method, clock;
     uint64_t tables[2][RELAY_TABLE_WORDS + SPARE]; /* a server's, a client's */
     uint64_t pool[RELAY_POOL_WORDS + SPARE];
     uint64_t sessions[SESSIONS][RELAY_SESSION_WORDS + SPARE];
@@ -75,8 +75,8 @@ extern struct message datagrams[DATAGRAMS], lines[LINES];
 extern uint8_t key[32 + SPARE], salts[SALTS][32 + SPARE];
 extern uint8_t filled[LEND_SIZE + 256]; /* what payloads and lent buffers hold */
 
-/* A host without states, of this method and clock. */
-void host_begin(uint64_t method, uint64_t clock);
+/* A host without states, of this method of each edition and clock. */
+void host_begin(uint64_t method, uint64_t sip004_method, uint64_t clock);
 
 /* ---- what the fields of a step mean */
 

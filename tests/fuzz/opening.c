@@ -29,6 +29,17 @@ void open_datagram(const struct step *step)
         must_be_replay(&call);
 }
 
+void open_sip004_datagram(const struct step *step)
+{
+    const struct message *message = &datagrams[step->who / 8 % DATAGRAMS];
+    struct call call = new_call(step);
+    size_t around = call.buffers[KEY].len + TAG_LEN;
+    lend_to(&call, INPUT, message->bytes, message->len);
+    give_room(&call, step, message->len < around ? 0 : message->len - around);
+    spoil(&call, step);
+    run(&call);
+}
+
 void open_request(const struct step *step)
 {
     struct message *line = line_of(step);

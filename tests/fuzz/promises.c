@@ -72,7 +72,9 @@ static void check_state(const struct call *call, const struct left *left, enum b
     size_t written = e->state_len * sizeof(uint64_t);
     int ends = e->number == RELAY_REFUSED_NOT_AUTHENTIC || e->number == RELAY_REFUSED_MALFORMED ||
                e->number == RELAY_REFUSED_EMPTY;
-    if ((call->function == OPEN_CHUNK || call->function == OPEN_VARIABLE) && ends) {
+    int opens = call->function == OPEN_CHUNK || call->function == OPEN_VARIABLE ||
+                call->function == SIP004_OPEN_CHUNK;
+    if (opens && ends) {
         promise(zero(state->ours, sizeof(uint64_t)), "refusal 4, 5 or 14 did not end the stream");
         written = sizeof(uint64_t);
     } else if (e->number != RELAY_OK) {
@@ -144,8 +146,9 @@ static size_t readable(const struct call *call, const struct expectation *e)
 {
     if (e->number == RELAY_OK && call->function == OPEN_VARIABLE)
         return (size_t)e->words[RELAY_AT_HEAD_USED];
-    if (e->number == RELAY_OK && (call->function == OPEN_REQUEST ||
-                                  call->function == OPEN_RESPONSE || call->function == OPEN_CHUNK))
+    if (e->number == RELAY_OK &&
+        (call->function == OPEN_REQUEST || call->function == OPEN_RESPONSE ||
+         call->function == OPEN_CHUNK || call->function == SIP004_OPEN_CHUNK))
         return (size_t)e->words[RELAY_AT_USED];
     return call->buffers[INPUT].len;
 }

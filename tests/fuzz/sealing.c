@@ -52,6 +52,15 @@ static void datagram_back(const struct call *sealing, const struct message *mess
     must_open(&call, payload_of(sealing), RELAY_AT_PAYLOAD);
 }
 
+static void sip004_datagram_back(const struct call *sealing, const struct message *message)
+{
+    struct call call = *sealing;
+    call.function = SIP004_DATAGRAM_OPEN;
+    lend_to(&call, INPUT, message->bytes, message->len);
+    call.buffers[OUT].len = call.buffers[PAYLOAD].len;
+    must_open(&call, payload_of(sealing), 0);
+}
+
 static void request_back(const struct call *sealing, const struct message *line)
 {
     static uint64_t pool[RELAY_POOL_WORDS], stream[RELAY_STREAM_WORDS];
@@ -89,7 +98,7 @@ static void chunk_back(const struct call *sealing, const uint64_t *before, struc
     struct call call = *sealing;
     memcpy(stream, before, sizeof stream);
     stream[RELAY_STREAM_TURN] = RELAY_TURN_LENGTH;
-    call.function = OPEN_CHUNK;
+    call.function = of_sip004(sealing->function) ? SIP004_OPEN_CHUNK : OPEN_CHUNK;
     lend_to(&call, STREAM, stream, RELAY_STREAM_WORDS);
     lend_to(&call, INPUT, sealed.bytes, sealed.len);
     must_run(&call, RELAY_OK, "a length that was sealed does not open");
@@ -123,6 +132,32 @@ void seal_datagram(const struct step *step)
     struct message *message = &datagrams[host.next_datagram++ % DATAGRAMS];
     store(message, &left);
     datagram_back(&call, message);
+}
+
+void seal_sip004_datagram(const struct step *step)
+{
+    struct call call = new_call(step);
+    size_t salt = call.buffers[KEY].len, payload = length_of(step->length);
+    lend_to(&call, SALT, salt_of(step->who / 16, step->value), salt);
+    lend_to(&call, PAYLOAD, filled + (step->value & 0xff), payload);
+    give_room(&call, step, salt + payload + TAG_LEN);
+    spoil(&call, step);
+    struct left left = run(&call);
+    if (left.number != RELAY_OK)
+        return;
+    struct message *message = &datagrams[host.next_datagram++ % DATAGRAMS];
+    store(message, &left);
+    sip004_datagram_back(&call, message);
+}
+
+/* A line begins anew where its stream is to be opened. */
+void begin_sip004_stream(const struct step *step)
+{
+    struct call call = new_call(step);
+    lend_to(&call, SALT, salt_of(step->who / 16, step->value), call.buffers[KEY].len);
+    spoil(&call, step);
+    if (run(&call).number == RELAY_OK && call.function == SIP004_BEGIN_OPEN)
+        line_of(step)->read = 0;
 }
 
 void seal_head(const struct step *step)

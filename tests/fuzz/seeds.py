@@ -45,6 +45,11 @@ def wrong_method(way: int) -> int:
     return 128 | way << 4 | 15
 
 
+def near_sip004(way: int) -> int:
+    """A method near those of the 2017 edition, or one of them."""
+    return 128 | way << 4 | 14
+
+
 def step(code: str, fault=0, who=0, how=0, length=0, place=0, value=0) -> bytes:
     return struct.pack("<BBBBHHQ", CODES[code], fault, who, how, length, place, value)
 
@@ -71,7 +76,8 @@ def faulty(code: str, *buffers: str, **fields) -> list[bytes]:
         for each in buffers
         for way in (EMPTY, SHORTER, LONGER, AT_LENGTH)
     ]
-    return steps + [step(code, wrong_method(way), **fields) for way in range(5)]
+    methods = [wrong_method(way) for way in range(8)] + [near_sip004(way) for way in range(8)]
+    return steps + [step(code, each, **fields) for each in methods]
 
 
 def settings():
@@ -424,6 +430,168 @@ def plans():
     ]
 
 
+# The 2017 edition. Its method is who % 3 of an input's first step; a stream's salt is who / 16.
+
+CHUNK_LENGTHS = 0xFD7F  # of 16,382 bytes, the next one of one more
+
+
+def sip004_settings():
+    yield faulty("SIP004_DATAGRAM_SEAL", "KEY", "SALT", "ANSWER")
+    yield [
+        step("SIP004_DATAGRAM_SEAL", length=9),
+        *faulty("SIP004_DATAGRAM_OPEN", "KEY", "ANSWER"),
+    ]
+    yield faulty("SIP004_BEGIN_SEAL", "KEY", "SALT", "STREAM")
+    yield faulty("SIP004_BEGIN_OPEN", "KEY", "SALT", "STREAM")
+    yield [
+        step("SIP004_BEGIN_SEAL"),
+        *faulty("SIP004_SEAL_CHUNK", "STREAM", "ANSWER"),
+        step("SIP004_BEGIN_OPEN"),
+        *faulty("SIP004_OPEN_CHUNK", "STREAM", "ANSWER"),
+    ]
+
+
+def sip004_datagrams():
+    for length in (0, 1, 16, 300):
+        yield [
+            step("SIP004_DATAGRAM_SEAL", length=length, how=ONE_MORE),
+            step("SIP004_DATAGRAM_OPEN", how=MUCH_MORE),
+            *(step("SIP004_DATAGRAM_OPEN", how=how) for how in (0, ONE_SHORT, NO_ROOM)),
+            *(step("SIP004_DATAGRAM_SEAL", length=length, how=how) for how in (ONE_SHORT, NO_ROOM)),
+            *(step("SIP004_DATAGRAM_OPEN", fault("INPUT", FLIPPED), place=n) for n in (0, 20, 45)),
+            *(
+                step("SIP004_DATAGRAM_OPEN", fault("INPUT", AT_LENGTH), length=n)
+                for n in (0, 31, 32, 39, 40, 47, 48)
+            ),
+            step("OPEN_SERVER"),
+        ]
+    for less in (125, 133, 141):  # the longest payload by method, and one byte more
+        yield [
+            step("SIP004_DATAGRAM_SEAL", length=0xFFFF - less),
+            step("SIP004_DATAGRAM_SEAL", length=0xFFFF - less + 1),
+            step("SIP004_DATAGRAM_OPEN"),
+            step("SIP004_DATAGRAM_OPEN", fault("INPUT", LONGER)),
+        ]
+    yield [
+        *(step("ANY_BYTES", who=n, length=0xFFFF - 93 + n, place=3) for n in (0, 1)),  # 65,507
+        *(step("SIP004_DATAGRAM_OPEN", who=8 * n, how=how) for n in (0, 1) for how in (0, NO_ROOM)),
+    ]
+
+
+def sip004_begun() -> list[bytes]:
+    """Stream 0 seals to line 0, and stream 1 opens it."""
+    return [step("SIP004_BEGIN_SEAL"), step("SIP004_BEGIN_OPEN", who=1)]
+
+
+def sip004_streams():
+    yield [
+        *sip004_begun(),
+        *(step("SIP004_SEAL_CHUNK", length=n) for n in (5, 0, 1, 0, 300)),
+        *(step("SIP004_OPEN_CHUNK", fault("INPUT", AT_LENGTH), who=1, length=n) for n in (0, 17)),
+        *[step("SIP004_OPEN_CHUNK", who=1, how=MUCH_MORE)] * 11,
+        step("OPEN_CHUNK", who=1),
+        step("SEAL_CHUNK", length=1),
+        step("OPEN_VARIABLE", who=1),
+        step("SIP004_OPEN_CHUNK", fault("INPUT", FLIPPED), who=1),
+        step("ANY_BYTES", who=1, how=1, length=40, place=3),
+        *[step("SIP004_OPEN_CHUNK", who=1)] * 2,
+        step("SIP004_SEAL_CHUNK", who=1, length=1),
+        step("SIP004_SEAL_CHUNK", who=1),
+    ]
+    yield [
+        *sip004_begun(),
+        *(step("SIP004_SEAL_CHUNK", length=3, how=how) for how in (ONE_SHORT, NO_ROOM, ONE_MORE)),
+        step("SIP004_OPEN_CHUNK", who=1, how=NO_ROOM),
+        *(step("SIP004_OPEN_CHUNK", who=1, how=how) for how in (NO_ROOM, ONE_SHORT, 0)),
+        step("SEAL_RESPONSE", length=1),
+        step("SIP004_SEAL_CHUNK"),
+        step("OPEN_RESPONSE"),
+        step("SIP004_OPEN_CHUNK"),
+    ]
+    for length in (CHUNK_LENGTHS, CHUNK_LENGTHS + 1, CHUNK_LENGTHS + 2):
+        yield [
+            *sip004_begun(),
+            step("SIP004_SEAL_CHUNK", length=length),
+            *[step("SIP004_OPEN_CHUNK", who=1)] * 2,
+        ]
+
+
+def sip004_lengths():
+    """Lengths that are said, on both sides of the cap, and payloads that a host lends."""
+    for said in (0, 1, 16_383, 16_384, 0x8000, 65_535):
+        yield [
+            step("SIP004_BEGIN_OPEN"),
+            step("CRAFT_CHUNK", how=1, length=said % 16_383, place=said),
+            *[step("SIP004_OPEN_CHUNK")] * 3,
+            step("SIP004_SEAL_CHUNK", length=1),
+        ]
+    for said in (0, 16_383, 16_384, 65_535, 65_536, FROM_END):
+        yield [
+            step("SIP004_BEGIN_OPEN"),
+            step("SET_WORD", who=12, place=0, value=2),
+            step("SET_WORD", who=12, place=3, value=said),
+            step("SIP004_OPEN_CHUNK"),
+            step("ANY_BYTES", how=1, length=40, place=3),
+            step("SIP004_OPEN_CHUNK"),
+            step("SIP004_OPEN_CHUNK"),
+        ]
+
+
+def sip004_orders():
+    """Several faults at once: of an ended stream, of a length to seal, of a payload."""
+    words = {0: 0, 2: FROM_END, 1: 10}
+    for faults in ((0,), (0, 2), (0, 2, 1)):
+        yield [
+            *sip004_begun(),
+            *(step("SET_WORD", who=12, place=place, value=words[place]) for place in faults),
+            *(step("SIP004_SEAL_CHUNK", length=n) for n in (0, CHUNK_LENGTHS + 2)),
+            step("SIP004_OPEN_CHUNK", how=NO_ROOM),
+        ]
+    yield [
+        *sip004_begun(),
+        step("SIP004_OPEN_CHUNK"),
+        step("SIP004_SEAL_CHUNK", length=CHUNK_LENGTHS + 2, how=NO_ROOM),
+        step("SET_WORD", who=12, place=2, value=FROM_END),
+        step("SIP004_SEAL_CHUNK", length=CHUNK_LENGTHS + 2),
+        step("SIP004_SEAL_CHUNK", length=1, how=NO_ROOM),
+        step("SET_WORD", who=13, place=0, value=2),
+        step("SET_WORD", who=13, place=3, value=5),
+        step("ANY_BYTES", who=1, how=1, length=20, place=3),
+        step("SIP004_OPEN_CHUNK", who=1, how=NO_ROOM),
+        step("ANY_BYTES", who=1, how=1, length=21, place=3),
+        *(step("SIP004_OPEN_CHUNK", who=1, how=how) for how in (NO_ROOM, 0)),
+    ]
+
+
+def sip004_states():
+    """Counters near their end, other turns, other methods, words behind a shorter subkey."""
+    yield [
+        step("SIP004_BEGIN_SEAL"),
+        *(
+            each
+            for less in (3, 2, 1, 0)
+            for each in (
+                step("SET_WORD", who=12, place=2, value=FROM_END | less),
+                step("SIP004_SEAL_CHUNK", length=3),
+                step("SET_WORD", who=12, place=0, value=1),
+                step("SET_WORD", who=12, place=2, value=FROM_END | less),
+                step("SIP004_OPEN_CHUNK"),
+                step("SET_WORD", who=12, place=0, value=3),
+            )
+        ),
+    ]
+    for place, words in ((0, (0, 4, 5, FROM_END)), (1, (1, 2, 10, 14, 267)), (7, (9,)), (6, (9,))):
+        for value in words:
+            changed = [step("SET_WORD", who=who, place=place, value=value) for who in (12, 13)]
+            yield [
+                *sip004_begun(),
+                *changed,
+                step("SIP004_SEAL_CHUNK", length=3),
+                step("SIP004_SEAL_CHUNK", length=0),
+                *[step("SIP004_OPEN_CHUNK", who=1)] * 4,
+            ]
+
+
 GROUPS = (
     plans,
     settings,
@@ -441,20 +609,37 @@ GROUPS = (
 )
 
 
+SIP004_GROUPS = (
+    sip004_settings,
+    sip004_datagrams,
+    sip004_streams,
+    sip004_lengths,
+    sip004_orders,
+    sip004_states,
+)
+
+
 def at_starts(each: bytes) -> bytes:
     """A call with its buffers lent at the starts of their places, not at the ends."""
     code, fault, who, how = each[:4]
     return bytes([code, fault, who, how | 0xF8 if code < len(FUNCTIONS) else how]) + each[4:]
 
 
-def all_seeds():
-    for group in GROUPS:
+def with_methods(groups, *methods):
+    """Each list of the groups by each of these methods: its number, and the code and who of the
+    first step that set it."""
+    for group in groups:
         for number, steps in enumerate(group()):
-            for method in (0, 1):
-                name = f"{group.__name__}-{number}-{method + 1}"
-                first = struct.pack("<BBBBHHQ", method, 0, 0, 0, 0, 0, CLOCK)
+            for method, code, who in methods:
+                name = f"{group.__name__}-{number}-{method}"
+                first = struct.pack("<BBBBHHQ", code, 0, who, 0, 0, 0, CLOCK)
                 yield name, first + b"".join(steps)
                 yield f"{name}-starts", first + b"".join(map(at_starts, steps))
+
+
+def all_seeds():
+    yield from with_methods(GROUPS, (1, 0, 0), (2, 1, 0))
+    yield from with_methods(SIP004_GROUPS, (11, 0, 0), (12, 1, 1), (13, 0, 2))
 
 
 def main() -> None:

@@ -9,6 +9,8 @@ void make_or_begin(const struct step *step);
 void seal_datagram(const struct step *step);
 void seal_head(const struct step *step);
 void seal_chunk(const struct step *step);
+void seal_sip004_datagram(const struct step *step);
+void begin_sip004_stream(const struct step *step);
 
 /* opening.c */
 void open_datagram(const struct step *step);
@@ -16,6 +18,7 @@ void open_request(const struct step *step);
 void open_variable(const struct step *step);
 void open_response(const struct step *step);
 void open_chunk(const struct step *step);
+void open_sip004_datagram(const struct step *step);
 
 /* planning.c */
 void plan_report(const struct step *step);

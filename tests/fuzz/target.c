@@ -1,7 +1,7 @@
 /*
  * The fuzz target: an input is a list of steps on one host's states, and every
  * call that a step makes is checked (promises.h). The first step of an input
- * gives the method and the clock.
+ * gives the methods and the clock.
  */
 #include "blocks.h"
 #include "promises.h"
@@ -32,6 +32,12 @@ static void (*const does[STEP_CODES])(const struct step *) = {
     [OPEN_CHUNK] = open_chunk,
     [PLAN_MAKE] = plan_report,
     [PLAN_CHECK] = check_plan_step,
+    [SIP004_DATAGRAM_SEAL] = seal_sip004_datagram,
+    [SIP004_DATAGRAM_OPEN] = open_sip004_datagram,
+    [SIP004_BEGIN_SEAL] = begin_sip004_stream,
+    [SIP004_BEGIN_OPEN] = begin_sip004_stream,
+    [SIP004_SEAL_CHUNK] = seal_chunk,
+    [SIP004_OPEN_CHUNK] = open_chunk,
     [CRAFT_DATAGRAM] = craft_datagram_step,
     [CRAFT_HEAD] = craft_head_step,
     [CRAFT_CHUNK] = craft_chunk_step,
@@ -47,7 +53,7 @@ static void report(void)
 {
     uint64_t calls = 0;
     for (enum function f = 0; f < FUNCTIONS; f++) {
-        fprintf(stderr, "%-28s", name_of(f));
+        fprintf(stderr, "%-30s", name_of(f));
         for (unsigned n = 0; n < NUMBERS; n++) {
             calls += answered[f][n];
             if (answered[f][n] > 0)
@@ -73,7 +79,7 @@ int LLVMFuzzerTestOneInput(const uint8_t *data, size_t size)
     if (size < sizeof step)
         return 0;
     memcpy(&step, data, sizeof step);
-    host_begin(1 + (step.code & 1), step.value);
+    host_begin(1 + (step.code & 1), 11 + step.who % 3, step.value);
     for (size_t at = sizeof step; at + sizeof step <= size; at += sizeof step) {
         memcpy(&step, data + at, sizeof step);
         does[step.code % STEP_CODES](&step);
@@ -106,7 +112,9 @@ static uint64_t any_value(void)
 static uint16_t any_length(void)
 {
     static const uint16_t lengths[12] = {0, 1, 2, 15, 16, 17, 31, 32, 33, 255, 899, 900};
-    return below(64) == 0 ? (uint16_t)(0xffff - below(200)) : lengths[below(12)];
+    if (below(64) == 0)
+        return (uint16_t)(below(3) == 0 ? 0xfd7c + below(8) : 0xffff - below(200));
+    return lengths[below(12)];
 }
 
 static void change_field(struct step *step)

@@ -2,7 +2,7 @@
 -- Assumes nothing.
 use mathlib.Core.Path.{_≡_, refl, sym, ap, _∙_, subst}
 use mathlib.Core.List.{List, [], _∷_}
-use Prim.Native.Nat.{ℕ, zero, suc, _+_, _≤_, min, _<_}
+use Prim.Native.Nat.{ℕ, zero, suc, _+_, _≤_, min}
 use native.Mathlib.Omega.{arith}
 use lib.ListN.{length, take, drop, length-take}
 use lib.Seq.{take-take, length-take-le}
@@ -24,11 +24,14 @@ use Rattle.stream_heads.specs.Heads.{frontLength, fixedOf}
 use Rattle.stream_open_response.specs.Responses.{bindingOf}
 use Rattle.stream_open.specs.Chunks.{receiver, streamKey}
 use Rattle.demands.specs.StreamsKeep.{saltOf}
-use Rattle.demands.specs.StreamsOpen.{FixedOpens, RequestOpens, ValidVariable, variableAt, VariableOpens, ResponseOpens, PieceOpens, TurnOpens, turnText, Begins, BeyondUnread}
+use Rattle.demands.specs.StreamsOpen.{FixedOpens, RequestOpens, ValidVariable, variableAt, VariableOpens, ResponseOpens, Begins, BeyondUnread}
 use Rattle.demands.proofs.RequestTells.{request-exactly-when}
 use Rattle.demands.proofs.VariableTells.{variable-exactly-when}
 use Rattle.demands.proofs.HeadTells.{response-exactly-when}
-use Rattle.demands.proofs.StreamTells.{step-exactly-when}
+use Rattle.stream_pieces.specs.declared.Framing.{Framing}
+use Rattle.stream_pieces.specs.Framing.{framingOf}
+use Rattle.stream_chunks.specs.Opens.{PieceOpens, Within, TurnOpens, turnText}
+use Rattle.stream_chunks.proofs.StepLaws.{step-exactly-when}
 
 -- ---- a part within the first n bytes
 
@@ -146,24 +149,24 @@ module _ (key : List ℕ) (counter m : ℕ) (s t : List ℕ) (e : Begins (m + 16
   piece-kept asked room d =
       record { usable = d .usable; whole = long (m + 16) s t e (d .whole); has-room = d .has-room; authentic = ap (authenticAt key counter) e ∙ d .authentic }
 
-turn-kept : (key : List ℕ) (counter : ℕ) (turn : Turn) (s t out : List ℕ) (c : Chunk) → TurnOpens key counter turn s (length out) c → Begins (c .used) s t
-    → TurnOpens key counter turn t (length out) c × (turnText key counter turn t out ≡ turnText key counter turn s out)
-turn-kept key counter Length s t out c d e =
+turn-kept : (f : Framing) (key : List ℕ) (counter : ℕ) (turn : Turn) (s t out : List ℕ) (c : Chunk) → TurnOpens f key counter turn s (length out) c → Begins (c .used) s t
+    → TurnOpens f key counter turn t (length out) c × (turnText key counter turn t out ≡ turnText key counter turn s out)
+turn-kept f key counter Length s t out c d e =
     let u : Begins 18 s t = subst (λ (n : ℕ). Begins n s t) (ap (λ (x : Chunk). x .used) (d .1 .1)) e in (
       (
         piece-kept key counter 2 s t u 0 (length out) (d .0),
         (
-          subst (λ (x : List ℕ). 0 < be 2 (openAt key counter x)) (sym u) (d .1 .0),
+          subst (λ (x : List ℕ). Within f (be 2 (openAt key counter x))) (sym u) (d .1 .0),
           d .1 .1 ∙ ap (λ (x : List ℕ). record { used = 18; length = be 2 (openAt key counter x) }) (sym u),
         ),
       ),
       refl,
     )
-turn-kept key counter (Payload n) s t out c d e =
+turn-kept f key counter (Payload n) s t out c d e =
     let u : Begins (n + 16) s t = subst (λ (k : ℕ). Begins k s t) (ap (λ (x : Chunk). x .used) (d .1 .1)) e in
     ((piece-kept key counter n s t u n (length out) (d .0), d .1), ap (λ (x : List ℕ). put out 0 (openAt key counter x)) u)
-turn-kept key counter Ended s t out c d e = absurd d
-turn-kept key counter (Variable n) s t out c d e = absurd d
+turn-kept f key counter Ended s t out c d e = absurd d
+turn-kept f key counter (Variable n) s t out c d e = absurd d
 
 -- ---- the whole
 
@@ -192,10 +195,10 @@ beyond-unread =
           let y = response-exactly-when method key clock requestSalt t fits size h st in
           y .always-when (response-kept method key clock s t requestSalt h st (x .only-when a) e);
       steps = λ st s t out c a e.
-          let x = step-exactly-when st s out c in
-          let y = step-exactly-when st t out c in
+          let x = step-exactly-when framingOf st s out c in
+          let y = step-exactly-when framingOf st t out c in
           let d = x .only-when a in
-          let k = turn-kept (streamKey st) (st .counter) (st .turn) s t out c (d .opens) e in
+          let k = turn-kept (framingOf (st .method)) (streamKey st) (st .counter) (st .turn) s t out c (d .opens) e in
           let b = y .always-when (record { known = d .known; opens = k .0 }) in
           (b, y .opened-text b ∙ k .1 ∙ sym (x .opened-text a));
     }

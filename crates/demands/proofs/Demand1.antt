@@ -28,7 +28,7 @@ use Rattle.demands.specs.Demand1.{SealAnswered, sealed, refused, SealKee
 use Rattle.demands.specs.Orders.{saidSealed, sealOrder}
 use Rattle.demands.proofs.DatagramDemands.{openers-keep}
 use Rattle.demands.proofs.DatagramSealing.{answers-length, writes-length}
-use Rattle.demands.proofs.OrderLaws.{of-order}
+use Rattle.protocol.proofs.OrderLaws.{of-order}
 use Rattle.demands.proofs.Orders.{orders}
 use Rattle.demands.proofs.StreamDemands.{streams-demand1}
 

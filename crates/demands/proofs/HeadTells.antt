@@ -7,7 +7,7 @@ use Prim.Native.Nat.{ℕ, _≤_}
 use native.Mathlib.Omega.{arith}
 use lib.Dec.{eqb, leb}
 use lib.ListN.{length, getD, drop}
-use borrow.Author.Tests.{eq-eqb, ne-eqb, le-leb, leb-true, eqb-true, eqb-false}
+use borrow.Author.Tests.{eq-eqb, le-leb, leb-true, eqb-true}
 use Rattle.octets.specs.Buffers.{same}
 use Rattle.octets.specs.Numbers.{be}
 use Rattle.octets.proofs.BufferLaws.{same-refl, same-eq}
@@ -17,7 +17,10 @@ use Rattle.protocol.specs.Refusal.{refusalNumber}
 use Rattle.protocol.specs.Method.{keyFits, saltLength}
 use Rattle.protocol.specs.Subkey.{subkey}
 use Rattle.protocol.specs.Time.{timeValid}
-use Rattle.stream_pieces.specs.Pieces.{isEmpty, authenticAt, openAt, subkeyWords}
+use Rattle.protocol.specs.Orders.{among}
+use Rattle.stream_pieces.specs.Framing.{isEmpty}
+use Rattle.stream_pieces.proofs.FramingLaws.{empty-zero, some-left, not-zero-some}
+use Rattle.stream_pieces.specs.Pieces.{authenticAt, openAt, subkeyWords}
 use Rattle.stream_heads.specs.Heads.{frontLength, fixedOf, fieldsOf, readFixed, openFixed}
 use Rattle.stream_open.specs.declared.Turn.the-variants.{Payload}
 use Rattle.stream_open.specs.declared.Receiver.{Receiver}
@@ -29,7 +32,7 @@ use Rattle.stream_open_response.specs.declared.ResponseOpened.{ResponseOpened}
 use Rattle.stream_open_response.specs.declared.ResponseOpened.the-variants.{Accepted as Answered, Refused as Unanswered}
 use Rattle.stream_open_response.specs.Responses.{bindingOf, boundAs, boundOf, responseAt, openedResponse}
 use Rattle.stream_open.specs.Chunks.{receiver}
-use Rattle.demands.specs.StreamsKeep.{among, saltOf, ofRequest, ofFront, ofResponse, ResponseAnswered, accepted-response, refused-response}
+use Rattle.demands.specs.StreamsKeep.{saltOf, ofRequest, ofFront, ofResponse, ResponseAnswered, accepted-response, refused-response}
 use Rattle.demands.specs.StreamsOpen.{FixedOpens, ResponseOpens, ResponseExactlyWhen, ResponseEmpty, ResponseEmptyExactlyWhen}
 
 -- ---- the fixed header
@@ -165,7 +168,7 @@ module _ (method : ℕ) (key : List ℕ) (clock : ℕ) (requestSalt s : List ℕ
         size = f .length;
         fixed-opens = fixed-tells response-key 1 clock (fixedOf salts salts s) f ef;
         for-us = same-eq _ requestSalt (e₁ .test);
-        not-empty = let n = eqb-false (f .length) 0 (e₂ .test) in omega arith;
+        not-empty = some-left (f .length) (e₂ .test);
         says = sym (ap (λ (x : ResponseOpened). responseIn x h) (e₂ .then));
         stream = sym (ap (λ (x : ResponseOpened). responseStream x st) (e₂ .then));
       }
@@ -187,7 +190,7 @@ module _ (method : ℕ) (key : List ℕ) (clock : ℕ) (requestSalt s : List ℕ
       let ew = le-leb (frontLength salts salts) (length s) (d .front-whole) in
       let ef = fixed-given response-key 1 clock (fixedOf salts salts s) (d .time) (d .size) (d .fixed-opens) in
       let eo = ap (λ (x : List ℕ). same x requestSalt) (d .for-us) ∙ same-refl requestSalt in
-      let en = ne-eqb (d .size) 0 (λ z. omega (arith, z, d .not-empty)) in
+      let en = not-zero-some (d .size) (λ z. omega (arith, z, d .not-empty)) in
       (λ i. cond (fits i && es i)
       (cond (ew i) (boundAs method (subkeyWords response-key) (frontLength salts salts) (eo i) (ef i))
       (Unanswered (More (frontLength salts salts)))) (Unanswered Settings))
@@ -251,7 +254,7 @@ fixed-not-empty r o = go (eqb (refusalNumber r) 14) refl
     go true e = absurd (false≢true (ap (λ (n : ℕ). among (4 ∷ 6 ∷ 7 ∷ []) n) (sym (eqb-true (refusalNumber r) 14 e)) ∙ o))
 
 is-0 : (good : ResponseOpened) (n : ℕ) (b : Bool) → isEmptied good ≡ 0 → isEmpty n ≡ b → cond b (Unanswered Empty) good ≡ Unanswered Empty → n ≡ 0
-is-0 good n true o h e = eqb-true n 0 h
+is-0 good n true o h e = empty-zero n h
 is-0 good n false o h e = absurd (not-emptied o e)
 
 module _ (method : ℕ) (key : List ℕ) (clock : ℕ) (requestSalt s : List ℕ) where

@@ -9,7 +9,7 @@ use native.Mathlib.Omega.{arith}
 use lib.Dec.{eqb, leb, ltb}
 use lib.ListN.{length, getD, take, drop, length-drop}
 use lib.Seq.{length-take-le}
-use borrow.Author.Tests.{leb-true, ne-eqb}
+use borrow.Author.Tests.{leb-true, eq-eqb, ne-eqb}
 use Rattle.octets.specs.Buffers.{same}
 use Rattle.octets.specs.Numbers.{be}
 use Rattle.session_record.specs.declared.Peer.{Peer}
@@ -41,14 +41,14 @@ use Rattle.salt_pool.specs.declared.Met.the-variants.{Room as Free, Replay as K
 use Rattle.salt_pool.specs.Pool.{meet as meetSalt, lawful as lawfulPool}
 use Rattle.stream_seal.specs.declared.Sender.{Sender}
 use Rattle.stream_pieces.specs.Pieces.{authenticAt, openAt, subkeyWords, maxChunk, lastCounter}
-use Rattle.stream_seal.specs.Sealing.{moved, sizeAnswer, chunkAnswer}
+use Rattle.stream_seal.specs.Sealing.{moved, framedAnswer, chunkAnswer}
 use Rattle.stream_seal_heads.specs.HeadSealing.{variableLength, begun, sizesFit, paddingLawful, requestAnswer, responseAnswer}
 use Rattle.stream_open.specs.declared.Turn.{Turn}
 use Rattle.stream_open.specs.declared.Turn.the-variants.{Variable, Length, Payload, Ended}
 use Rattle.stream_open.specs.declared.Receiver.{Receiver}
-use Rattle.stream_open.specs.declared.Chunk.{Chunk}
-use Rattle.stream_open.specs.declared.Stepped.{Stepped}
-use Rattle.stream_open.specs.Chunks.{streamKey, pieceAnswer, lengthRead, lengthAnswer as lengthRuled, turnAnswer, stepAnswer}
+use Rattle.stream_open.specs.Chunks.{streamKey, stepAnswer}
+use Rattle.stream_open.specs.Steps.{lengthRead, lengthAnswer as lengthRuled, turnAnswer}
+use Rattle.stream_open.specs.Steps as steps
 use Rattle.stream_heads.specs.declared.Fixed.{Fixed}
 use Rattle.stream_heads.specs.declared.FixedRead.{FixedRead}
 use Rattle.stream_heads.specs.declared.FixedRead.the-variants.{Read as Fields, Refused as Unread}
@@ -59,10 +59,16 @@ use Rattle.stream_open_request.specs.declared.Request.{Request}
 use Rattle.stream_open_request.specs.Requests.{metAs, fixedAs, readFront, settings, openedAs, openedRequest}
 use Rattle.stream_open_variable.specs.declared.VariableHeader.{VariableHeader}
 use Rattle.stream_open_variable.specs.Variable.{paddingAt, paddingFits, headerWith as variableWith, readVariable, headerAnswer, turnVariable, variableAnswer}
+use Rattle.stream_pieces.specs.Framing.{framingOf, isEmpty}
+use Rattle.stream_pieces.proofs.FramingLaws.{empty-zero, some-left}
 use Rattle.stream_pieces.proofs.LengthLaws.{length-openAt}
 use Rattle.demands.specs.Datagrams.{tagGood}
-use Rattle.demands.specs.Orders.{Rule, rule, more, Said, gives, first, refusesWith, otherMethod, otherKey, addressIn, noAddress, othersDatagram, notFresh, noRoom, saidOpened, openOrder, openedHeader, isReplay, isFull, badVariable, saidRequest, requestOrder, requestOpened, otherTurn, headerSize, saidVariable, variableOrder, headerOpened, saidResponse, responseOrder, responseOpened, isEnded, noStep, emptyLength, textBytes, dueBytes, lengthTold, saidStep, stepOrder, chunkOpened, ownHeader, saidSealed, datagramBytes, sealOrder, saidPiece, sealRequestOrder, requestSealed, sealResponseOrder, responseSealed, sealChunkOrder, chunkSealed, saidBegun, isAlive, beginOrder, sessionBegun, Orders}
-use Rattle.demands.proofs.OrderLaws.{next, unless, done, stops, passes, split, not-and, under, under-or-over, other-key, other-method, unsuited, unsuited-both, bad-padding, same-ids, bad-behind}
+use Rattle.protocol.specs.Orders.{Rule, rule, more, Said, gives, first, refusesWith}
+use Rattle.stream_chunks.specs.Orders.{isEnded, textBytes, dueBytes, lengthTold, saidStep, saidPiece}
+use Rattle.stream_chunks.proofs.ChunkOrders.{piece-order, size-order}
+use Rattle.protocol.proofs.OrderLaws.{next, unless, done, stops, passes, split, not-and, under, under-or-over}
+use Rattle.demands.specs.Orders.{otherMethod, otherKey, addressIn, noAddress, othersDatagram, notFresh, noRoom, saidOpened, openOrder, openedHeader, isReplay, isFull, badVariable, saidRequest, requestOrder, requestOpened, otherTurn, headerSize, saidVariable, variableOrder, headerOpened, saidResponse, responseOrder, responseOpened, noStep, emptyLength, stepOrder, chunkOpened, ownHeader, saidSealed, datagramBytes, sealOrder, sealRequestOrder, requestSealed, sealResponseOrder, responseSealed, sealChunkOrder, chunkSealed, saidBegun, isAlive, beginOrder, sessionBegun, Orders}
+use Rattle.demands.proofs.OrderLaws.{other-key, other-method, unsuited, unsuited-both, bad-padding, same-ids, bad-behind}
 
 -- ---- opening a datagram
 
@@ -174,29 +180,22 @@ open-order method key (some client) clock peer s t out =
 
 -- ---- a step
 
-module _ (st : Receiver) (s : List ℕ) (room : ℕ) where
-  -- 11, 10, 3, 4 of a piece of n bytes of plaintext, and what is said of it then
-  piece-order : (n asked : ℕ) (good : Stepped) (rs : List Rule) (c : Chunk) → saidStep good ≡ first rs c
-      → saidStep (pieceAnswer st n s asked room good)
-      ≡ first
-      (rule 11 (eqb (st .counter) (2 ^ 64 - 1)) ∷ more (n + 16) (ltb (length s) (n + 16)) ∷ rule 3 (ltb room asked)
-      ∷ rule 4 (not (authenticAt (streamKey st) (st .counter) (take (n + 16) s))) ∷ rs)
-      c
-  unfolding pieceAnswer
-  piece-order n asked good rs c said =
-      unless saidStep (eqb (st .counter) (2 ^ 64 - 1)) _ _ c refl refl λ _.
-      next saidStep (leb (n + 16) (length s)) _ _ c (under (length s) (n + 16)) refl λ _.
-      next saidStep (leb asked room) _ _ c (under room asked) refl λ _.
-      next saidStep (authenticAt (streamKey st) (st .counter) (take (n + 16) s)) _ rs c refl refl λ _. said
+empty-length : (n : ℕ) → eqb n 0 ≡ isEmpty n
+empty-length n = go (isEmpty n) refl
+  where
+    go : (b : Bool) → isEmpty n ≡ b → eqb n 0 ≡ b
+    go true e = eq-eqb n 0 (empty-zero n e)
+    go false e = ne-eqb n 0 (λ z. omega (arith, z, some-left n e))
 
+module _ (st : Receiver) (s : List ℕ) (room : ℕ) where
   step-order : saidStep (stepAnswer st s room) ≡ first (stepOrder st s room) (chunkOpened st s room)
-  unfolding stepAnswer lengthRead
+  unfolding steps.stepAnswer lengthRead
   step-order =
       (unless saidStep (eqb (keyLength (st .method)) 0) (rule 1 (otherMethod (st .method))) _ (chunkOpened st s room) (other-method (st .method)) refl λ _.
       at (st .turn))
       ∙ split 1 (otherMethod (st .method)) (noStep (st .turn)) _ _
     where
-      at : (u : Turn) → saidStep (turnAnswer u st s room)
+      at : (u : Turn) → saidStep (turnAnswer (framingOf (st .method)) u st s room)
           ≡ first
           (rule 1 (noStep u) ∷ rule 4 (isEnded u) ∷ rule 11 (eqb (st .counter) (2 ^ 64 - 1)) ∷ more (textBytes u + 16) (ltb (length s) (textBytes u + 16))
           ∷ rule 3 (ltb room (dueBytes u)) ∷ rule 4 (not (authenticAt (streamKey st) (st .counter) (take (textBytes u + 16) s)))
@@ -206,30 +205,22 @@ module _ (st : Receiver) (s : List ℕ) (room : ℕ) where
             length = lengthTold u (be 2 (openAt (streamKey st) (st .counter) (take (textBytes u + 16) s)));
           })
       at Length =
-          piece-order 2 0 (lengthRuled (lengthRead st s)) _ _ (unless saidStep (eqb (lengthRead st s) 0) _ [] _ refl refl λ _. done _)
+          piece-order (streamKey st) (st .counter) s room 2 0 (lengthRuled (framingOf (st .method)) (lengthRead (streamKey st) (st .counter) s)) _ _
+          (unless saidStep (isEmpty (lengthRead (streamKey st) (st .counter) s)) _ [] _ (empty-length (lengthRead (streamKey st) (st .counter) s)) refl λ _. done _)
           ∙ passes 4 _ _ ∙ passes 1 _ _
       at (Payload m) =
-          unless saidStep (eqb m 0) _ _ _ refl refl λ _. piece-order m m _ _ _ (done _ ∙ passes 14 [] _) ∙ passes 4 _ _
+          unless saidStep (isEmpty m) _ _ _ (empty-length m) refl λ _. piece-order (streamKey st) (st .counter) s room m m _ _ _ (done _ ∙ passes 14 [] _) ∙ passes 4 _ _
       at Ended = stops 4 _ _ ∙ passes 1 _ _
       at (Variable m) = stops 1 _ _
 
 -- ---- sealing
 
--- 2 and 3 of a piece of n bytes behind others
-size-order : (n before room : ℕ) (s : Sender)
-    → saidPiece (sizeAnswer n before room s)
-    ≡ first (rule 2 (ltb 65535 n) ∷ rule 3 (ltb room (before + n + 16)) ∷ []) (before + n + 16, s)
-unfolding sizeAnswer
-size-order n before room s =
-    next saidPiece (leb n maxChunk) _ _ _ (under maxChunk n) refl λ _.
-    next saidPiece (leb (before + n + 16) room) _ [] _ (under room (before + n + 16)) refl λ _. done _
-
 chunk-order : (s : Sender) (payload room : ℕ) → saidPiece (chunkAnswer s payload room) ≡ first (sealChunkOrder s payload room) (chunkSealed s payload room)
-unfolding chunkAnswer
+unfolding framedAnswer
 chunk-order s payload room =
     unless saidPiece (eqb (keyLength (s .method)) 0) _ _ _ (other-method (s .method)) refl λ _.
-    unless saidPiece (eqb payload 0) _ _ _ refl refl λ _.
-    next saidPiece (ltb (s .counter) (lastCounter - 1)) _ _ _ refl refl λ _. size-order payload 18 room (moved s)
+    unless saidPiece (isEmpty payload) _ _ _ (empty-length payload) refl λ _.
+    next saidPiece (ltb (s .counter) (lastCounter - 1)) _ _ _ refl refl λ _. size-order maxChunk payload 18 room (moved s)
 
 module _ (method : ℕ) (key salt address : List ℕ) (padding payload room : ℕ) where
   request-seal-order : saidPiece (requestAnswer method key salt address padding payload room)
@@ -239,7 +230,7 @@ module _ (method : ℕ) (key salt address : List ℕ) (padding payload room : �
       next saidPiece (keyFits method (length key) && eqb (length salt) (saltLength method)) _ _ _ (unsuited method (length key) (length salt)) refl λ _.
       next saidPiece (isAddress address && (leb padding 900 && ltb 0 (padding + payload))) _ _ _
       (ap (_||_ (not (isAddress address))) (bad-padding padding payload) ∙ not-and (isAddress address) (leb padding 900 && ltb 0 (padding + payload))) refl λ _.
-      size-order (length address + 2 + padding + payload) (length salt + 27) room (begun method key salt)
+      size-order maxChunk (length address + 2 + padding + payload) (length salt + 27) room (begun method key salt)
 
 module _ (method : ℕ) (key salt requestSalt : List ℕ) (payload room : ℕ) where
   response-seal-order : saidPiece (responseAnswer method key salt requestSalt payload room)
@@ -248,8 +239,8 @@ module _ (method : ℕ) (key salt requestSalt : List ℕ) (payload room : ℕ) w
   response-seal-order =
       next saidPiece ((keyFits method (length key) && eqb (length salt) (saltLength method)) && eqb (length requestSalt) (length salt)) _ _ _
       (unsuited-both method (length key) (length salt) (length requestSalt)) refl λ _.
-      unless saidPiece (eqb payload 0) _ _ _ refl refl λ _.
-      size-order payload (length salt + 27 + length requestSalt) room (begun method key salt)
+      unless saidPiece (isEmpty payload) _ _ _ (empty-length payload) refl λ _.
+      size-order maxChunk payload (length salt + 27 + length requestSalt) room (begun method key salt)
 
 module _ (method k : ℕ) (sender : Session) (address : List ℕ) (padding payload room : ℕ) where
   abbrev total : ℕ
@@ -356,7 +347,8 @@ module _ (method : ℕ) (key : List ℕ) (clock : ℕ) (requestSalt s : List ℕ
       next saidResponse (leb (n + 27 + n) (length s)) _ _ _ (under (length s) (n + 27 + n)) refl λ e.
       fixed-order (λ (f : FixedRead). saidResponse (boundAs method (subkeyWords k) (n + 27 + n) ours f)) k 1 clock (take (27 + n) (drop n s)) _ _ (λ r. refl)
       (next saidResponse ours (rule 13 (not ours)) (nothing (length fixed - 2) ∷ []) (answered (length fixed - 2)) refl refl (λ _.
-      unless saidResponse (nothing (length fixed - 2) .when) (nothing (length fixed - 2)) [] (answered (length fixed - 2)) refl refl λ _. done _)
+      unless saidResponse (isEmpty (be 2 (drop (length fixed - 2) fixed))) (nothing (length fixed - 2)) [] (answered (length fixed - 2))
+      (empty-length (be 2 (drop (length fixed - 2) fixed))) refl λ _. done _)
       ∙ ap (λ (m : ℕ). first (rule 13 (not ours) ∷ nothing m ∷ []) (answered m)) (length-place k n n s (leb-true (n + 27 + n) (length s) e)))
 
 -- 8 and 9

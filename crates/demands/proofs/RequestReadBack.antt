@@ -47,7 +47,8 @@ use Rattle.demands.specs.StreamsOpen.{variableAt}
 use Rattle.demands.specs.StreamsBack.{sealedHeader, RequestBack, RequestsGivenBack}
 use Rattle.stream_pieces.proofs.LengthLaws.{length-sealAt}
 use Rattle.stream_seal_heads.proofs.HeadLengthLaws.{length-variablePart, length-requestAt}
-use Rattle.demands.proofs.StreamReadBack.{piece-back, answers, Sized, sized, salt-back, front-whole, behind-front, fixed-back, stream-key}
+use Rattle.stream_chunks.proofs.ChunkBackLaws.{piece-back, answers, Sized, sized}
+use Rattle.demands.proofs.StreamReadBack.{salt-back, front-whole, behind-front, fixed-back, stream-key}
 use Rattle.demands.proofs.VariableTells.{header-by, text-by}
 
 -- ---- the variable header of a request
@@ -124,7 +125,7 @@ pub record Requests (method : ℕ) (key salt address : List ℕ) (padding payloa
   pub one-address : isAddress address ≡ true
   pub padding-short : padding ≤ maxPadding
   pub filled : 0 < padding + payload
-  pub sizes : Sized (variableLength (length address) padding payload) (length salt + 27) room (begun method key salt) n next
+  pub sizes : Sized maxChunk (variableLength (length address) padding payload) (length salt + 27) room (begun method key salt) n next
 
 pub requests : (method : ℕ) (key salt address : List ℕ) (padding payload room n : ℕ) (next : Sender)
     → requestAnswer method key salt address padding payload room ≡ Bytes n next → Requests method key salt address padding payload room n next
@@ -141,7 +142,7 @@ requests method key salt address padding payload room n next e =
       one-address = asked .0;
       padding-short = leb-true padding maxPadding (pads .0);
       filled = ltb-true 0 (padding + payload) (pads .1);
-      sizes = sized (variableLength (length address) padding payload) (length salt + 27) room (begun method key salt) n next (e₂ .then);
+      sizes = sized maxChunk (variableLength (length address) padding payload) (length salt + 27) room (begun method key salt) n next (e₂ .then);
     }
 
 module _ (method : ℕ) (key salt : List ℕ) (time : ℕ) (address : List ℕ) (padding : ℕ) (payload : List ℕ) (space n : ℕ) (next : Sender)

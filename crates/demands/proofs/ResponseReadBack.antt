@@ -18,7 +18,9 @@ use Rattle.protocol.proofs.MethodLaws.{fits-sizes}
 use Rattle.protocol.specs.declared.Refusal.the-variants.{Settings, More, Empty}
 use Rattle.stream_seal.specs.declared.Sender.{Sender}
 use Rattle.stream_seal.specs.declared.Sealed.the-variants.{Bytes}
-use Rattle.stream_pieces.specs.Pieces.{isEmpty, sealAt, openAt, subkeyWords, keyOf, lastCounter}
+use Rattle.stream_pieces.specs.Framing.{framingOf, isEmpty}
+use Rattle.stream_pieces.proofs.FramingLaws.{some-left}
+use Rattle.stream_pieces.specs.Pieces.{sealAt, openAt, subkeyWords, keyOf, maxChunk, lastCounter}
 use Rattle.stream_seal_heads.specs.HeadSealing.{front, responseOf, response, begun, sizesFit, responseAnswer}
 use Rattle.stream_open.specs.declared.Turn.the-variants.{Length, Payload}
 use Rattle.stream_heads.specs.declared.FixedRead.the-variants.{Read}
@@ -28,7 +30,9 @@ use Rattle.stream_open.specs.Chunks.{receiver, stepAnswer, stepOut}
 use Rattle.stream_open_response.specs.Responses.{bindingOf, boundAs, boundOf, responseAt, openedResponse}
 use Rattle.demands.specs.StreamsBack.{ResponseBack, ResponsesGivenBack}
 use Rattle.stream_seal_heads.proofs.HeadLengthLaws.{length-responseOf}
-use Rattle.demands.proofs.StreamReadBack.{answers, denied, Sized, sized, sent-behind, payload-step, payload-out, salt-back, front-whole, behind-front, binding-back, fixed-back, stream-key}
+use Rattle.stream_chunks.specs.Opens.{Within}
+use Rattle.stream_chunks.proofs.ChunkBackLaws.{answers, denied, Sized, sized, sent-behind, payload-step, payload-out}
+use Rattle.demands.proofs.StreamReadBack.{salt-back, front-whole, behind-front, binding-back, fixed-back, stream-key}
 
 -- ---- the head of a response
 
@@ -37,7 +41,7 @@ pub record Responds (method : ℕ) (key salt binding : List ℕ) (payload room n
   pub salt-fits : length salt ≡ saltLength method
   pub binding-fits : length binding ≡ length salt
   pub some : isEmpty payload ≡ false
-  pub sizes : Sized payload (length salt + 27 + length binding) room (begun method key salt) n next
+  pub sizes : Sized maxChunk payload (length salt + 27 + length binding) room (begun method key salt) n next
 
 pub responds : (method : ℕ) (key salt binding : List ℕ) (payload room n : ℕ) (next : Sender)
     → responseAnswer method key salt binding payload room ≡ Bytes n next → Responds method key salt binding payload room n next
@@ -52,7 +56,7 @@ responds method key salt binding payload room n next e =
       salt-fits = eqb-true (length salt) (saltLength method) (keyed .1);
       binding-fits = eqb-true (length binding) (length salt) (bound .1);
       some = e₂ .test;
-      sizes = sized payload (length salt + 27 + length binding) room (begun method key salt) n next (e₂ .then);
+      sizes = sized maxChunk payload (length salt + 27 + length binding) room (begun method key salt) n next (e₂ .then);
     }
 
 module _ (method : ℕ) (key salt binding : List ℕ) (time : ℕ) (payload : List ℕ) (space n : ℕ) (next : Sender)
@@ -60,6 +64,10 @@ module _ (method : ℕ) (key salt binding : List ℕ) (time : ℕ) (payload : Li
   where
     response-facts : Responds method key salt binding (length payload) space n next
     response-facts = responds method key salt binding (length payload) space n next answered
+
+    -- a first payload that was sealed is not empty
+    allows : Within (framingOf method) (length payload)
+    allows = (some-left (length payload) (response-facts .some), refl)
 
     abbrev response-key : List ℕ
     response-key = subkey key salt
@@ -171,15 +179,15 @@ module _ (method : ℕ) (key salt binding : List ℕ) (time : ℕ) (payload : Li
                 (receiver method (Payload (length payload)) 1 (words i)));
             payload-read =
                 (λ i. stepAnswer (receiver method (Payload (length payload)) 1 (sym words i)) (there i) (length out))
-                ∙ payload-step method 1 (subkeyWords response-key) known-method one-usable payload rest (response-facts .some) (length out) h;
+                ∙ payload-step (framingOf method) method 1 (subkeyWords response-key) known-method one-usable payload rest allows (length out) h;
             payload-written =
                 (λ i. stepOut (receiver method (Payload (length payload)) 1 (sym words i)) (there i) out)
-                ∙ payload-out method 1 (subkeyWords response-key) known-method one-usable payload rest (response-facts .some) out h;
+                ∙ payload-out (framingOf method) method 1 (subkeyWords response-key) known-method one-usable payload rest allows out h;
             payload-next = λ i. receiver (sym (response-facts .sizes .after) i .method) Length (sym (response-facts .sizes .after) i .counter) (next .subkey);
             counter-two = ap (λ (x : Sender). x .counter) (response-facts .sizes .after);
             left =
                 ap (drop (length payload + 16)) there
-                ∙ sent-behind method 1 (subkeyWords response-key) known-method one-usable payload rest (length payload) refl;
+                ∙ sent-behind (framingOf method) method 1 (subkeyWords response-key) known-method one-usable payload rest (length payload) refl;
           }
 
 pub response-back : ResponsesGivenBack

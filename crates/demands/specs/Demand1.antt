@@ -21,7 +21,8 @@ use Rattle.reply_session.specs.Beginning.{replyBegun}
 use Rattle.reply_session.specs.Exactly.{ReplyBeginsExactly}
 use Rattle.datagram_seal.specs.Sealing.{clientSender, sealAnswer, sealNext, datagram, sealOut}
 use Rattle.demands.specs.Datagrams.{OpenersKeep}
-use Rattle.demands.specs.StreamsKeep.{among, StreamsDemand1}
+use Rattle.demands.specs.StreamsKeep.{StreamsDemand1}
+use Rattle.protocol.specs.Orders.{among}
 
 -- ---- sealing a datagram
 

@@ -3,7 +3,7 @@
 -- its value where none does. Numbers, sizes and places are written out, as the scope has them.
 -- Assumes nothing.
 use mathlib.Core.Path.{_≡_}
-use mathlib.Core.Bool.{Bool, true, false, cond, not, _&&_, _||_}
+use mathlib.Core.Bool.{Bool, true, false, not, _&&_, _||_}
 use mathlib.Core.List.{List, [], _∷_}
 use mathlib.Core.Option.{Option, none, some}
 use Prim.Native.Nat.{ℕ, _+_, _-_, _^_}
@@ -15,8 +15,7 @@ use Rattle.session_record.specs.declared.Peer.{Peer}
 use Rattle.session_table.specs.Table.{recordAt, lawful, freshIn, sessionPlace, freePlace}
 use Rattle.session_book.specs.Call.{Answer, refused, opened}
 use Rattle.protocol.specs.Method.{saltLength}
-use Rattle.protocol.specs.declared.Refusal.{Refusal}
-use Rattle.protocol.specs.Refusal.{refusalNumber, wantedBytes}
+use Rattle.protocol.specs.Orders.{Rule, rule, more, Said, gives, refuses, first, refusesWith}
 use Rattle.protocol.specs.Subkey.{subkey}
 use Rattle.protocol.specs.Time.{timeValid}
 use Rattle.socks5.specs.declared.Address.{Address}
@@ -41,7 +40,7 @@ use Rattle.salt_pool.specs.declared.Met.the-variants.{Room, Replay, Full}
 use Rattle.salt_pool.specs.Pool.{meet, lawful as lawfulPool}
 use Rattle.stream_seal.specs.declared.Sender.{Sender}
 use Rattle.stream_seal.specs.declared.Sealed.{Sealed}
-use Rattle.stream_seal.specs.declared.Sealed.the-variants.{Bytes, Refused as Unsealed}
+use Rattle.stream_chunks.specs.Orders.{isEnded, textBytes, dueBytes, lengthTold, saidStep, saidPiece}
 use Rattle.stream_pieces.specs.Pieces.{authenticAt, openAt, subkeyWords}
 use Rattle.stream_seal.specs.Sealing.{chunkAnswer}
 use Rattle.stream_seal_heads.specs.HeadSealing.{requestAnswer, responseAnswer}
@@ -50,7 +49,6 @@ use Rattle.stream_open.specs.declared.Turn.the-variants.{Variable, Length, Payl
 use Rattle.stream_open.specs.declared.Receiver.{Receiver}
 use Rattle.stream_open.specs.declared.Chunk.{Chunk}
 use Rattle.stream_open.specs.declared.Stepped.{Stepped}
-use Rattle.stream_open.specs.declared.Stepped.the-variants.{Opened, Refused as Unopened}
 use Rattle.stream_open.specs.Chunks.{streamKey, stepAnswer}
 use Rattle.stream_open_response.specs.declared.Response.{Response}
 use Rattle.stream_open_response.specs.declared.ResponseOpened.{ResponseOpened}
@@ -65,33 +63,6 @@ use Rattle.stream_open_variable.specs.declared.VariableOpened.{VariableOpened}
 use Rattle.stream_open_variable.specs.declared.VariableOpened.the-variants.{Header as Headed, Refused as Unheaded}
 use Rattle.stream_open_variable.specs.Variable.{variableAnswer}
 use Rattle.demands.specs.Datagrams.{tagGood}
-
--- ---- the first of a list
-
--- a refusal's number, what it adds, and the condition under which it is given
-pub record Rule : Type 0 where
-  pub number : ℕ
-  pub adds : ℕ
-  pub when : Bool
-
-abbrev pub rule : ℕ → Bool → Rule
-rule n b = record { number = n; adds = 0; when = b }
-
--- number 10 adds how many bytes are wanted in all
-abbrev pub more : ℕ → Bool → Rule
-more wanted b = record { number = 10; adds = wanted; when = b }
-
--- what a call says: a refusal's number with what it adds, or its value
-pub data Said (A : Type 0) : Type 0 where
-  refuses : (number adds : ℕ) → Said A
-  gives : A → Said A
-
-unfoldable pub first : {A : Type 0} → List Rule → A → Said A
-first [] v = gives v
-first (r ∷ rs) v = cond (r .when) (refuses (r .number) (r .adds)) (first rs v)
-
-abbrev pub refusesWith : {A : Type 0} → Refusal → Said A
-refusesWith r = refuses (refusalNumber r) (wantedBytes r)
 
 -- ---- settings
 
@@ -235,13 +206,6 @@ module _ (method : ℕ) (key : List ℕ) (clock : ℕ) (s pool : List ℕ) where
 
 -- ---- then the variable header: 1, 4 (ended), 10, 3, 4, 5
 
--- a stream that has ended
-abbrev pub isEnded : Turn → Bool
-isEnded Length = false
-isEnded (Payload m) = false
-isEnded Ended = true
-isEnded (Variable m) = false
-
 -- one that is not at this turn, or not with counter 1; one that has ended is at no turn
 abbrev pub otherTurn : Turn → (counter : ℕ) → Bool
 otherTurn (Variable m) counter = not (eqb counter 1)
@@ -353,30 +317,6 @@ emptyLength (Payload m) read = false
 emptyLength Ended read = false
 emptyLength (Variable m) read = false
 
--- the plaintext of the piece that is next, and the bytes due, which a length has none of
-abbrev pub textBytes : Turn → ℕ
-textBytes Length = 2
-textBytes (Payload m) = m
-textBytes Ended = 0
-textBytes (Variable m) = m
-
-abbrev pub dueBytes : Turn → ℕ
-dueBytes Length = 0
-dueBytes (Payload m) = m
-dueBytes Ended = 0
-dueBytes (Variable m) = m
-
--- the length read, or the payload's
-abbrev pub lengthTold : Turn → (read : ℕ) → ℕ
-lengthTold Length read = read
-lengthTold (Payload m) read = m
-lengthTold Ended read = 0
-lengthTold (Variable m) read = m
-
-abbrev pub saidStep : Stepped → Said Chunk
-saidStep (Opened c) = gives c
-saidStep (Unopened r) = refusesWith r
-
 module _ (st : Receiver) (s : List ℕ) (room : ℕ) where
   abbrev piece : List ℕ
   piece = take (textBytes (st .turn) + 16) s
@@ -428,10 +368,6 @@ module _ (method k : ℕ) (sender : Session) (address : List ℕ) (padding paylo
       ∷ []
 
 -- ---- sealing a request's head: 1, 12, 2, 3; a response's: 1, 14, 2, 3; a chunk: 1, 14, 11, 2, 3
-
-abbrev pub saidPiece : Sealed → Said (ℕ × Sender)
-saidPiece (Bytes n next) = gives (n, next)
-saidPiece (Unsealed r) = refusesWith r
 
 -- behind a head two counters are used
 abbrev pub senderBehind : ℕ → List ℕ → List ℕ → Sender

@@ -1,27 +1,27 @@
 -- Demand 1 for streams: every call ends with an answer or a refusal, and what a refusal leaves.
 -- Assumes nothing.
 use mathlib.Core.Path.{_≡_}
-use mathlib.Core.Bool.{Bool, true, false, _||_}
+use mathlib.Core.Bool.{Bool, true, false}
 use mathlib.Core.List.{List, [], _∷_, _++_}
 use Prim.Native.Nat.{ℕ, _-_, _≤_}
 use lib.ListN.{length, take, drop, replicate}
 use Rattle.octets.specs.Buffers.{put}
 use Rattle.octets.specs.Numbers.{be}
 use Rattle.protocol.specs.declared.Refusal.{Refusal}
-use Rattle.protocol.specs.declared.Refusal.the-variants.{Settings, NotAuthentic, Malformed, More, Empty}
+use Rattle.protocol.specs.declared.Refusal.the-variants.{Settings, NotAuthentic, Malformed, More}
 use Rattle.protocol.specs.Refusal.{refusalNumber}
+use Rattle.protocol.specs.Orders.{among}
 use Rattle.protocol.specs.Method.{keyLength, saltLength}
+use Rattle.stream_pieces.specs.Framing.{framingOf}
 use Rattle.stream_seal.specs.declared.Sender.{Sender}
 use Rattle.stream_seal.specs.declared.Sealed.{Sealed}
-use Rattle.stream_seal.specs.declared.Sealed.the-variants.{Bytes, Refused as Unsealed}
-use Rattle.stream_seal.specs.Sealing.{chunk, senderKey, chunkAnswer, sealOut}
+use Rattle.stream_seal.specs.Sealing.{chunk, senderKey, chunkAnswer}
 use Rattle.stream_seal_heads.specs.HeadSealing.{request, response, requestAnswer, responseAnswer}
 use Rattle.stream_open.specs.declared.Turn.{Turn}
 use Rattle.stream_open.specs.declared.Turn.the-variants.{Variable, Length, Payload, Ended}
 use Rattle.stream_open.specs.declared.Receiver.{Receiver}
-use Rattle.stream_open.specs.declared.Chunk.{Chunk}
 use Rattle.stream_open.specs.declared.Stepped.{Stepped}
-use Rattle.stream_open.specs.declared.Stepped.the-variants.{Opened, Refused as Unopened}
+use Rattle.stream_open.specs.declared.Stepped.the-variants.{Refused as Unopened}
 use Rattle.stream_open_response.specs.declared.Response.{Response}
 use Rattle.stream_open_response.specs.declared.ResponseOpened.{ResponseOpened}
 use Rattle.stream_open_response.specs.declared.ResponseOpened.the-variants.{Accepted as Answered, Refused as Unanswered}
@@ -35,13 +35,9 @@ use Rattle.stream_open_variable.specs.declared.VariableOpened.{VariableOpened}
 use Rattle.stream_open_variable.specs.declared.VariableOpened.the-variants.{Header, Refused as Unheaded}
 use Rattle.stream_open_variable.specs.Variable.{variableAnswer, variableOut, variableNext}
 use Rattle.stream_open.specs.Chunks.{stepAnswer, stepOut, ended, stepNext}
-use lib.Dec.{eqb}
+use Rattle.stream_chunks.specs.Keeps.{StepKeeps, SealKeeps}
 
 -- ---- which refusals are given, by their numbers
-
-abbrev pub among : List ℕ → ℕ → Bool
-among [] n = false
-among (k ∷ ks) n = eqb n k || among ks n
 
 -- by the call for a request's front
 abbrev pub ofRequest : Refusal → Bool
@@ -63,9 +59,12 @@ ofFront r = among (4 ∷ 6 ∷ 7 ∷ []) (refusalNumber r)
 abbrev pub ofResponse : Refusal → Bool
 ofResponse r = among (1 ∷ 4 ∷ 6 ∷ 7 ∷ 10 ∷ 13 ∷ 14 ∷ []) (refusalNumber r)
 
--- by a step
-abbrev pub ofStep : Refusal → Bool
-ofStep r = among (1 ∷ 3 ∷ 4 ∷ 10 ∷ 11 ∷ 14 ∷ []) (refusalNumber r)
+-- by a step, and those of them that end the stream
+abbrev pub stepRefusals : List ℕ
+stepRefusals = 1 ∷ 3 ∷ 4 ∷ 10 ∷ 11 ∷ 14 ∷ []
+
+abbrev pub stepEnds : List ℕ
+stepEnds = 4 ∷ 14 ∷ []
 
 -- by the sealer of a request's head, of a response's, and of a chunk
 abbrev pub requestSealer : List ℕ
@@ -173,46 +172,7 @@ pub data ResponseAnswered (a : ResponseOpened) : Type 0 where
   accepted-response : (h : Response) (st : Receiver) → a ≡ Answered h st → ResponseAnswered a
   refused-response : (r : Refusal) → ofResponse r ≡ true → a ≡ Unanswered r → ResponseAnswered a
 
--- ---- a step
-
-pub data StepAnswered (a : Stepped) : Type 0 where
-  opened-step : (c : Chunk) → a ≡ Opened c → StepAnswered a
-  refused-step : (r : Refusal) → ofStep r ≡ true → a ≡ Unopened r → StepAnswered a
-
--- the bytes due: a payload's
-abbrev pub dueAt : Turn → ℕ
-dueAt Length = 0
-dueAt (Payload n) = n
-dueAt Ended = 0
-dueAt (Variable n) = 0
-
-pub record StepKeeps (st : Receiver) (s out : List ℕ) : Type 0 where
-  pub answered : StepAnswered (stepAnswer st s (length out))
-  pub refused-keeps-out : (r : Refusal) → stepAnswer st s (length out) ≡ Unopened r → stepOut st s out ≡ out
-  -- 4 and 14 end the stream, and no other refusal moves it
-  pub refused-keeps-state : (r : Refusal) → stepAnswer st s (length out) ≡ Unopened r → (refusalNumber r ≡ 4 → ⊥) → (refusalNumber r ≡ 14 → ⊥)
-      → stepNext st (stepAnswer st s (length out)) ≡ st
-  pub forged-ends : stepAnswer st s (length out) ≡ Unopened NotAuthentic → stepNext st (stepAnswer st s (length out)) ≡ ended st
-  pub empty-ends : stepAnswer st s (length out) ≡ Unopened Empty → stepNext st (stepAnswer st s (length out)) ≡ ended st
-  -- a stream that has ended opens nothing any more
-  pub ended-refuses : (keyLength (st .method) ≡ 0 → ⊥) → (bytes : List ℕ) (room : ℕ) → stepAnswer (ended st) bytes room ≡ Unopened NotAuthentic
-  pub past-due-kept : drop (dueAt (st .turn)) (stepOut st s out) ≡ drop (dueAt (st .turn)) out
-  pub length-kept : length (stepOut st s out) ≡ length out
-
 -- ---- sealing
-
--- with these refusals
-pub data SealAnswered (refusals : List ℕ) (a : Sealed) : Type 0 where
-  sealed-text : (n : ℕ) (next : Sender) → a ≡ Bytes n next → SealAnswered refusals a
-  refused-text : (r : Refusal) → among refusals (refusalNumber r) ≡ true → a ≡ Unsealed r → SealAnswered refusals a
-
--- the text that is written, where the sealer answers `a`
-pub record SealKeeps (refusals : List ℕ) (a : Sealed) (text out : List ℕ) : Type 0 where
-  pub answered : SealAnswered refusals a
-  pub refused-writes-nothing : (r : Refusal) → a ≡ Unsealed r → sealOut a text out ≡ out
-  pub sealed-length : (n : ℕ) (next : Sender) → a ≡ Bytes n next → (length text ≡ n) × (n ≤ length out)
-  pub past-length-kept : (n : ℕ) (next : Sender) → a ≡ Bytes n next → drop n (sealOut a text out) ≡ drop n out
-  pub length-kept : length (sealOut a text out) ≡ length out
 
 pub record SealersKeep : Type 0 where
   pub requests : (method : ℕ) (key salt : List ℕ) (time : ℕ) (address : List ℕ) (padding : ℕ) (payload out : List ℕ)
@@ -230,5 +190,5 @@ pub record StreamsDemand1 : Type 0 where
   pub more-again : MoreAsksAgain
   pub turns : (st : Receiver) (s out : List ℕ) → Turns st s out
   pub responses : (method : ℕ) (key : List ℕ) (clock : ℕ) (requestSalt s : List ℕ) → ResponseAnswered (openedResponse method key clock requestSalt s)
-  pub steps : (st : Receiver) (s out : List ℕ) → StepKeeps st s out
+  pub steps : (st : Receiver) (s out : List ℕ) → StepKeeps stepRefusals stepEnds (framingOf (st .method)) st s out
   pub sealing : SealersKeep

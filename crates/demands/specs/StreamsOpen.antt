@@ -17,10 +17,13 @@ use Rattle.socks5.specs.declared.Parsed.the-variants.{Found}
 use Rattle.socks5.specs.Address.{parseAt}
 use Rattle.salt_pool.specs.Pool.{store}
 use Rattle.salt_pool.specs.Runs.{Unkept, LowestFree}
-use Rattle.stream_pieces.specs.Pieces.{authenticAt, openAt, subkeyWords, lastCounter}
+use Rattle.stream_pieces.specs.Framing.{framingOf}
+use Rattle.stream_pieces.specs.Pieces.{authenticAt, openAt, subkeyWords}
+use Rattle.stream_chunks.specs.Opens as chunks
+use Rattle.stream_chunks.specs.Opens.{PieceOpens}
 use Rattle.stream_heads.specs.Heads.{maxPadding, frontLength, fixedOf}
 use Rattle.stream_open.specs.declared.Turn.{Turn}
-use Rattle.stream_open.specs.declared.Turn.the-variants.{Variable, Length, Payload, Ended}
+use Rattle.stream_open.specs.declared.Turn.the-variants.{Variable, Length, Payload}
 use Rattle.stream_open.specs.declared.Receiver.{Receiver}
 use Rattle.stream_open.specs.declared.Chunk.{Chunk}
 use Rattle.stream_open.specs.declared.Stepped.the-variants.{Opened, Refused as Unopened}
@@ -155,40 +158,8 @@ ResponseEmptyExactlyWhen =
 
 -- ---- a step is accepted exactly when
 
--- a piece of n bytes of plaintext can be opened under a key and a counter, into room for as many bytes as are asked
-pub record PieceOpens (key : List ℕ) (counter n : ℕ) (s : List ℕ) (asked room : ℕ) : Type 0 where
-  pub usable : counter ≡ lastCounter → ⊥
-  pub whole : n + 16 ≤ length s
-  pub has-room : asked ≤ room
-  pub authentic : authenticAt key counter (take (n + 16) s) ≡ true
-
--- by turns: a length is what the piece says; a payload is as long as the length before it said; neither is 0
-abbrev pub TurnOpens : (key : List ℕ) (counter : ℕ) → Turn → List ℕ → (room : ℕ) → Chunk → Type 0
-TurnOpens key counter Length s room c =
-    PieceOpens key counter 2 s 0 room
-    × ((0 < be 2 (openAt key counter (take 18 s))) × (c ≡ record { used = 18; length = be 2 (openAt key counter (take 18 s)) }))
-TurnOpens key counter (Payload n) s room c = PieceOpens key counter n s n room × ((0 < n) × (c ≡ record { used = n + 16; length = n }))
-TurnOpens key counter Ended s room c = ⊥
-TurnOpens key counter (Variable n) s room c = ⊥
-
--- what the buffer holds then
-abbrev pub turnText : (key : List ℕ) (counter : ℕ) → Turn → List ℕ → List ℕ → List ℕ
-turnText key counter Length s out = out
-turnText key counter (Payload n) s out = put out 0 (openAt key counter (take (n + 16) s))
-turnText key counter Ended s out = out
-turnText key counter (Variable n) s out = out
-
-pub record StepOpens (st : Receiver) (s : List ℕ) (room : ℕ) (c : Chunk) : Type 0 where
-  pub known : keyLength (st .method) ≡ 0 → ⊥
-  pub opens : TurnOpens (streamKey st) (st .counter) (st .turn) s room c
-
-pub record StepExactly (st : Receiver) (s out : List ℕ) (c : Chunk) : Type 0 where
-  pub only-when : stepAnswer st s (length out) ≡ Opened c → StepOpens st s (length out) c
-  pub always-when : StepOpens st s (length out) c → stepAnswer st s (length out) ≡ Opened c
-  pub opened-text : stepAnswer st s (length out) ≡ Opened c → stepOut st s out ≡ turnText (streamKey st) (st .counter) (st .turn) s out
-
 abbrev pub StepExactlyWhen : Type 0
-StepExactlyWhen = (st : Receiver) (s out : List ℕ) (c : Chunk) → StepExactly st s out c
+StepExactlyWhen = chunks.StepExactlyWhen framingOf
 
 -- 14: a length that is good in all but that it is 0
 pub record StepEmpty (st : Receiver) (s : List ℕ) (room : ℕ) : Type 0 where

@@ -23,10 +23,10 @@ use Rattle.datagram_read.specs.Opening.{readAddress, readMain}
 use Rattle.datagram_open.specs.Deciding.{belongs}
 use Rattle.stream_pieces.specs.Pieces.{nonce as counterNonce}
 use Rattle.stream_seal_heads.specs.HeadSealing.{fixedPart as fixedHeader, variablePart}
-use Rattle.stream_open.specs.Chunks.{stepAnswer}
+use Rattle.stream_open.specs.Steps.{stepAnswer}
 use Rattle.stream_open_variable.specs.Variable.{headerAnswer, variableAnswer}
 use Rattle.words.specs.Answers.{refusedAnswer}
-use Rattle.relay.specs.Streams.{notSealing}
+use Rattle.stream_answers.specs.Chunks.{notSealing}
 use Rattle.edges.specs.Numbers.{methodFacts, tableFacts, poolFacts, addressFacts, datagramFacts, streamFacts, wordFacts, hostFacts, every, facts, MethodsFit, Material, Numbers}
 
 all-facts : T (every facts)

@@ -48,7 +48,9 @@ use Rattle.stream_seal_heads.specs.HeadSealing.{fixedPart as fixedHeader, varia
 use Rattle.stream_open.specs.declared.Turn.{Turn}
 use Rattle.stream_open.specs.declared.Turn.the-variants.{Variable, Length as LengthTurn, Payload, Ended}
 use Rattle.stream_open.specs.declared.Receiver.{Receiver}
-use Rattle.stream_open.specs.Chunks.{lengthAnswer, stepAnswer}
+use Rattle.stream_pieces.specs.Framing.{framingOf}
+use Rattle.stream_open.specs.Chunks.{stepAnswer}
+use Rattle.stream_open.specs.Steps.{lengthAnswer}
 use Rattle.stream_open.specs.declared.Stepped.the-variants.{Opened as StepOpened, Refused as StepRefused}
 use Rattle.stream_open_variable.specs.declared.VariableOpened.the-variants.{Refused as Unheaded}
 use Rattle.stream_open_variable.specs.Variable.{variableAnswer, variableNext}
@@ -336,7 +338,7 @@ streamFacts =
     ∷ fact (variablePart nameA 2 (7 ∷ [])) (3 ∷ 1 ∷ 0x61 ∷ 0 ∷ 80 ∷ 0 ∷ 2 ∷ 0 ∷ 0 ∷ 7 ∷ [])
     ∷ fact (counterNonce 258) (2 ∷ 1 ∷ 0 ∷ 0 ∷ 0 ∷ 0 ∷ 0 ∷ 0 ∷ 0 ∷ 0 ∷ 0 ∷ 0 ∷ [])
     -- a length of 0, and its neighbour; and a lent stream at a payload of 0
-    ∷ fact (map steppedNumber (lengthAnswer 0 ∷ lengthAnswer 1 ∷ lengthAnswer 65535 ∷ [])) (14 ∷ 0 ∷ 0 ∷ [])
+    ∷ fact (map steppedNumber (lengthAnswer (framingOf 1) 0 ∷ lengthAnswer (framingOf 1) 1 ∷ lengthAnswer (framingOf 2) 65535 ∷ [])) (14 ∷ 0 ∷ 0 ∷ [])
     ∷ number (steppedNumber (stepAnswer (streamAt (Payload 0)) [] 0)) 1
     -- a variable header's call on a stream with counter 1 and no bytes: 10, which wants the length and the tag, also of length 0
     ∷ fact (headedNumber (between 3) ∷ wantedBy (between 3)) (10 ∷ 19 ∷ [])

@@ -12,8 +12,8 @@ use Rattle.plan_pieces.specs.Plans.{fewest, passes}
 use Rattle.plan.specs.declared.Checked.the-variants.{Passed, Failed}
 use Rattle.plan.specs.Answers.{checkAnswer, roomAnswer, makeAnswer}
 use Rattle.plan.proofs.AnswerLaws.{check-by, make-by}
-use Rattle.demands.specs.Orders.{Rule, rule, first, refuses}
-use Rattle.demands.proofs.OrderLaws.{next, done, under}
+use Rattle.protocol.specs.Orders.{Rule, rule, first, refuses}
+use Rattle.protocol.proofs.OrderLaws.{next, done, under}
 use Rattle.plan_demands.specs.Plans.{KnownMethod, besides, Arguments}
 use Rattle.plan_demands.specs.PlanOrders.{saidMade, saidChecked, otherMethod, badArgument, planOrder, checkOrder, PlanOrders}
 use Rattle.plan_demands.proofs.CaseLaws.{Cases, unknown, wrong, lawful, cases}

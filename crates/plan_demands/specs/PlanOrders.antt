@@ -12,7 +12,7 @@ use Rattle.plan.specs.declared.Made.the-variants.{Datagrams, Refused as NotMade
 use Rattle.plan.specs.declared.Checked.{Checked}
 use Rattle.plan.specs.declared.Checked.the-variants.{Passed, Failed, Refused as NotChecked}
 use Rattle.plan.specs.Answers.{checkAnswer, makeAnswer}
-use Rattle.demands.specs.Orders.{Rule, rule, Said, gives, first, refusesWith}
+use Rattle.protocol.specs.Orders.{Rule, rule, Said, gives, first, refusesWith}
 use Rattle.plan_demands.specs.Plans.{besides}
 
 abbrev pub saidMade : Made → Said ℕ

@@ -1,3 +1,4 @@
 pub mod MethodLaws
 pub mod TimeLaws
 pub mod SubkeyLaws
+pub mod OrderLaws

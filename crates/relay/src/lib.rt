@@ -2,9 +2,9 @@
 // values into a lent answer. Whatever words and lengths a host lends have a meaning: nothing here has a `requires`. The words
 // of what a host holds, and of an answer, are in crate `words`.
 mod datagrams;
+mod edition_2017;
 mod plans;
 mod recordings;
 mod streams;
 
-// Refusal 1, which stands before every other.
-const SETTINGS: u64 = 1;
+pub use stream_answers::SETTINGS;

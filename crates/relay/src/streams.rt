@@ -1,22 +1,21 @@
-// Salt pools and streams.
+// Salt pools and streams of SIP022.
 use super::SETTINGS;
-use protocol::Refusal;
+use stream_answers::fits;
+use stream_answers::open_on;
+use stream_answers::seal_on;
 use stream_answers::write_request;
 use stream_answers::write_response;
 use stream_answers::write_sealed;
-use stream_answers::write_step;
 use stream_answers::write_variable;
+use stream_pieces::framing_of;
 use words::ANSWER;
-use words::ENDED;
-use words::SEALING;
-use words::STREAM;
 use words::is_receiver;
+use words::method_in;
 use words::receiver_in;
-use words::sender_in;
 ghost use mathlib.Core.Path.{_≡_};
 ghost use Rattle.salt_pool.specs.Pool.{makeLawful, made};
 ghost use Rattle.relay.specs.Datagrams.{settingsNumber};
-ghost use Rattle.relay.specs.Streams.{fits as fitsOf, notSealing, sealsRequest, sealsResponse, sealsChunk};
+ghost use Rattle.relay.specs.Streams.{sealsRequest, sealsResponse, sealsChunk};
 ghost use Rattle.relay.specs.Streams.{opensRequest, opensVariable, opensResponse, opensChunk};
 
 // Makes a salt pool of 1,537 words for a method.
@@ -29,16 +28,6 @@ pub extern "C" fn relay_pool_new(method: u64, pool: &mut [u64]) -> u64
         return 0;
     }
     SETTINGS
-}
-
-// Whether a lent stream and a lent answer have their lengths.
-fn fits(stream: usize, answer: usize) -> bool
-    ensures { λ r. ⌜ r ≡ fitsOf stream answer ⌝ }
-{
-    if stream != STREAM {
-        return false;
-    }
-    answer == ANSWER
 }
 
 // ---- sealing
@@ -109,22 +98,6 @@ pub extern "C" fn relay_stream_seal_response(
     SETTINGS
 }
 
-// Why a stream that is not at the turn of sealing is refused.
-fn not_sealing(turn: u64, method: u64, payload: usize) -> Refusal
-    ensures { λ r. ⌜ r ≡ notSealing turn method payload ⌝ }
-{
-    if turn == ENDED {
-        if protocol::key_length(method) == 0 {
-            return Refusal::Settings;
-        }
-        if payload == 0 {
-            return Refusal::Empty;
-        }
-        return Refusal::NotAuthentic;
-    }
-    Refusal::Settings
-}
-
 // Seals a length with its payload to the front of the lent buffer and moves the stream two counters further.
 #[no_mangle]
 pub extern "C" fn relay_stream_seal_chunk(
@@ -136,15 +109,7 @@ pub extern "C" fn relay_stream_seal_chunk(
     ensures { λ r. ⌜ record { number = r; out = now (out .exit); stream = now (stream .exit); answer = now (answer .exit) }
         ≡ sealsChunk (now (stream .entry)) (now (payload .entry)) (now (out .entry)) (now (answer .entry)) ⌝ }
 {
-    if fits(stream.len(), answer.len()) {
-        if stream[0] == SEALING {
-            let sealed = stream_seal::seal_chunk(sender_in(stream), payload, out);
-            return write_sealed(sealed, stream, answer);
-        }
-        let refusal = not_sealing(stream[0], stream[1], payload.len());
-        return refusal.number();
-    }
-    SETTINGS
+    seal_on(framing_of(method_in(stream)), stream, payload, out, answer)
 }
 
 // ---- heads
@@ -228,12 +193,5 @@ pub extern "C" fn relay_stream_open_chunk(
     ensures { λ r. ⌜ record { number = r; out = now (out .exit); stream = now (stream .exit); answer = now (answer .exit) }
         ≡ opensChunk (now (stream .entry)) (now (bytes .entry)) (now (out .entry)) (now (answer .entry)) ⌝ }
 {
-    if answer.len() != ANSWER {
-        return SETTINGS;
-    }
-    if is_receiver(stream) {
-        let step = stream_open::open_chunk(receiver_in(stream), bytes, out);
-        return write_step(step, stream, answer);
-    }
-    SETTINGS
+    open_on(framing_of(method_in(stream)), stream, bytes, out, answer)
 }

@@ -1,1 +1,3 @@
 mod ToldLaws
+pub mod ChunkLaws
+mod BeginLaws

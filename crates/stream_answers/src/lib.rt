@@ -1,5 +1,5 @@
 // What a call about a stream answers, told in words that a host lends: the stream as it is then, and an answer. Each function gives
-// 0 or the number of a refusal.
+// 0 or the number of a refusal. Calls about a chunk are in chunks.rt, and streams of SIP004 are begun in begin.rt.
 use protocol::Refusal;
 use stream_open::Step;
 use stream_open::Stepped;
@@ -21,6 +21,16 @@ ghost use Rattle.protocol.specs.Refusal.{refusalNumber};
 ghost use Rattle.words.specs.Answers.{answerWords, refusedAnswer};
 ghost use Rattle.words.specs.States.{streamSize};
 ghost use Rattle.stream_answers.specs.Told as told;
+
+mod begin;
+mod chunks;
+
+pub use begin::write_receiver;
+pub use begin::write_sender;
+pub use chunks::SETTINGS;
+pub use chunks::fits;
+pub use chunks::open_on;
+pub use chunks::seal_on;
 
 // Gives the stream and the number of bytes sealed to the caller.
 pub fn write_sealed(sealed: Sealed, stream: &mut [u64], answer: &mut [u64]) -> u64

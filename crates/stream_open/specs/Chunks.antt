@@ -1,22 +1,15 @@
--- Opening a stream behind its head, one piece a step: a length and its payload by turns (SIP022, section 3.1).
-use mathlib.Core.Bool.{cond}
+-- Opening a stream of SIP022 behind its head (section 3.1).
 use mathlib.Core.List.{List}
-use Prim.Native.Nat.{ℕ, _+_}
-use lib.Dec.{eqb, leb}
-use lib.ListN.{length, take}
-use Rattle.octets.specs.Buffers.{put}
-use Rattle.octets.specs.Numbers.{be}
-use Rattle.protocol.specs.declared.Refusal.{Refusal}
-use Rattle.protocol.specs.declared.Refusal.the-variants.{Settings, Room, NotAuthentic, More, Counter, Empty}
+use Prim.Native.Nat.{ℕ}
 use Rattle.protocol.specs.Method.{keyLength}
-use Rattle.protocol.specs.Refusal.{endsStream}
 use Rattle.stream_pieces.specs.declared.Subkey.{Subkey}
-use Rattle.stream_pieces.specs.Pieces.{tagLength, lengthPiece, isEmpty, authenticAt, openAt, keyOf, lastCounter}
+use Rattle.stream_pieces.specs.Framing.{framingOf}
+use Rattle.stream_pieces.specs.Pieces.{keyOf}
 use Rattle.stream_open.specs.declared.Turn.{Turn}
-use Rattle.stream_open.specs.declared.Turn.the-variants.{Variable, Length, Payload, Ended}
 use Rattle.stream_open.specs.declared.Receiver.{Receiver}
 use Rattle.stream_open.specs.declared.Stepped.{Stepped}
-use Rattle.stream_open.specs.declared.Stepped.the-variants.{Opened, Refused}
+use Rattle.stream_open.specs.Steps as steps
+pub use Rattle.stream_open.specs.Steps.{ended, refusedNext, stepNext}
 
 -- the key of a stream, by its method
 abbrev pub streamKey : Receiver → List ℕ
@@ -26,72 +19,9 @@ streamKey st = keyOf (st .subkey) (keyLength (st .method))
 abbrev pub receiver : ℕ → Turn → ℕ → Subkey → Receiver
 receiver method turn counter w = record { method = method; turn = turn; counter = counter; subkey = w }
 
--- ---- one piece of n bytes of plaintext: 11, 10, 3, 4; a length asks for no room
+-- the framing is the method's
+abbrev pub stepAnswer : Receiver → List ℕ → ℕ → Stepped
+stepAnswer st s room = steps.stepAnswer (framingOf (st .method)) st s room
 
-unfoldable pub pieceAnswer : Receiver → (n : ℕ) → List ℕ → (asked room : ℕ) → Stepped → Stepped
-pieceAnswer st n s asked room good =
-    cond (eqb (st .counter) lastCounter) (Refused Counter)
-    (cond (leb (n + tagLength) (length s))
-    (cond (leb asked room)
-    (cond (authenticAt (streamKey st) (st .counter) (take (n + tagLength) s)) good (Refused NotAuthentic)) (Refused Room))
-    (Refused (More (n + tagLength))))
-
--- what was read as a length
-unfoldable pub lengthRead : Receiver → List ℕ → ℕ
-lengthRead st s = be 2 (openAt (streamKey st) (st .counter) (take lengthPiece s))
-
--- 14 right behind the length's tag
-abbrev pub lengthAnswer : ℕ → Stepped
-lengthAnswer n = cond (isEmpty n) (Refused Empty) (Opened (record { used = lengthPiece; length = n }))
-
--- no length was opened that an empty payload would follow, so a stream at one is none of ours
-abbrev pub turnAnswer : Turn → Receiver → List ℕ → ℕ → Stepped
-turnAnswer Length st s room = pieceAnswer st 2 s 0 room (lengthAnswer (lengthRead st s))
-turnAnswer (Payload n) st s room =
-    cond (isEmpty n) (Refused Settings) (pieceAnswer st n s n room (Opened (record { used = n + tagLength; length = n })))
-turnAnswer Ended st s room = Refused NotAuthentic
-turnAnswer (Variable n) st s room = Refused Settings
-
--- 1, also of a stream at another turn, 4 of one that has ended, and the piece's
-unfoldable pub stepAnswer : Receiver → List ℕ → ℕ → Stepped
-stepAnswer st s room = cond (eqb (keyLength (st .method)) 0) (Refused Settings) (turnAnswer (st .turn) st s room)
-
--- ---- what is written: a payload, to the front of the buffer
-
-abbrev pub writtenBy : Stepped → Turn → List ℕ → List ℕ → List ℕ
-writtenBy (Opened c) (Payload n) plain out = put out 0 plain
-writtenBy (Opened c) Length plain out = out
-writtenBy (Opened c) Ended plain out = out
-writtenBy (Opened c) (Variable n) plain out = out
-writtenBy (Refused r) turn plain out = out
-
-abbrev pub payloadPiece : Turn → List ℕ → List ℕ
-payloadPiece (Payload n) s = take (n + tagLength) s
-payloadPiece Length s = s
-payloadPiece Ended s = s
-payloadPiece (Variable n) s = s
-
-unfoldable pub stepOut : Receiver → List ℕ → List ℕ → List ℕ
-stepOut st s out =
-    writtenBy (stepAnswer st s (length out)) (st .turn) (openAt (streamKey st) (st .counter) (payloadPiece (st .turn) s)) out
-
--- ---- the state behind a step: one counter further, at the other turn; a refusal ends the stream or leaves it
-
-abbrev pub turnAfter : Turn → ℕ → Turn
-turnAfter Length n = Payload n
-turnAfter (Payload m) n = Length
-turnAfter Ended n = Ended
-turnAfter (Variable m) n = Length
-
-abbrev pub ended : Receiver → Receiver
-ended st = record { method = st .method; turn = Ended; counter = st .counter; subkey = st .subkey }
-
-abbrev pub refusedNext : Refusal → Receiver → Receiver
-refusedNext r st = cond (endsStream r) (ended st) st
-
-abbrev pub advances : Receiver → ℕ → Receiver
-advances st n = record { method = st .method; turn = turnAfter (st .turn) n; counter = st .counter + 1; subkey = st .subkey }
-
-abbrev pub stepNext : Receiver → Stepped → Receiver
-stepNext st (Opened c) = advances st (c .length)
-stepNext st (Refused r) = refusedNext r st
+abbrev pub stepOut : Receiver → List ℕ → List ℕ → List ℕ
+stepOut st s out = steps.stepOut (framingOf (st .method)) st s out

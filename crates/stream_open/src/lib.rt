@@ -1,19 +1,20 @@
-// Opening a stream of SIP022, section 3.1, behind its head: its state, and one piece a step, a length and its payload by turns.
+// Opening a stream behind its head: its state, and one piece a step, a length and its payload by turns.
 use protocol::Refusal;
+use stream_pieces::Framing;
 use stream_pieces::LAST_COUNTER;
 use stream_pieces::LENGTH_PIECE;
 use stream_pieces::Subkey;
 use stream_pieces::TAG;
+use stream_pieces::framing_of;
 use stream_pieces::open_piece;
 ghost use mathlib.Core.Path.{_≡_};
 ghost use Prim.Native.Nat.{_+_, _<_};
 ghost use lib.ListN.{length, take};
 ghost use Rattle.aes.specs.Keyed.{nkOf};
-ghost use Rattle.protocol.specs.Method.{keyLength};
-ghost use Rattle.stream_pieces.specs.Pieces.{tagLength, openAt};
-ghost use Rattle.stream_pieces.specs.Pieces.{lastCounter};
+ghost use Rattle.stream_pieces.specs.Framing.{HasCipher, framingOf};
+ghost use Rattle.stream_pieces.specs.Pieces.{tagLength, openAt, lastCounter};
 ghost use Rattle.stream_open.specs.declared.Turn.the-variants.{Length, Payload};
-ghost use Rattle.stream_open.specs.Chunks.{streamKey, lengthAnswer, turnAnswer, writtenBy, stepAnswer, stepOut, turnAfter, advances, refusedNext, stepNext};
+ghost use Rattle.stream_open.specs.Steps.{keyIn, lengthAnswer, turnAnswer, writtenBy, stepAnswer, stepOut, turnAfter, advances, refusedNext, stepNext};
 
 // What the receiving half of a stream opens next: a request's variable header of so many bytes, a length, a payload of so many
 // bytes, or nothing.
@@ -49,12 +50,16 @@ pub struct Step {
     pub stream: Receiver,
 }
 
-// A length that was opened: refusal 14, or what it says.
-fn length_answer(n: u16) -> Stepped
-    ensures { λ r. ⌜ r ≡ lengthAnswer n ⌝ }
+// A length that was opened: refusals 14 and 5, or what it says.
+fn length_answer(f: Framing, n: u16) -> Stepped
+    ensures { λ r. ⌜ r ≡ lengthAnswer f n ⌝ }
 {
-    if n == 0 {
+    let read = n as usize;
+    if read < f.least {
         return Stepped::Refused(Refusal::Empty);
+    }
+    if f.greatest < read {
+        return Stepped::Refused(Refusal::Malformed);
     }
     Stepped::Opened(Chunk {
         used: LENGTH_PIECE,
@@ -62,11 +67,10 @@ fn length_answer(n: u16) -> Stepped
     })
 }
 
-// A length: refusals 11, 10, 4 and 14, in this order, or what it says. Nothing is written.
-fn open_length(stream: Receiver, k: usize, s: &[u8], room: usize) -> Stepped
-    requires { ⌜ 0 < nkOf k ⌝ }
-    requires { ⌜ k ≡ keyLength (stream .method) ⌝ }
-    ensures { λ r. ⌜ r ≡ turnAnswer Length stream (now (s .entry)) room ⌝ }
+// A length: refusals 11, 10, 4, 14 and 5, in this order, or what it says. Nothing is written.
+fn open_length(f: Framing, stream: Receiver, s: &[u8], room: usize) -> Stepped
+    requires { ⌜ 0 < nkOf (f .key) ⌝ }
+    ensures { λ r. ⌜ r ≡ turnAnswer f Length stream (now (s .entry)) room ⌝ }
 {
     if stream.counter == LAST_COUNTER {
         return Stepped::Refused(Refusal::Counter);
@@ -76,23 +80,25 @@ fn open_length(stream: Receiver, k: usize, s: &[u8], room: usize) -> Stepped
     }
     let mut text = [0u8; 2];
     let w = stream.subkey;
-    if open_piece(w, k, stream.counter, &s[..LENGTH_PIECE], &mut text) {
-        return length_answer(octets::read_u16_be(&text, 0));
+    if open_piece(w, f.key, stream.counter, &s[..LENGTH_PIECE], &mut text) {
+        return length_answer(f, octets::read_u16_be(&text, 0));
     }
     Stepped::Refused(Refusal::NotAuthentic)
 }
 
 // A payload of n bytes: refusals 1, 11, 10, 3 and 4, in this order, or it is in the buffer.
-fn open_payload(stream: Receiver, k: usize, n: u16, s: &[u8], out: &mut [u8]) -> Stepped
-    requires { ⌜ 0 < nkOf k ⌝ }
-    requires { ⌜ k ≡ keyLength (stream .method) ⌝ }
-    ensures { λ r. ⌜ r ≡ turnAnswer (Payload n) stream (now (s .entry)) (length (now (out .entry))) ⌝ }
+fn open_payload(f: Framing, stream: Receiver, n: u16, s: &[u8], out: &mut [u8]) -> Stepped
+    requires { ⌜ 0 < nkOf (f .key) ⌝ }
+    ensures { λ r. ⌜ r ≡ turnAnswer f (Payload n) stream (now (s .entry)) (length (now (out .entry))) ⌝ }
     ensures { λ r. ⌜ now (out .exit)
-        ≡ writtenBy r (Payload n) (openAt (streamKey stream) (stream .counter) (take (n + tagLength) (now (s .entry))))
+        ≡ writtenBy r (Payload n) (openAt (keyIn f stream) (stream .counter) (take (n + tagLength) (now (s .entry))))
         (now (out .entry)) ⌝ }
 {
     let due = n as usize;
-    if due == 0 {
+    if f.greatest < due {
+        return Stepped::Refused(Refusal::Settings);
+    }
+    if due < f.least {
         return Stepped::Refused(Refusal::Settings);
     }
     if stream.counter == LAST_COUNTER {
@@ -105,7 +111,7 @@ fn open_payload(stream: Receiver, k: usize, n: u16, s: &[u8], out: &mut [u8]) ->
         return Stepped::Refused(Refusal::Room);
     }
     let w = stream.subkey;
-    if open_piece(w, k, stream.counter, &s[..due + TAG], out) {
+    if open_piece(w, f.key, stream.counter, &s[..due + TAG], out) {
         return Stepped::Opened(Chunk {
             used: due + TAG,
             length: n,
@@ -114,18 +120,18 @@ fn open_payload(stream: Receiver, k: usize, n: u16, s: &[u8], out: &mut [u8]) ->
     Stepped::Refused(Refusal::NotAuthentic)
 }
 
-fn open_turn(stream: Receiver, s: &[u8], out: &mut [u8]) -> Stepped
-    ensures { λ r. ⌜ r ≡ stepAnswer stream (now (s .entry)) (length (now (out .entry))) ⌝ }
-    ensures { λ r. ⌜ now (out .exit) ≡ stepOut stream (now (s .entry)) (now (out .entry)) ⌝ }
+fn open_turn(f: Framing, stream: Receiver, s: &[u8], out: &mut [u8]) -> Stepped
+    requires { ⌜ HasCipher f ⌝ }
+    ensures { λ r. ⌜ r ≡ stepAnswer f stream (now (s .entry)) (length (now (out .entry))) ⌝ }
+    ensures { λ r. ⌜ now (out .exit) ≡ stepOut f stream (now (s .entry)) (now (out .entry)) ⌝ }
 {
-    let k = protocol::key_length(stream.method);
-    if k == 0 {
+    if f.key == 0 {
         return Stepped::Refused(Refusal::Settings);
     }
     let turn = stream.turn;
     match turn {
-        Turn::Length => open_length(stream, k, s, out.len()),
-        Turn::Payload(n) => open_payload(stream, k, n, s, out),
+        Turn::Length => open_length(f, stream, s, out.len()),
+        Turn::Payload(n) => open_payload(f, stream, n, s, out),
         Turn::Ended => Stepped::Refused(Refusal::NotAuthentic),
         Turn::Variable(_) => Stepped::Refused(Refusal::Settings),
     }
@@ -175,15 +181,16 @@ pub fn refused_next(stream: Receiver, refusal: Refusal) -> Receiver
     stream
 }
 
-// Opens the next piece of a stream: a length, or a payload to the front of the lent buffer. Refusals 1, 4 (of a stream that
-// has ended), 11, 10, 3, 4 and 14 (a length of 0), in this order; they write nothing, and only 4 and 14 move the stream: they
-// end it.
-pub fn open_chunk(stream: Receiver, s: &[u8], out: &mut [u8]) -> Step
-    ensures { λ r. ⌜ r .answer ≡ stepAnswer stream (now (s .entry)) (length (now (out .entry))) ⌝ }
+// Opens the next piece of a stream that is framed so: a length, or a payload to the front of the lent buffer. Refusals 1, 4 (of a
+// stream that has ended), 11, 10, 3, 4, 14 (a length under the least) and 5 (one over the greatest), in this order; they write
+// nothing, and only 4, 14 and 5 move the stream: they end it.
+pub fn open_framed(f: Framing, stream: Receiver, s: &[u8], out: &mut [u8]) -> Step
+    requires { ⌜ HasCipher f ⌝ }
+    ensures { λ r. ⌜ r .answer ≡ stepAnswer f stream (now (s .entry)) (length (now (out .entry))) ⌝ }
     ensures { λ r. ⌜ r .stream ≡ stepNext stream (r .answer) ⌝ }
-    ensures { λ r. ⌜ now (out .exit) ≡ stepOut stream (now (s .entry)) (now (out .entry)) ⌝ }
+    ensures { λ r. ⌜ now (out .exit) ≡ stepOut f stream (now (s .entry)) (now (out .entry)) ⌝ }
 {
-    let answer = open_turn(stream, s, out);
+    let answer = open_turn(f, stream, s, out);
     match answer {
         Stepped::Opened(c) => Step {
             answer: answer,
@@ -194,4 +201,13 @@ pub fn open_chunk(stream: Receiver, s: &[u8], out: &mut [u8]) -> Step
             stream: refused_next(stream, r),
         },
     }
+}
+
+// Opens the next piece of a stream of SIP022, in which a length of 0 is refused with 14 and none with 5.
+pub fn open_chunk(stream: Receiver, s: &[u8], out: &mut [u8]) -> Step
+    ensures { λ r. ⌜ r .answer ≡ stepAnswer (framingOf (stream .method)) stream (now (s .entry)) (length (now (out .entry))) ⌝ }
+    ensures { λ r. ⌜ r .stream ≡ stepNext stream (r .answer) ⌝ }
+    ensures { λ r. ⌜ now (out .exit) ≡ stepOut (framingOf (stream .method)) stream (now (s .entry)) (now (out .entry)) ⌝ }
+{
+    open_framed(framing_of(stream.method), stream, s, out)
 }

@@ -20,7 +20,7 @@ use Rattle.salt_pool.specs.declared.Met.the-variants.{Room as Free, Replay as K
 use Rattle.salt_pool.specs.Pool.{poolWords, lawful, meet, store}
 use Rattle.stream_pieces.specs.declared.Subkey.{Subkey}
 use Rattle.stream_pieces.specs.Pieces.{subkeyWords, keyOf}
-use Rattle.stream_pieces.proofs.KeyLaws.{key-of-method, length-subkey, octets-subkey, subkey-back}
+use Rattle.stream_pieces.proofs.KeyLaws.{key-of-method, length-subkey, octets-subkey, words-of-either, subkey-back}
 use Rattle.stream_heads.specs.Heads.{frontLength, fixedOf, openFixed}
 use Rattle.stream_heads.specs.declared.Fixed.{Fixed}
 use Rattle.stream_heads.specs.declared.FixedRead.{FixedRead}
@@ -154,7 +154,7 @@ module _ (method : ℕ) (key : List ℕ) (clock : ℕ) (s pool : List ℕ) where
           let size : length (subkey key (take n s)) ≡ length key = length-subkey key (take n s) short in
           ap₂ keyOf ew (d .salt ∙ sym size)
           ∙ subkey-back (subkey key (take n s)) (octets-subkey key (take n s))
-          (subst (λ (m : ℕ). (m ≡ 16) ⊎ (m ≡ 32)) (sym size) (d .either))
+          (words-of-either _ (subst (λ (m : ℕ). (m ≡ 16) ⊎ (m ≡ 32)) (sym size) (d .either)))
 
       pub request-done : n + 27 ≤ length s → (w : Subkey) → w ≡ subkeyWords (subkey key (take n s)) → (r : FixedRead) (p : List ℕ)
           → r ≡ readFront (keyOf w n) clock n s pool → p ≡ frontPool (keyOf w n) clock n s pool → (x : RequestOpened)

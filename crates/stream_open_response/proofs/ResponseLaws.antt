@@ -19,8 +19,10 @@ use Rattle.protocol.specs.Method.{keyFits, saltLength}
 use Rattle.protocol.specs.Subkey.{subkey}
 use Rattle.protocol.proofs.MethodLaws.{fits-sizes}
 use Rattle.stream_pieces.specs.declared.Subkey.{Subkey}
-use Rattle.stream_pieces.specs.Pieces.{isEmpty, authenticAt, openAt, subkeyWords, keyOf}
-use Rattle.stream_pieces.proofs.KeyLaws.{key-of-method, length-subkey, octets-subkey, subkey-back}
+use Rattle.stream_pieces.specs.Framing.{isEmpty}
+use Rattle.stream_pieces.specs.Pieces.{authenticAt, openAt, subkeyWords, keyOf}
+use Rattle.stream_pieces.proofs.KeyLaws.{key-of-method, length-subkey, octets-subkey, words-of-either, subkey-back}
+use Rattle.stream_pieces.proofs.FramingLaws.{zero-empty, not-zero-some}
 use Rattle.stream_open.specs.declared.Turn.the-variants.{Payload}
 use Rattle.stream_heads.specs.declared.Fixed.{Fixed}
 use Rattle.stream_heads.specs.declared.FixedRead.{FixedRead}
@@ -67,10 +69,10 @@ module _ (method : ℕ) (w : Subkey) (key : List ℕ) (clock n : ℕ) (salt s : 
         ours-at ed d e = ap (λ (x : Bool). cond x (Refused Empty) accepted) (sym e) ∙ bound-at true ed
 
         pub bound-empty : b ≡ true → f .length ≡ 0 → Refused Empty ≡ boundOf method w key clock n salt s
-        bound-empty ed e = ours-at ed true (eq-eqb _ _ e)
+        bound-empty ed e = ours-at ed true (zero-empty _ e)
 
         pub bound-ours : b ≡ true → (f .length ≡ 0 → ⊥) → accepted ≡ boundOf method w key clock n salt s
-        bound-ours ed h = ours-at ed false (ne-eqb _ _ h)
+        bound-ours ed h = ours-at ed false (not-zero-some _ h)
 
         pub bound-others : b ≡ false → Refused Binding ≡ boundOf method w key clock n salt s
         bound-others ed = bound-at false ed
@@ -143,6 +145,6 @@ module _ (method : ℕ) (key : List ℕ) (clock : ℕ) (salt s : List ℕ) (k : 
           let words : w ≡ subkeyWords sub = ew ∙ ap (λ (m : ℕ). subkeyWords (subkey key (take m s))) en in
           let both-sizes = ⊎-elim (λ e. inl (size ∙ e)) (λ e. inr (size ∙ e)) (fits-sizes method (length key) (sym ek ∙ fits) .either) in
           let back : keyOf w n ≡ sub =
-          ap₂ keyOf words (salt-of .as-key ∙ sym size) ∙ subkey-back sub (octets-subkey key (take (saltLength method) s)) both-sizes in
+          ap₂ keyOf words (salt-of .as-key ∙ sym size) ∙ subkey-back sub (octets-subkey key (take (saltLength method) s)) (words-of-either _ both-sizes) in
           er ∙ (λ i. responseAt method (words i) (back i) clock (en i) salt s)
           ∙ opened-at true true true fits (eq-eqb _ _ (same-salt ∙ en)) (le-leb _ _ l)

@@ -9,7 +9,8 @@ use Rattle.protocol.specs.declared.Refusal.the-variants.{Settings, More, Bindin
 use Rattle.protocol.specs.Method.{keyFits, saltLength}
 use Rattle.protocol.specs.Subkey.{subkey}
 use Rattle.stream_pieces.specs.declared.Subkey.{Subkey}
-use Rattle.stream_pieces.specs.Pieces.{isEmpty, openAt, subkeyWords}
+use Rattle.stream_pieces.specs.Framing.{isEmpty}
+use Rattle.stream_pieces.specs.Pieces.{openAt, subkeyWords}
 use Rattle.stream_open.specs.declared.Turn.the-variants.{Payload}
 use Rattle.stream_heads.specs.declared.FixedRead.{FixedRead}
 use Rattle.stream_heads.specs.declared.FixedRead.the-variants.{Read, Refused as Unread}

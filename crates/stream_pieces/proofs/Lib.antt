@@ -2,3 +2,4 @@
 pub mod LengthLaws
 pub mod KeyLaws
 pub mod PieceLaws
+pub mod FramingLaws

@@ -3,7 +3,6 @@
 use mathlib.Core.Bool.{Bool}
 use mathlib.Core.List.{List, _++_}
 use Prim.Native.Nat.{ℕ, _+_, _-_, _^_}
-use lib.Dec.{eqb}
 use lib.ListN.{take, drop}
 use Rattle.octets.specs.Numbers.{be, toBe, toLe}
 use Rattle.gcm.specs.Gcm as gcm
@@ -32,10 +31,6 @@ fixedPiece = fixedLength + tagLength
 abbrev pub maxChunk : ℕ
 maxChunk = 65535
 
--- a payload of no bytes, which no chunk of this edition has
-abbrev pub isEmpty : ℕ → Bool
-isEmpty n = eqb n 0
-
 -- the counter that is never used
 abbrev pub lastCounter : ℕ
 lastCounter = 2 ^ 64 - 1
@@ -53,7 +48,7 @@ openAt key counter s = gcm.opened (ciphOf key) (nonce counter) s
 
 -- ---- a subkey in four words, big-endian, as the state of a stream has it
 
--- one of 16 bytes has zeros for the last two
+-- one of fewer than 32 bytes has zeros for the last words
 unfoldable pub subkeyWords : List ℕ → Subkey
 subkeyWords s = record { a = be 8 s; b = be 8 (drop 8 s); c = be 8 (drop 16 s); d = be 8 (drop 24 s) }
 

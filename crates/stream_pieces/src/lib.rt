@@ -16,6 +16,7 @@ ghost use Rattle.gcm.specs.Gcm.{textOf};
 ghost use Rattle.protocol.specs.Method.{maxKey};
 ghost use Rattle.gcm.specs.Keyed.{ciphOf};
 ghost use Rattle.protocol.specs.Subkey.{subkey as subkeyOf};
+ghost use Rattle.stream_pieces.specs.Framing.{framingOf};
 ghost use Rattle.stream_pieces.specs.Pieces.{nonce as nonceOf, tagLength, sealAt, authenticAt, openAt, subkeyWords, subkeyBytes, keyOf, maxChunk, lastCounter};
 
 // The longest plaintext of a piece with a length of its own.
@@ -34,12 +35,30 @@ pub const MAX_FIXED: usize = FIXED + MAX_KEY;
 // The counter that is never used.
 pub const LAST_COUNTER: u64 = 0xffff_ffff_ffff_ffff;
 
-// A subkey in four words, its bytes big-endian; one of 16 bytes has zeros for the last two.
+// How an edition frames the payloads of a stream: the length of its key, and the least and the greatest length of a payload.
+pub struct Framing {
+    pub key: usize,
+    pub least: usize,
+    pub greatest: usize,
+}
+
+// A subkey in four words, its bytes big-endian; one of fewer than 32 bytes has zeros for the last words.
 pub struct Subkey {
     pub a: u64,
     pub b: u64,
     pub c: u64,
     pub d: u64,
+}
+
+// The framing of SIP022 by the number of a method, without a key where there is no such method.
+pub fn framing_of(method: u64) -> Framing
+    ensures { λ r. ⌜ r ≡ framingOf method ⌝ }
+{
+    Framing {
+        key: protocol::key_length(method),
+        least: 1,
+        greatest: MAX_CHUNK,
+    }
 }
 
 // The counter in 12 bytes, little-endian.
@@ -51,7 +70,8 @@ fn nonce(counter: u64) -> [u8; 12]
     n
 }
 
-fn subkey_words(s: &[u8]) -> Subkey
+// The words of a subkey.
+pub fn subkey_words(s: &[u8]) -> Subkey
     ensures { λ r. ⌜ r ≡ subkeyWords (now (s .entry)) ⌝ }
 {
     Subkey {

@@ -1,4 +1,5 @@
--- Sealing chunks (SIP022, section 3.1): what is answered and what is written. What is said of sizes serves the heads too.
+-- Sealing chunks: what is answered and what is written. Both editions do it alike (SIP022, section 3.1, and SIP004), each under
+-- its own framing. What is said of sizes serves the heads of SIP022 too.
 use mathlib.Core.Bool.{cond}
 use mathlib.Core.List.{List, _++_}
 use Prim.Native.Nat.{ℕ, _+_, _-_}
@@ -11,7 +12,9 @@ use Rattle.protocol.specs.Method.{keyLength}
 use Rattle.stream_seal.specs.declared.Sender.{Sender}
 use Rattle.stream_seal.specs.declared.Sealed.{Sealed}
 use Rattle.stream_seal.specs.declared.Sealed.the-variants.{Bytes, Refused}
-use Rattle.stream_pieces.specs.Pieces.{tagLength, lengthPiece, sealAt, keyOf, maxChunk, isEmpty, lastCounter}
+use Rattle.stream_pieces.specs.declared.Framing.{Framing}
+use Rattle.stream_pieces.specs.Framing.{under, framingOf}
+use Rattle.stream_pieces.specs.Pieces.{tagLength, lengthPiece, sealAt, keyOf, lastCounter}
 
 -- ---- what is written
 
@@ -25,22 +28,27 @@ chunk key counter payload = sealAt key counter (toBe 2 (length payload)) ++ seal
 abbrev pub moved : Sender → Sender
 moved s = record { method = s .method; counter = s .counter + 2; subkey = s .subkey }
 
-abbrev pub senderKey : Sender → List ℕ
-senderKey s = keyOf (s .subkey) (keyLength (s .method))
-
--- refusals 2 and 3, of a piece of n bytes behind `before` bytes
-unfoldable pub sizeAnswer : (n before room : ℕ) → Sender → Sealed
-sizeAnswer n before room s =
-    cond (leb n maxChunk) (cond (leb (before + n + tagLength) room) (Bytes (before + n + tagLength) s) (Refused Room)) (Refused Length)
+-- refusals 2 and 3, of a piece of n bytes, at most so many, behind `before` bytes
+unfoldable pub sizeAnswer : (greatest n before room : ℕ) → Sender → Sealed
+sizeAnswer greatest n before room s =
+    cond (leb n greatest) (cond (leb (before + n + tagLength) room) (Bytes (before + n + tagLength) s) (Refused Room)) (Refused Length)
 
 -- 1, 14, 11, 2, 3
-unfoldable pub chunkAnswer : Sender → ℕ → ℕ → Sealed
-chunkAnswer s payload room =
-    cond (eqb (keyLength (s .method)) 0) (Refused Settings)
-    (cond (isEmpty payload) (Refused Empty)
-    (cond (ltb (s .counter) (lastCounter - 1)) (sizeAnswer payload lengthPiece room (moved s)) (Refused Counter)))
+unfoldable pub framedAnswer : Framing → Sender → ℕ → ℕ → Sealed
+framedAnswer f s payload room =
+    cond (eqb (f .key) 0) (Refused Settings)
+    (cond (under f payload) (Refused Empty)
+    (cond (ltb (s .counter) (lastCounter - 1)) (sizeAnswer (f .greatest) payload lengthPiece room (moved s)) (Refused Counter)))
 
 -- what is written goes to the front of the buffer; a refusal writes nothing
 abbrev pub sealOut : Sealed → List ℕ → List ℕ → List ℕ
 sealOut (Bytes n s) text out = put out 0 text
 sealOut (Refused r) text out = out
+
+-- ---- SIP022: the framing is the method's
+
+abbrev pub senderKey : Sender → List ℕ
+senderKey s = keyOf (s .subkey) (keyLength (s .method))
+
+abbrev pub chunkAnswer : Sender → ℕ → ℕ → Sealed
+chunkAnswer s payload room = framedAnswer (framingOf (s .method)) s payload room

@@ -1,17 +1,19 @@
-// The sending half of a stream of SIP022, section 3.1, behind its head: lengths and payloads, sealed one chunk after another.
+// The sending half of a stream behind its head: lengths and payloads, sealed one chunk after another.
 use gcm::TAG;
 use protocol::Refusal;
+use stream_pieces::Framing;
 use stream_pieces::LAST_COUNTER;
 use stream_pieces::LENGTH_PIECE;
-use stream_pieces::MAX_CHUNK;
 use stream_pieces::Subkey;
+use stream_pieces::framing_of;
 use stream_pieces::seal_pair;
 ghost use mathlib.Core.Path.{_≡_};
 ghost use Prim.Native.Nat.{_+_, _-_, _<_, _≤_};
 ghost use lib.ListN.{length};
 ghost use Rattle.aes.specs.Keyed.{nkOf};
+ghost use Rattle.stream_pieces.specs.Framing.{HasCipher};
 ghost use Rattle.stream_pieces.specs.Pieces.{tagLength, lengthPiece, keyOf, maxChunk, lastCounter};
-ghost use Rattle.stream_seal.specs.Sealing.{chunk, moved as movedOf, senderKey, sizeAnswer, chunkAnswer, sealOut};
+ghost use Rattle.stream_seal.specs.Sealing.{chunk, moved as movedOf, senderKey, sizeAnswer, framedAnswer, chunkAnswer, sealOut};
 
 // The sending half of a stream, behind its head: its method, the counter of its next piece, and its subkey.
 pub struct Sender {
@@ -29,11 +31,12 @@ pub enum Sealed {
 // ---- what is answered
 
 // Refusals 2 and 3, in this order, of a piece of n bytes behind others.
-pub fn size_answer(n: usize, before: usize, room: usize, stream: Sender) -> Sealed
+pub fn size_answer(greatest: usize, n: usize, before: usize, room: usize, stream: Sender) -> Sealed
+    requires { ⌜ greatest ≤ maxChunk ⌝ }
     requires { ⌜ before ≤ maxChunk ⌝ }
-    ensures { λ r. ⌜ r ≡ sizeAnswer n before room stream ⌝ }
+    ensures { λ r. ⌜ r ≡ sizeAnswer greatest n before room stream ⌝ }
 {
-    if MAX_CHUNK < n {
+    if greatest < n {
         return Sealed::Refused(Refusal::Length);
     }
     let due = before + n + TAG;
@@ -57,17 +60,24 @@ fn behind_chunk(stream: Sender) -> Sender
 }
 
 // Refusals 1, 14, 11, 2 and 3, in this order, or how many bytes are due.
-fn chunk_answer(stream: Sender, payload: usize, room: usize) -> Sealed
-    ensures { λ r. ⌜ r ≡ chunkAnswer stream payload room ⌝ }
+fn framed_answer(f: Framing, stream: Sender, payload: usize, room: usize) -> Sealed
+    requires { ⌜ f .greatest ≤ maxChunk ⌝ }
+    ensures { λ r. ⌜ r ≡ framedAnswer f stream payload room ⌝ }
 {
-    if protocol::key_length(stream.method) == 0 {
+    if f.key == 0 {
         return Sealed::Refused(Refusal::Settings);
     }
-    if payload == 0 {
+    if payload < f.least {
         return Sealed::Refused(Refusal::Empty);
     }
     if stream.counter < LAST_COUNTER - 1 {
-        return size_answer(payload, LENGTH_PIECE, room, behind_chunk(stream));
+        return size_answer(
+            f.greatest,
+            payload,
+            LENGTH_PIECE,
+            room,
+            behind_chunk(stream),
+        );
     }
     Sealed::Refused(Refusal::Counter)
 }
@@ -87,21 +97,31 @@ fn write_chunk(body: &mut [u8], w: Subkey, k: usize, counter: u64, payload: &[u8
     seal_pair(w, k, counter, LENGTH_PIECE, body);
 }
 
-// Seals a length with its payload, which may not be empty, to the front of the lent buffer. A refusal writes nothing, and the
-// stream stays as it was.
+// Seals a length with its payload, framed so, to the front of the lent buffer. A refusal writes nothing, and the stream stays as
+// it was.
+pub fn seal_framed(f: Framing, stream: Sender, payload: &[u8], out: &mut [u8]) -> Sealed
+    requires { ⌜ HasCipher f ⌝ }
+    requires { ⌜ f .greatest ≤ maxChunk ⌝ }
+    ensures { λ r. ⌜ r ≡ framedAnswer f stream (length (now (payload .entry))) (length (now (out .entry))) ⌝ }
+    ensures { λ r. ⌜ now (out .exit)
+        ≡ sealOut r (chunk (keyOf (stream .subkey) (f .key)) (stream .counter) (now (payload .entry))) (now (out .entry)) ⌝ }
+{
+    let answer = framed_answer(f, stream, payload.len(), out.len());
+    match answer {
+        Sealed::Bytes(n, _) => {
+            let w = stream.subkey;
+            write_chunk(&mut out[..n], w, f.key, stream.counter, payload);
+            answer
+        }
+        Sealed::Refused(_) => answer,
+    }
+}
+
+// Seals a length with its payload, which may not be empty, on a stream of SIP022.
 pub fn seal_chunk(stream: Sender, payload: &[u8], out: &mut [u8]) -> Sealed
     ensures { λ r. ⌜ r ≡ chunkAnswer stream (length (now (payload .entry))) (length (now (out .entry))) ⌝ }
     ensures { λ r. ⌜ now (out .exit)
         ≡ sealOut r (chunk (senderKey stream) (stream .counter) (now (payload .entry))) (now (out .entry)) ⌝ }
 {
-    let answer = chunk_answer(stream, payload.len(), out.len());
-    match answer {
-        Sealed::Bytes(n, _) => {
-            let w = stream.subkey;
-            let k = protocol::key_length(stream.method);
-            write_chunk(&mut out[..n], w, k, stream.counter, payload);
-            answer
-        }
-        Sealed::Refused(_) => answer,
-    }
+    seal_framed(framing_of(stream.method), stream, payload, out)
 }

@@ -21,9 +21,11 @@ use Rattle.stream_pieces.specs.declared.Subkey.{Subkey}
 use Rattle.stream_seal.specs.declared.Sender.{Sender}
 use Rattle.stream_seal.specs.declared.Sealed.{Sealed}
 use Rattle.stream_seal.specs.declared.Sealed.the-variants.{Bytes, Refused}
-use Rattle.stream_pieces.specs.Pieces.{isEmpty, subkeyWords, keyOf, maxChunk}
+use Rattle.stream_pieces.specs.Framing.{isEmpty}
+use Rattle.stream_pieces.specs.Pieces.{subkeyWords, keyOf, maxChunk}
 use Rattle.stream_seal.specs.Sealing.{sizeAnswer}
-use Rattle.stream_pieces.proofs.KeyLaws.{key-of-method, length-subkey, octets-subkey, subkey-back}
+use Rattle.stream_pieces.proofs.KeyLaws.{key-of-method, length-subkey, octets-subkey, words-of-either, subkey-back}
+use Rattle.stream_pieces.proofs.FramingLaws.{zero-empty, not-zero-some}
 use Rattle.stream_seal.proofs.SealAnswerLaws.{too-long, passed, escaped, sized}
 use Rattle.stream_heads.specs.Heads.{maxPadding}
 use Rattle.stream_seal_heads.specs.HeadSealing.{variableLength, begun, sizesFit, paddingLawful, requestAnswer, responseAnswer}
@@ -91,21 +93,21 @@ module _ (address padding payload : ℕ) where
   length-within h = omega arith
 
 -- one byte over the longest stands for every longer length
-capped-same : (n before room : ℕ) (s : Sender) → sizeAnswer (min n (maxChunk + 1)) before room s ≡ sizeAnswer n before room s
+capped-same : (n before room : ℕ) (s : Sender) → sizeAnswer maxChunk (min n (maxChunk + 1)) before room s ≡ sizeAnswer maxChunk n before room s
 capped-same n before room s = go (decLe n maxChunk)
   where
-    go : Dec (n ≤ maxChunk) → sizeAnswer (min n (maxChunk + 1)) before room s ≡ sizeAnswer n before room s
-    go (yes h) = let e : min n (maxChunk + 1) ≡ n = omega arith in ap (λ (k : ℕ). sizeAnswer k before room s) e
+    go : Dec (n ≤ maxChunk) → sizeAnswer maxChunk (min n (maxChunk + 1)) before room s ≡ sizeAnswer maxChunk n before room s
+    go (yes h) = let e : min n (maxChunk + 1) ≡ n = omega arith in ap (λ (k : ℕ). sizeAnswer maxChunk k before room s) e
     go (no f) =
         let h : maxChunk < n = omega arith in
         let k : maxChunk < min n (maxChunk + 1) = omega arith in
-        sym (too-long (min n (maxChunk + 1)) before room s k) ∙ too-long n before room s h
+        sym (too-long maxChunk (min n (maxChunk + 1)) before room s k) ∙ too-long maxChunk n before room s h
 
 -- ---- the answer to a request
 
 module _ (method : ℕ) (key salt address : List ℕ) (padding payload room : ℕ) where
   abbrev requestSizes : Sealed
-  requestSizes = sizeAnswer (variableLength (length address) padding payload) (length salt + 27) room (begun method key salt)
+  requestSizes = sizeAnswer maxChunk (variableLength (length address) padding payload) (length salt + 27) room (begun method key salt)
 
   request-decided : (a b : Bool) → sizesFit method (length key) (length salt) ≡ a → (isAddress address && paddingLawful padding payload) ≡ b
       → cond a (cond b requestSizes (Refused Argument)) (Refused Settings) ≡ requestAnswer method key salt address padding payload room
@@ -126,9 +128,9 @@ module _ (method : ℕ) (key salt address : List ℕ) (padding payload room : �
 
   pub request-sized : sizesFit method (length key) (length salt) ≡ true → isAddress address ≡ true → paddingLawful padding payload ≡ true
       → (n : ℕ) → n ≡ min (variableLength (length address) padding payload) (maxChunk + 1) → (s : Sender) → s ≡ begun method key salt
-      → (r : Sealed) → r ≡ sizeAnswer n (length salt + 27) room s → r ≡ requestAnswer method key salt address padding payload room
+      → (r : Sealed) → r ≡ sizeAnswer maxChunk n (length salt + 27) room s → r ≡ requestAnswer method key salt address padding payload room
   request-sized e f g n en s es r er =
-      er ∙ (λ i. sizeAnswer (en i) (length salt + 27) room (es i))
+      er ∙ (λ i. sizeAnswer maxChunk (en i) (length salt + 27) room (es i))
       ∙ capped-same (variableLength (length address) padding payload) (length salt + 27) room (begun method key salt)
       ∙ request-decided true true e (ap₂ _&&_ f g)
 
@@ -136,7 +138,7 @@ module _ (method : ℕ) (key salt address : List ℕ) (padding payload room : �
 
 module _ (method : ℕ) (key salt binding : List ℕ) (payload room : ℕ) where
   abbrev responseSizes : Sealed
-  responseSizes = sizeAnswer payload (length salt + 27 + length binding) room (begun method key salt)
+  responseSizes = sizeAnswer maxChunk payload (length salt + 27 + length binding) room (begun method key salt)
 
   response-decided : (a b c : Bool) → sizesFit method (length key) (length salt) ≡ a → eqb (length binding) (length salt) ≡ b → isEmpty payload ≡ c
       → cond (a && b) (cond c (Refused Empty) responseSizes) (Refused Settings) ≡ responseAnswer method key salt binding payload room
@@ -152,14 +154,14 @@ module _ (method : ℕ) (key salt binding : List ℕ) (payload room : ℕ) where
 
     module _ (bound : length binding ≡ length salt) where
       pub response-empty : payload ≡ 0 → Refused Empty ≡ responseAnswer method key salt binding payload room
-      response-empty e = response-decided true true true suits (eq-eqb (length binding) (length salt) bound) (eq-eqb payload 0 e)
+      response-empty e = response-decided true true true suits (eq-eqb (length binding) (length salt) bound) (zero-empty payload e)
 
       pub response-sized : (payload ≡ 0 → ⊥) → (s : Sender) → s ≡ begun method key salt
-          → (r : Sealed) → r ≡ sizeAnswer payload (length salt + 27 + length binding) room s
+          → (r : Sealed) → r ≡ sizeAnswer maxChunk payload (length salt + 27 + length binding) room s
           → r ≡ responseAnswer method key salt binding payload room
       response-sized some s es r er =
-          er ∙ ap (sizeAnswer payload (length salt + 27 + length binding) room) es
-          ∙ response-decided true true false suits (eq-eqb (length binding) (length salt) bound) (ne-eqb payload 0 some)
+          er ∙ ap (sizeAnswer maxChunk payload (length salt + 27 + length binding) room) es
+          ∙ response-decided true true false suits (eq-eqb (length binding) (length salt) bound) (not-zero-some payload some)
 
 -- ---- what a length that was answered tells
 
@@ -169,7 +171,7 @@ key-back : (key salt : List ℕ) (w : Subkey) → length salt ≡ length key →
 key-back key salt w same either within ew =
     let l : length (subkey key salt) ≡ length key = length-subkey key salt within in
     (λ i. keyOf (ew i) ((same ∙ sym l) i))
-    ∙ subkey-back (subkey key salt) (octets-subkey key salt) (subst (λ (n : ℕ). (n ≡ 16) ⊎ (n ≡ 32)) (sym l) either)
+    ∙ subkey-back (subkey key salt) (octets-subkey key salt) (words-of-either _ (subst (λ (n : ℕ). (n ≡ 16) ⊎ (n ≡ 32)) (sym l) either))
 
 module _ (method : ℕ) (key salt : List ℕ) (fit : Suited method (length key) (length salt)) where
   key-good : 0 < nkOf (length salt)
@@ -192,7 +194,7 @@ request-sealable method key salt address padding payload room n s e =
     let e₁ = passed (sizesFit method (length key) (length salt)) _ _ n s e in
     let e₂ = passed (isAddress address && paddingLawful padding payload) _ _ n s (e₁ .1) in
     let fit = suited method (length key) (length salt) (e₁ .0) in
-    let z = sized (variableLength (length address) padding payload) (length salt + 27) room (begun method key salt) n s (e₂ .1) in
+    let z = sized maxChunk (variableLength (length address) padding payload) (length salt + 27) room (begun method key salt) n s (e₂ .1) in
     record {
       good = key-good method key salt fit;
       most = z .most;
@@ -217,7 +219,7 @@ response-sealable method key salt binding payload room n s e =
     let p = and-eq-true-iff (sizesFit method (length key) (length salt)) (eqb (length binding) (length salt)) .0 (e₁ .0) in
     let fit = suited method (length key) (length salt) (p .0) in
     let e₂ = escaped (isEmpty payload) _ _ n s (e₁ .1) in
-    let z = sized payload (length salt + 27 + length binding) room (begun method key salt) n s (e₂ .1) in
+    let z = sized maxChunk payload (length salt + 27 + length binding) room (begun method key salt) n s (e₂ .1) in
     record {
       good = key-good method key salt fit;
       bound = eqb-true (length binding) (length salt) (p .1);

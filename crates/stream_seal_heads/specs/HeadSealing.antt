@@ -12,7 +12,8 @@ use Rattle.socks5.specs.Address.{isAddress}
 use Rattle.stream_seal.specs.declared.Sender.{Sender}
 use Rattle.stream_seal.specs.declared.Sealed.{Sealed}
 use Rattle.stream_seal.specs.declared.Sealed.the-variants.{Refused}
-use Rattle.stream_pieces.specs.Pieces.{fixedPiece, isEmpty, sealAt, subkeyWords}
+use Rattle.stream_pieces.specs.Framing.{isEmpty}
+use Rattle.stream_pieces.specs.Pieces.{fixedPiece, sealAt, subkeyWords, maxChunk}
 use Rattle.stream_seal.specs.Sealing.{sizeAnswer}
 use Rattle.stream_heads.specs.Heads.{maxPadding}
 
@@ -66,7 +67,7 @@ unfoldable pub requestAnswer : ℕ → List ℕ → List ℕ → List ℕ → �
 requestAnswer method key salt address padding payload room =
     cond (sizesFit method (length key) (length salt))
     (cond (isAddress address && paddingLawful padding payload)
-    (sizeAnswer (variableLength (length address) padding payload) (length salt + fixedPiece) room (begun method key salt)) (Refused Argument))
+    (sizeAnswer maxChunk (variableLength (length address) padding payload) (length salt + fixedPiece) room (begun method key salt)) (Refused Argument))
     (Refused Settings)
 
 -- 1, 14, 2, 3; the request's salt is as long as the response's
@@ -74,4 +75,4 @@ unfoldable pub responseAnswer : ℕ → List ℕ → List ℕ → List ℕ → �
 responseAnswer method key salt binding payload room =
     cond (sizesFit method (length key) (length salt) && eqb (length binding) (length salt))
     (cond (isEmpty payload) (Refused Empty)
-    (sizeAnswer payload (length salt + fixedPiece + length binding) room (begun method key salt))) (Refused Settings)
+    (sizeAnswer maxChunk payload (length salt + fixedPiece + length binding) room (begun method key salt))) (Refused Settings)

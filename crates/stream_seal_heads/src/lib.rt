@@ -99,7 +99,13 @@ fn request_answer(
         if socks5::is_address(address) {
             if padding_lawful(padding, payload) {
                 let n = variable_length(address.len(), padding, payload);
-                return size_answer(n, salt.len() + FIXED_PIECE, room, begin(method, key, salt));
+                return size_answer(
+                    MAX_CHUNK,
+                    n,
+                    salt.len() + FIXED_PIECE,
+                    room,
+                    begin(method, key, salt),
+                );
             }
         }
         return Sealed::Refused(Refusal::Argument);
@@ -124,7 +130,7 @@ fn response_answer(
                 return Sealed::Refused(Refusal::Empty);
             }
             let before = salt.len() + FIXED_PIECE + binding.len();
-            return size_answer(payload, before, room, begin(method, key, salt));
+            return size_answer(MAX_CHUNK, payload, before, room, begin(method, key, salt));
         }
     }
     Sealed::Refused(Refusal::Settings)

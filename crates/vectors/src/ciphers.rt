@@ -19,12 +19,12 @@ const DERIVE_SUBKEY: u64 = 5;
 
 const SEAL: u64 = 6;
 
-fn refused_unless(done: bool) -> u64 {
+pub(crate) fn refused_unless(done: bool) -> u64 {
     if done { 0 } else { 1 }
 }
 
 // Writes a string to the front of a buffer, if there is room.
-fn fits(out: &mut [u8], s: &[u8]) -> bool {
+pub(crate) fn fits(out: &mut [u8], s: &[u8]) -> bool {
     if out.len() < s.len() {
         return false;
     }

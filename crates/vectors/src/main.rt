@@ -4,6 +4,8 @@
 mod case;
 mod ciphers;
 mod datagrams;
+mod edition_2017;
+mod hashes;
 mod memory;
 mod streams;
 mod tally;
@@ -39,9 +41,13 @@ const NUMBER: usize = 1599;
 // The kind of a case that sets words, and the last ones of each module's calls.
 const SETTING: u64 = 0;
 
-const CIPHERS: u64 = 15;
+const CIPHERS: u64 = 7;
+
+const HASHES: u64 = 15;
 
 const DATAGRAMS: u64 = 31;
+
+const STREAMS: u64 = 47;
 
 // The longest group.
 const GROUP: usize = 350000;
@@ -64,10 +70,16 @@ fn answer_to(
     if kind <= CIPHERS {
         return ciphers::call(c, kind, out);
     }
+    if kind <= HASHES {
+        return hashes::call(c, kind, out);
+    }
     if kind <= DATAGRAMS {
         return datagrams::call(c, kind, words, out, answer);
     }
-    streams::call(c, kind, words, out, stream, answer)
+    if kind <= STREAMS {
+        return streams::call(c, kind, words, out, stream, answer);
+    }
+    edition_2017::call(c, kind, out, stream, answer)
 }
 
 // The same with as many of the words as the call is lent.
@@ -202,7 +214,9 @@ fn main() {
     file(b"aes.bin");
     file(b"blake3.bin");
     file(b"gcm.bin");
+    file(b"hashes.bin");
     file(b"datagram.bin");
     file(b"sessions.bin");
     file(b"streams.bin");
+    file(b"sip004.bin");
 }

@@ -49,11 +49,14 @@ streamSize = 8
 abbrev pub turnOf : List ℕ → ℕ
 turnOf w = getD w 0 0
 
+abbrev pub methodIn : List ℕ → ℕ
+methodIn w = getD w 1 0
+
 abbrev pub subkeyIn : List ℕ → Subkey
 subkeyIn w = record { a = getD w 4 0; b = getD w 5 0; c = getD w 6 0; d = getD w 7 0 }
 
 abbrev pub senderIn : List ℕ → Sender
-senderIn w = record { method = getD w 1 0; counter = getD w 2 0; subkey = subkeyIn w }
+senderIn w = record { method = methodIn w; counter = getD w 2 0; subkey = subkeyIn w }
 
 abbrev pub senderWords : Sender → List ℕ
 senderWords s =
@@ -70,7 +73,7 @@ abbrev pub turnIn : (turn n : ℕ) → Turn
 turnIn turn n = cond (eqb turn 1) Length (cond (eqb turn 2) (Payload (n % 65536)) (cond (eqb turn 4) (Variable (n % 65536)) Ended))
 
 abbrev pub receiverIn : List ℕ → Receiver
-receiverIn w = record { method = getD w 1 0; turn = turnIn (turnOf w) (getD w 3 0); counter = getD w 2 0; subkey = subkeyIn w }
+receiverIn w = record { method = methodIn w; turn = turnIn (turnOf w) (getD w 3 0); counter = getD w 2 0; subkey = subkeyIn w }
 
 abbrev pub turnNumber : Turn → ℕ
 turnNumber Length = 1

@@ -10,6 +10,7 @@ pub use answers::refuse;
 pub use answers::variable_words;
 pub use states::is_receiver;
 pub use states::is_session;
+pub use states::method_in;
 pub use states::receiver_in;
 pub use states::receiver_words;
 pub use states::sender_in;

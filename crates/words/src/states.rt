@@ -13,7 +13,7 @@ use stream_open::Turn;
 use stream_pieces::Subkey;
 ghost use mathlib.Core.Path.{_≡_};
 ghost use lib.ListN.{length};
-ghost use Rattle.words.specs.States.{sessionSize, streamSize, sessionLawful, sideIn, sessionIn, sessionWords, receiverLawful, turnIn, receiverIn, receiverWords, subkeyIn, senderIn, senderWords, turnNumber, turnLength};
+ghost use Rattle.words.specs.States.{sessionSize, streamSize, sessionLawful, sideIn, sessionIn, sessionWords, receiverLawful, turnIn, methodIn, receiverIn, receiverWords, subkeyIn, senderIn, senderWords, turnNumber, turnLength};
 
 // A sending session's side.
 const CLIENT: u64 = 0;
@@ -65,6 +65,16 @@ pub fn session_words(s: datagram_seal::Sender) -> [u64; 4]
 }
 
 // ---- streams
+
+// The method; 0, which no method has, where there is no such word.
+pub fn method_in(words: &[u64]) -> u64
+    ensures { λ r. ⌜ r ≡ methodIn (now (words .entry)) ⌝ }
+{
+    if words.len() < 2 {
+        return 0;
+    }
+    words[1]
+}
 
 fn subkey_in(words: &[u64]) -> Subkey
     requires { ⌜ length (now words) ≡ streamSize ⌝ }

@@ -28,6 +28,7 @@ const AGAINST: &str = "\
 Against  OpenSSL, nettle and BearSSL alone for GCM bodies, chunks, AES, and GHASH: BearSSL has it alone, the others as the tag of
          additional data, which is one AES block more
          with plain Rust around them for whole datagrams: headers, addresses, subkey (BLAKE3), sessions and windows
+         with their own HKDF and SHA-1 for datagrams of 2017
          plain Rust for subkeys; the key of their context is computed before the calls";
 
 const CALLS: &str = "         buffers are warm; keys are expanded and subkeys derived at each call";

@@ -8,11 +8,13 @@ mod block;
 mod ctr;
 mod gcm;
 mod ghash;
+mod hkdf;
 
 pub use block::AesBlock;
 pub use ctr::AesCtr;
 pub use gcm::AesGcm;
 pub use ghash::Ghash;
+pub use hkdf::HkdfSha1;
 
 use std::os::raw::{c_uint, c_void};
 
@@ -34,6 +36,7 @@ impl<const INSTRUCTIONS: bool> Ciphers for BearSsl<INSTRUCTIONS> {
     type Block = AesBlock<INSTRUCTIONS>;
     type Counter = AesCtr<INSTRUCTIONS>;
     type Gcm = AesGcm<INSTRUCTIONS>;
+    type Hkdf = HkdfSha1;
 
     fn are_there() -> bool {
         Functions::find(INSTRUCTIONS).is_some()

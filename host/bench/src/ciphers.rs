@@ -11,6 +11,7 @@ pub trait Ciphers: 'static {
     type Block: Block;
     type Counter: Counter;
     type Gcm: Gcm;
+    type Hkdf: Hkdf;
 
     /// Whether the processor has the instructions that they need.
     fn are_there() -> bool {
@@ -84,7 +85,7 @@ fn first_block(nonce: &[u8; 12], counter: u32) -> [u8; 16] {
 pub trait Gcm {
     /// # Panics
     ///
-    /// If the key length is not 16 or 32.
+    /// If the key length is not 16, 24 or 32.
     fn new(key_length: usize) -> Self;
 
     /// Seals `text` to `out`: ciphertext and tag.
@@ -124,9 +125,18 @@ pub trait Gmac: Gcm {
     fn authenticate(&self, key: &[u8], nonce: &[u8; 12], data: &[u8], tag: &mut [u8; TAG_LENGTH]);
 }
 
+/// HKDF (RFC 5869) with SHA-1.
+pub trait Hkdf {
+    /// For keys that are derived with this info.
+    fn new(info: &'static [u8]) -> Self;
+
+    /// Fills `out` with the key that is derived of a key and a salt.
+    fn derive(&self, key: &[u8], salt: &[u8], out: &mut [u8]);
+}
+
 #[cfg(test)]
 mod tests {
-    use super::{Block, Ciphers, Counter, Gcm};
+    use super::{Block, Ciphers, Counter, Gcm, Hkdf};
     use crate::bearssl::{BearSslWith, BearSslWithout};
     use crate::nettle::Nettle;
     use crate::openssl::OpenSsl;
@@ -185,10 +195,27 @@ mod tests {
         }
     }
 
+    /// RFC 5869, appendix A.4.
+    fn an_example_of_hkdf<C: Ciphers>() {
+        let hkdf = C::Hkdf::new(b"\xf0\xf1\xf2\xf3\xf4\xf5\xf6\xf7\xf8\xf9");
+        let salt: [u8; 13] = std::array::from_fn(|i| i as u8);
+        let mut out = [0; 42];
+        // A context serves more than one key.
+        for key in [&[0; 16][..], &[0x0b; 11]] {
+            hkdf.derive(key, &salt, &mut out);
+        }
+        let hex: String = out.iter().map(|byte| format!("{byte:02x}")).collect();
+        assert_eq!(
+            hex,
+            "085a01ea1b10f36933068b56efa5ad81a4f14b822f5b091568a9cdd4f155fda2c22e422478d305f3f896"
+        );
+    }
+
     fn is_bound_as_it_is<C: Ciphers>() {
         examples_of_fips_197::<C>();
         an_example_of_gcm::<C>();
         a_counter_wraps::<C>();
+        an_example_of_hkdf::<C>();
     }
 
     #[test]

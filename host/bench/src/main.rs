@@ -14,6 +14,7 @@ mod bearssl;
 mod child;
 mod ciphers;
 mod contest;
+mod editions;
 mod kinds;
 mod measure;
 #[allow(unsafe_code)]
@@ -31,6 +32,7 @@ mod room;
 mod rows;
 #[cfg(test)]
 mod samples;
+mod sip004;
 mod spread;
 mod standing;
 mod table;

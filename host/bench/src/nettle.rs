@@ -7,10 +7,12 @@
 mod block;
 mod ctr;
 mod gcm;
+mod hkdf;
 
 pub use block::AesBlock;
 pub use ctr::AesCtr;
 pub use gcm::AesGcm;
+pub use hkdf::HkdfSha1;
 
 use std::os::raw::{c_char, c_int, c_uint, c_void};
 
@@ -25,6 +27,7 @@ impl Ciphers for Nettle {
     type Block = AesBlock;
     type Counter = AesCtr;
     type Gcm = AesGcm;
+    type Hkdf = HkdfSha1;
 }
 
 /// The environment variable from which nettle learns, when it is loaded, which

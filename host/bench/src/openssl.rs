@@ -3,10 +3,12 @@
 mod block;
 mod ctr;
 mod gcm;
+mod hkdf;
 
 pub use block::AesBlock;
 pub use ctr::AesCtr;
 pub use gcm::AesGcm;
+pub use hkdf::HkdfSha1;
 
 use std::ffi::CStr;
 use std::os::raw::{c_char, c_int, c_uchar, c_void};
@@ -23,6 +25,7 @@ impl Ciphers for OpenSsl {
     type Block = AesBlock;
     type Counter = AesCtr;
     type Gcm = AesGcm;
+    type Hkdf = HkdfSha1;
 }
 
 /// The environment variable from which OpenSSL learns, when it is loaded, which

@@ -28,6 +28,7 @@ mod bodies;
 mod datagrams;
 mod disorder;
 mod primitives;
+mod sip004;
 mod streams;
 
 use crate::kinds::Kind;
@@ -103,6 +104,7 @@ impl Row {
 pub fn all() -> Vec<Row> {
     let mut rows = datagrams::rows();
     rows.extend(disorder::rows());
+    rows.extend(sip004::rows());
     rows.extend(bodies::rows());
     rows.extend(streams::rows());
     rows.extend(primitives::rows());
@@ -111,6 +113,7 @@ pub fn all() -> Vec<Row> {
 
 const KEY: [u8; 32] = *b"thirty-two bytes to serve as key";
 const NONCE: [u8; 12] = *b"twelve bytes";
+const SALT: [u8; 32] = *b"thirty-two bytes to do for salt!";
 
 /// Fills a buffer before its work. The period is odd, so that neighbouring blocks
 /// differ.

@@ -2,7 +2,7 @@
 
 use crate::about::About;
 use crate::contest::{Column, Samples};
-use crate::kinds::{Call, Kind, METHODS};
+use crate::kinds::{Call, Kind, METHODS, SIP004_METHODS};
 use crate::results::Line;
 
 pub fn about() -> About {
@@ -40,6 +40,13 @@ pub fn lines() -> Vec<Line> {
             Kind::Chunk(method, Call::Seal),
             1_400,
             [30.0, 60.0, 70.0, 50.0, 900.0, 700.0, 500.0],
+        ));
+    }
+    for method in SIP004_METHODS {
+        lines.push(line(
+            Kind::Sip004(method, Call::Open),
+            1_400,
+            [25.0, 35.0, 33.0, 28.0, 800.0, 600.0, 400.0],
         ));
     }
     for key_length in [16, 24, 32] {

@@ -2,6 +2,7 @@
 
 use crate::about::About;
 use crate::contest::Column;
+use crate::editions;
 use crate::kinds::Section;
 use crate::numbers::{grouped, rounded};
 use crate::results::{Line, Summary};
@@ -115,7 +116,7 @@ impl Span {
 }
 
 /// All of it: what it was made on, the sections, where ours stands, how far the samples
-/// lie apart, and the worst case.
+/// lie apart, the two editions beside each other, and the worst case.
 pub fn text(about: &About, lines: &[Line]) -> String {
     let mut text = about.lines();
     for section in Section::ALL {
@@ -126,6 +127,8 @@ pub fn text(about: &About, lines: &[Line]) -> String {
     text.extend(standing::lines(lines));
     text.push(String::new());
     text.extend(spread::lines(lines));
+    text.push(String::new());
+    text.extend(editions::lines(lines));
     text.push(String::new());
     text.push(worst::statement(lines));
     text.push(String::new());
@@ -162,7 +165,7 @@ fn groups(section: Section) -> &'static [Group] {
 
 fn spans(section: Section) -> Vec<Span> {
     let rate = match section {
-        Section::Datagrams | Section::Forgeries => "datagrams/s",
+        Section::Datagrams | Section::Forgeries | Section::Sip004 => "datagrams/s",
         _ => "calls/s",
     };
     let span = |title, heads, gap| Span { title, heads, gap };

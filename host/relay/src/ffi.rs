@@ -12,7 +12,7 @@ use crate::pool::Pool;
 use crate::seal_session::SealSession;
 use crate::stream::STREAM_WORDS;
 use crate::table::Table;
-use crate::{Key, Method, Peer, Refusal};
+use crate::{sip004, Key, Method, Peer, Refusal};
 
 pub(crate) type TableWords = [u64; Table::WORDS];
 pub(crate) type PoolWords = [u64; Pool::WORDS];
@@ -220,6 +220,68 @@ extern "C" {
         file_len: usize,
         report: *mut u64,
         report_len: usize,
+        answer: *mut u64,
+        answer_len: usize,
+    ) -> u64;
+    fn relay_sip004_datagram_seal(
+        method: u64,
+        key: *const u8,
+        key_len: usize,
+        salt: *const u8,
+        salt_len: usize,
+        payload: *const u8,
+        payload_len: usize,
+        out: *mut u8,
+        out_len: usize,
+        answer: *mut u64,
+        answer_len: usize,
+    ) -> u64;
+    fn relay_sip004_datagram_open(
+        method: u64,
+        key: *const u8,
+        key_len: usize,
+        datagram: *const u8,
+        datagram_len: usize,
+        out: *mut u8,
+        out_len: usize,
+        answer: *mut u64,
+        answer_len: usize,
+    ) -> u64;
+    fn relay_sip004_stream_begin_seal(
+        method: u64,
+        key: *const u8,
+        key_len: usize,
+        salt: *const u8,
+        salt_len: usize,
+        stream: *mut u64,
+        stream_len: usize,
+    ) -> u64;
+    fn relay_sip004_stream_begin_open(
+        method: u64,
+        key: *const u8,
+        key_len: usize,
+        salt: *const u8,
+        salt_len: usize,
+        stream: *mut u64,
+        stream_len: usize,
+    ) -> u64;
+    fn relay_sip004_stream_seal_chunk(
+        stream: *mut u64,
+        stream_len: usize,
+        payload: *const u8,
+        payload_len: usize,
+        out: *mut u8,
+        out_len: usize,
+        answer: *mut u64,
+        answer_len: usize,
+    ) -> u64;
+    fn relay_sip004_stream_open_chunk(
+        stream: *mut u64,
+        stream_len: usize,
+        bytes: *const u8,
+        bytes_len: usize,
+        out: *mut u8,
+        out_len: usize,
         answer: *mut u64,
         answer_len: usize,
     ) -> u64;
@@ -656,6 +718,145 @@ pub(crate) fn recording_mend(file: &mut [u8], report: &mut [u64]) -> Result<Answ
             file.len(),
             report.as_mut_ptr(),
             report.len(),
+            answer.as_mut_ptr(),
+            answer.len(),
+        )
+    };
+    answer::checked(number, answer)
+}
+
+/// Seals a datagram of the 2017 edition.
+pub(crate) fn sip004_datagram_seal(
+    key: &sip004::Key,
+    salt: &[u8],
+    payload: &[u8],
+    out: &mut [u8],
+) -> Result<Answer, Refusal> {
+    let mut answer = NO_ANSWER;
+    // SAFETY: the rule of lending.
+    let number = unsafe {
+        relay_sip004_datagram_seal(
+            key.method().number(),
+            key.bytes().as_ptr(),
+            key.bytes().len(),
+            salt.as_ptr(),
+            salt.len(),
+            payload.as_ptr(),
+            payload.len(),
+            out.as_mut_ptr(),
+            out.len(),
+            answer.as_mut_ptr(),
+            answer.len(),
+        )
+    };
+    answer::checked(number, answer)
+}
+
+/// Opens a datagram of the 2017 edition.
+pub(crate) fn sip004_datagram_open(
+    key: &sip004::Key,
+    datagram: &[u8],
+    out: &mut [u8],
+) -> Result<Answer, Refusal> {
+    let mut answer = NO_ANSWER;
+    // SAFETY: the rule of lending.
+    let number = unsafe {
+        relay_sip004_datagram_open(
+            key.method().number(),
+            key.bytes().as_ptr(),
+            key.bytes().len(),
+            datagram.as_ptr(),
+            datagram.len(),
+            out.as_mut_ptr(),
+            out.len(),
+            answer.as_mut_ptr(),
+            answer.len(),
+        )
+    };
+    answer::checked(number, answer)
+}
+
+/// Begins a stream of the 2017 edition that seals.
+pub(crate) fn sip004_stream_begin_seal(
+    key: &sip004::Key,
+    salt: &[u8],
+) -> Result<StreamWords, Refusal> {
+    let mut stream = [0; STREAM_WORDS];
+    // SAFETY: the rule of lending.
+    let number = unsafe {
+        relay_sip004_stream_begin_seal(
+            key.method().number(),
+            key.bytes().as_ptr(),
+            key.bytes().len(),
+            salt.as_ptr(),
+            salt.len(),
+            stream.as_mut_ptr(),
+            stream.len(),
+        )
+    };
+    answer::checked(number, NO_ANSWER).map(|_| stream)
+}
+
+/// Begins a stream of the 2017 edition that opens.
+pub(crate) fn sip004_stream_begin_open(
+    key: &sip004::Key,
+    salt: &[u8],
+) -> Result<StreamWords, Refusal> {
+    let mut stream = [0; STREAM_WORDS];
+    // SAFETY: the rule of lending.
+    let number = unsafe {
+        relay_sip004_stream_begin_open(
+            key.method().number(),
+            key.bytes().as_ptr(),
+            key.bytes().len(),
+            salt.as_ptr(),
+            salt.len(),
+            stream.as_mut_ptr(),
+            stream.len(),
+        )
+    };
+    answer::checked(number, NO_ANSWER).map(|_| stream)
+}
+
+/// Seals a length with its payload, in a stream of the 2017 edition.
+pub(crate) fn sip004_stream_seal_chunk(
+    stream: &mut StreamWords,
+    payload: &[u8],
+    out: &mut [u8],
+) -> Result<Answer, Refusal> {
+    let mut answer = NO_ANSWER;
+    // SAFETY: the rule of lending.
+    let number = unsafe {
+        relay_sip004_stream_seal_chunk(
+            stream.as_mut_ptr(),
+            stream.len(),
+            payload.as_ptr(),
+            payload.len(),
+            out.as_mut_ptr(),
+            out.len(),
+            answer.as_mut_ptr(),
+            answer.len(),
+        )
+    };
+    answer::checked(number, answer)
+}
+
+/// Opens a length or a payload, in a stream of the 2017 edition.
+pub(crate) fn sip004_stream_open_chunk(
+    stream: &mut StreamWords,
+    bytes: &[u8],
+    out: &mut [u8],
+) -> Result<Answer, Refusal> {
+    let mut answer = NO_ANSWER;
+    // SAFETY: the rule of lending.
+    let number = unsafe {
+        relay_sip004_stream_open_chunk(
+            stream.as_mut_ptr(),
+            stream.len(),
+            bytes.as_ptr(),
+            bytes.len(),
+            out.as_mut_ptr(),
+            out.len(),
             answer.as_mut_ptr(),
             answer.len(),
         )

@@ -3,7 +3,7 @@
 use std::error::Error;
 use std::fmt;
 
-use crate::{Method, Refusal};
+use crate::{sip004, Method, Refusal};
 
 /// Why a key, an address, a table or a session cannot be made of what was given.
 ///
@@ -24,6 +24,13 @@ pub enum Invalid {
     KeyLength {
         /// The method that the key is for.
         method: Method,
+        /// How many bytes were given.
+        length: usize,
+    },
+    /// A key of the 2017 edition has another length than its method's keys.
+    Sip004KeyLength {
+        /// The method that the key is for.
+        method: sip004::Method,
         /// How many bytes were given.
         length: usize,
     },
@@ -70,6 +77,10 @@ impl fmt::Display for Invalid {
                 let wanted = method.key_len();
                 write!(f, "a key of {method} has {wanted} bytes, not {length}")
             }
+            Self::Sip004KeyLength { method, length } => {
+                let wanted = method.key_len();
+                write!(f, "a key of {method} has {wanted} bytes, not {length}")
+            }
             Self::Retention { seconds } => {
                 write!(
                     f,
@@ -108,6 +119,7 @@ impl From<Invalid> for Refusal {
     fn from(invalid: Invalid) -> Self {
         match invalid {
             Invalid::KeyLength { .. }
+            | Invalid::Sip004KeyLength { .. }
             | Invalid::Retention { .. }
             | Invalid::TableRetention { .. } => Self::Settings,
             Invalid::SessionId { .. }
@@ -120,7 +132,7 @@ impl From<Invalid> for Refusal {
 
 #[cfg(test)]
 mod tests {
-    use crate::{Address, Invalid, Key, Method, Refusal, SealSession, Table};
+    use crate::{sip004, Address, Invalid, Key, Method, Refusal, SealSession, Table};
 
     fn said<T>(made: Result<T, Invalid>) -> (String, Refusal) {
         let invalid = made.err().expect("nothing can be made of it");
@@ -130,11 +142,13 @@ mod tests {
     #[test]
     fn each_says_what_was_wrong() {
         let key = said(Key::new(Method::Aes256Gcm, &[0; 33]));
+        let older = said(sip004::Key::new(sip004::Method::Aes192Gcm, &[0; 32]));
         let retention = said(Table::new(59));
         let forgetful = Table::from_words(&[0; Table::WORDS]);
         let lent = said(SealSession::server(0xab, 0xab, 1_000, &forgetful));
         for ((text, refusal), expected) in [
             (key, "a key of 2022-blake3-aes-256-gcm has 32 bytes, not 33"),
+            (older, "a key of aes-192-gcm has 24 bytes, not 32"),
             (
                 retention,
                 "a retention is 60 to 3,600 seconds, or 0 for 300, not 59",

@@ -2,11 +2,8 @@
 
 use std::fmt;
 
-use crate::secret;
+use crate::secret::KeyBytes;
 use crate::{Invalid, Method};
-
-/// The longest key, in bytes.
-const LONGEST: usize = 32;
 
 /// A shared key and its method.
 ///
@@ -16,8 +13,7 @@ const LONGEST: usize = 32;
 #[derive(Clone)]
 pub struct Key {
     method: Method,
-    /// The key, and zeros behind it.
-    bytes: [u8; LONGEST],
+    bytes: KeyBytes,
 }
 
 impl Key {
@@ -39,9 +35,10 @@ impl Key {
         if length != method.key_len() {
             return Err(Invalid::KeyLength { method, length });
         }
-        let mut bytes = [0; LONGEST];
-        bytes[..length].copy_from_slice(key);
-        Ok(Self { method, bytes })
+        Ok(Self {
+            method,
+            bytes: KeyBytes::new(key),
+        })
     }
 
     /// The method that the key is for.
@@ -50,7 +47,7 @@ impl Key {
     }
 
     pub(crate) fn bytes(&self) -> &[u8] {
-        &self.bytes[..self.method.key_len()]
+        self.bytes.as_slice()
     }
 }
 
@@ -59,12 +56,6 @@ impl fmt::Debug for Key {
         f.debug_struct("Key")
             .field("method", &self.method)
             .finish_non_exhaustive()
-    }
-}
-
-impl Drop for Key {
-    fn drop(&mut self) {
-        secret::wipe(&mut self.bytes);
     }
 }
 

@@ -12,8 +12,8 @@ use crate::answer;
 /// [`SealSession`](crate::SealSession); of a [`Table`](crate::Table) only a
 /// datagram's [`Replay`](Refusal::Replay) changes anything: it counts one more repeat
 /// in the datagram's session; of a stream only
-/// [`NotAuthentic`](Refusal::NotAuthentic) and [`Empty`](Refusal::Empty) change
-/// anything: they end the half that opens.
+/// [`NotAuthentic`](Refusal::NotAuthentic), [`Malformed`](Refusal::Malformed) and
+/// [`Empty`](Refusal::Empty) change anything: they end the half that opens.
 ///
 /// ```
 /// use relay::{Key, Method, Peer, Refusal, Table};
@@ -33,13 +33,15 @@ pub enum Refusal {
     /// made, as [`Invalid`](crate::Invalid).
     Settings,
     /// Number 2: a datagram has under 32 or over 65,507 bytes, or a chunk over
-    /// 65,535.
+    /// 65,535. In the 2017 edition a datagram has at least its salt and 16 bytes, and
+    /// a chunk 16,383 at most.
     Length,
     /// Number 3: the output buffer is shorter than the bytes due.
     Room,
     /// Number 4: a tag is wrong, or the stream has ended.
     NotAuthentic,
-    /// Number 5: the header is too short, or its address or padding is bad.
+    /// Number 5: the header is too short, or its address or padding is bad. In the 2017
+    /// edition: a stream's length is above 16,383.
     Malformed,
     /// Number 6: the type byte is the other direction's, or no type at all.
     Type,
@@ -122,10 +124,10 @@ impl fmt::Display for Refusal {
             Self::Settings => {
                 "a salt of the wrong length, another method's pool, or unlawful words"
             }
-            Self::Length => "a datagram under 32 or over 65,507 bytes, or a chunk over 65,535",
+            Self::Length => "a datagram or a chunk that is too short or too long",
             Self::Room => "the output buffer is too short",
             Self::NotAuthentic => "a wrong tag, or the stream has ended",
-            Self::Malformed => "malformed header, address or padding",
+            Self::Malformed => "malformed header, address, padding or length",
             Self::Type => "wrong type byte",
             Self::Time => "timestamp over 30 seconds from the clock",
             Self::Replay => "packet ID not fresh, or salt seen before",

@@ -9,26 +9,27 @@ pub use response::ResponseHeader;
 use std::fmt;
 use std::marker::PhantomData;
 
+use crate::answer::{self, Answer};
 use crate::ffi::{self, StreamWords};
-use crate::{answer, secret};
+use crate::secret;
 use crate::{Method, Refusal, MAX_CHUNK};
 
 /// The number of words that a stream is.
 pub(crate) const STREAM_WORDS: usize = 8;
 
 /// Places in the words.
-const TURN: usize = 0;
-const METHOD: usize = 1;
-const COUNTER: usize = 2;
-const SUBKEY: usize = 4;
+pub(crate) const TURN: usize = 0;
+pub(crate) const METHOD: usize = 1;
+pub(crate) const COUNTER: usize = 2;
+pub(crate) const SUBKEY: usize = 4;
 
 /// Values of the turn that are looked at here.
-const ENDED: u64 = 0;
+pub(crate) const ENDED: u64 = 0;
 const PAYLOAD_NEXT: u64 = 2;
 
 /// Bytes of a sealed chunk besides its payload: a length with its tag, and a tag.
-const CHUNK_OVERHEAD: usize = 2 + TAG + TAG;
-const TAG: usize = 16;
+pub(crate) const CHUNK_OVERHEAD: usize = 2 + TAG + TAG;
+pub(crate) const TAG: usize = 16;
 
 /// The direction from a client to a server.
 #[derive(Debug)]
@@ -103,6 +104,16 @@ impl Step {
     pub fn used(self) -> usize {
         match self {
             Self::Length { used, .. } | Self::Payload { used, .. } => used,
+        }
+    }
+
+    /// What the library answered to a stream that was at this turn.
+    pub(crate) fn from_library(turn: u64, answer: &Answer) -> Self {
+        let (used, length) = (answer::length(answer[0]), answer::length(answer[1]));
+        if turn == PAYLOAD_NEXT {
+            Self::Payload { used, length }
+        } else {
+            Self::Length { used, length }
         }
     }
 }
@@ -189,14 +200,9 @@ impl<Direction> Stream<Direction, Opening> {
     /// last two end the stream; the others leave it as it was, so that the call can be
     /// made again with more bytes or room.
     pub fn open_chunk(&mut self, bytes: &[u8], out: &mut [u8]) -> Result<Step, Refusal> {
-        let is_payload = self.words[TURN] == PAYLOAD_NEXT;
-        let answer = ffi::stream_open_chunk(&mut self.words, bytes, out)?;
-        let (used, length) = (answer::length(answer[0]), answer::length(answer[1]));
-        Ok(if is_payload {
-            Step::Payload { used, length }
-        } else {
-            Step::Length { used, length }
-        })
+        let turn = self.words[TURN];
+        ffi::stream_open_chunk(&mut self.words, bytes, out)
+            .map(|answer| Step::from_library(turn, &answer))
     }
 }
 

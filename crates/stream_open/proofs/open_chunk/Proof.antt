@@ -1,35 +1,27 @@
-use mathlib.Core.Path.{sym, _∙_}
+use mathlib.Core.Path.{sym, ap, _∙_, subst}
 use borrow.Author.Needs.{needs}
-use Rattle.stream_open.proofs.ChunkLaws.{opened-counts}
+use lib.ListN.{length}
+use Rattle.stream_pieces.specs.declared.Framing.{Framing}
+use Rattle.stream_pieces.specs.Framing.{HasCipher}
+use Rattle.stream_pieces.proofs.FramingLaws.{framing-cipher}
+use Rattle.stream_open.specs.Steps.{stepAnswer, stepOut}
 use Rattle.stream_open.proofs.open_chunk.Statement.{statement}
 use Rattle.stream_open.proofs.open_chunk.Tie as tie
 
-advanced-requires : tie.Need-advanced-requires
-advanced-requires c κs =
-    opened-counts _ _ _ _ _ (c .before .before .before .before .before .open-turn .ensures .0) (c .before .answer .given .1)
+open-framed-requires : tie.Need-open-framed-requires
+open-framed-requires c κs = subst HasCipher (sym (c .before .framing-of .ensures)) (framing-cipher _)
 
 returns : tie.Need-returns
 returns c =
-    let a = c .before .before in
-    let o = a .before .before .before .before in
-    (sym (a .answer .given .1) ∙ o .open-turn .ensures .0, (c .advanced .ensures, o .open-turn .ensures .1))
-
-returns-2 : tie.Need-returns-2
-returns-2 c =
-    let a = c .before .before in
-    let o = a .before .before .before .before in
-    (sym (a .answer2 .given .1) ∙ o .open-turn .ensures .0, (c .refused-next .ensures, o .open-turn .ensures .1))
+    let o = c .before .before in
+    let f = o .before .before in
+    let a = f .before .before .before .args in (
+      o .open-framed .ensures .0 ∙ ap (λ (g : Framing). stepAnswer g (a .stream) (a .s .now) (length (a .out .now))) (f .framing-of .ensures),
+      (
+        o .open-framed .ensures .1 .0,
+        o .open-framed .ensures .1 .1 ∙ ap (λ (g : Framing). stepOut g (a .stream) (a .s .now) (a .out .now)) (f .framing-of .ensures),
+      ),
+    )
 
 pub open-chunk-spec : {M : Type 1} → statement M
-open-chunk-spec =
-    tie.close
-    (tie.spec
-    (λ c κs. search needs)
-    (λ c. search needs)
-    advanced-requires
-    (λ c. search needs)
-    (λ c κs. search needs)
-    (λ c. search needs)
-    returns
-    (λ c. search needs)
-    returns-2)
+open-chunk-spec = tie.close (tie.spec (λ c κs. search needs) open-framed-requires (λ c. search needs) returns)

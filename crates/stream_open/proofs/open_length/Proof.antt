@@ -8,20 +8,24 @@ use Rattle.stream_open.proofs.open_length.Statement.{statement}
 use Rattle.stream_open.proofs.open_length.Tie as tie
 
 returns : tie.Need-returns
-returns c = length-counter _ _ _ (c .if1 .taken)
+returns c = let a = c .before .before .before .args in length-counter (a .f) (a .stream) _ _ (c .if1 .taken)
 
 returns-2 : tie.Need-returns-2
-returns-2 c = length-more _ _ _ (c .before .if1 .left) (c .if2 .taken)
+returns-2 c =
+    let e = c .before in
+    let a = e .before .before .before .args in
+    length-more (a .f) (a .stream) _ _ (e .if1 .left) (c .if2 .taken)
 
 slice-aggregate-open-piece : tie.Need-slice-aggregate-open-piece
-slice-aggregate-open-piece c = sym (length-take-le 18 (c .before .before .before .before .before .before .args .s .now) (c .before .before .if2 .left))
+slice-aggregate-open-piece c =
+    let e = c .before .before in sym (length-take-le 18 (e .before .before .before .before .args .s .now) (e .if2 .left))
 
 open-piece-requires : tie.Need-open-piece-requires
 open-piece-requires c κs =
     let e = c .before .before .before in
     let a = e .before .before .before .before in
     let n = length-take-le 18 (a .args .s .now) (e .if2 .left) in
-    (a .pre .0, (omega (arith, n), (omega (arith, n), omega (arith, n))))
+    (a .pre, (omega (arith, n), (omega (arith, n), omega (arith, n))))
 
 returns-3 : tie.Need-returns-3
 returns-3 c =
@@ -29,14 +33,16 @@ returns-3 c =
     let t = r .before .before in
     let p = t .before .before in
     let e = p .before .before .before .before in
-    length-good _ _ _ (e .before .if1 .left) (e .if2 .left) _ _ (e .before .before .before .before .pre .1) (p .open-piece .ensures .0) (0 ∷ 0 ∷ []) _ _ refl
+    let a = e .before .before .before .before .args in
+    length-good (a .f) (a .stream) _ _ (e .before .if1 .left) (e .if2 .left) _ (p .open-piece .ensures .0) (0 ∷ 0 ∷ []) _ _ refl
     (p .open-piece .ensures .1) (r .read-u16-be .ensures) _ (c .length-answer .ensures) (t .if3 .taken)
 
 returns-4 : tie.Need-returns-4
 returns-4 c =
     let p = c .before .before in
     let e = p .before .before .before .before in
-    length-forged _ _ _ (e .before .if1 .left) (e .if2 .left) _ _ (e .before .before .before .before .pre .1) (p .open-piece .ensures .0) (c .if3 .left)
+    let a = e .before .before .before .before .args in
+    length-forged (a .f) (a .stream) _ _ (e .before .if1 .left) (e .if2 .left) _ (p .open-piece .ensures .0) (c .if3 .left)
 
 pub open-length-spec : {M : Type 1} → statement M
 open-length-spec =

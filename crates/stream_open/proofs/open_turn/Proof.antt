@@ -1,56 +1,38 @@
-use mathlib.Core.Path.{sym, _∙_, subst}
-use Prim.Native.Nat.{ℕ, _<_}
 use borrow.Author.Needs.{needs}
-use Rattle.aes.specs.Keyed.{nkOf}
-use Rattle.stream_pieces.proofs.KeyLaws.{key-of-length}
 use Rattle.stream_open.proofs.ChunkLaws.{step-settings, step-length, step-payload, step-ended, step-variable}
 use Rattle.stream_open.proofs.open_turn.Statement.{statement}
 use Rattle.stream_open.proofs.open_turn.Tie as tie
 
--- where the method is known
-has-key : (c : tie.Else1) → 0 < nkOf (c .before .key-length .result)
-has-key c =
-    let e = c .before .key-length .ensures in
-    subst (λ (n : ℕ). 0 < nkOf n) (sym e) (key-of-length _ (λ z. c .if1 .left (e ∙ z)))
-
 returns : tie.Need-returns
-returns c = step-settings _ _ _ _ (c .before .key-length .ensures) (c .if1 .taken)
+returns c = step-settings _ _ _ _ (c .if1 .taken)
 
 open-length-requires : tie.Need-open-length-requires
-open-length-requires c κs = let e = c .before .before in (has-key e, e .before .key-length .ensures)
+open-length-requires c κs = let e = c .before .before in e .before .before .before .before .pre (e .if1 .left)
 
 open-payload-requires : tie.Need-open-payload-requires
-open-payload-requires c κs = let e = c .before .before .before .before in (has-key e, e .before .key-length .ensures)
+open-payload-requires c κs = let e = c .before .before .before .before in e .before .before .before .before .pre (e .if1 .left)
 
 returns-2 : tie.Need-returns-2
 returns-2 c =
     let t = c .before in
-    let e = t .before .before in
-    step-length _ _ _ _ (e .before .key-length .ensures) (e .if1 .left) (t .enum-told .given .1) _ (c .open-length .ensures)
+    step-length _ _ _ _ (t .before .before .if1 .left) (t .enum-told .given .1) _ (c .open-length .ensures)
 
 returns-3 : tie.Need-returns-3
 returns-3 c =
     let p = c .before .before in
     let t = p .before .before .before in
-    let e = t .before .before in
-    step-payload _ _ _ _ (e .before .key-length .ensures) (e .if1 .left) _ (t .turn .given .1) _ _ (p .open-payload .ensures .0)
-    (p .open-payload .ensures .1)
+    step-payload _ _ _ _ (t .before .before .if1 .left) _ (t .turn .given .1) _ _ (p .open-payload .ensures .0) (p .open-payload .ensures .1)
 
 returns-4 : tie.Need-returns-4
-returns-4 c =
-    let e = c .before .before in
-    step-ended _ _ _ _ (e .before .key-length .ensures) (e .if1 .left) (c .enum-told2 .given .1)
+returns-4 c = step-ended _ _ _ _ (c .before .before .if1 .left) (c .enum-told2 .given .1)
 
 returns-5 : tie.Need-returns-5
-returns-5 c =
-    let e = c .before .before in
-    step-variable _ _ _ _ (e .before .key-length .ensures) (e .if1 .left) _ (c .enum-told3 .given .1)
+returns-5 c = step-variable _ _ _ _ (c .before .before .if1 .left) _ (c .enum-told3 .given .1)
 
 pub open-turn-spec : {M : Type 1} → statement M
 open-turn-spec =
     tie.close
     (tie.spec
-    (λ c κs. search needs)
     returns
     (λ c. search needs)
     open-length-requires

@@ -1,7 +1,7 @@
 use mathlib.Core.Path.{sym, ap}
 use borrow.Author.Needs.{needs}
 use Rattle.stream_open.specs.declared.Turn.{Turn}
-use Rattle.stream_open.specs.Chunks.{turnAfter}
+use Rattle.stream_open.specs.Steps.{turnAfter}
 use Rattle.stream_open.proofs.turn_after.Statement.{statement}
 use Rattle.stream_open.proofs.turn_after.Tie as tie
 

@@ -7,8 +7,8 @@ pub size-answer-spec : {M : Type 1} → statement M
 size-answer-spec =
     tie.close
     (tie.spec
-    (λ c. too-long _ _ _ _ (c .if1 .taken))
+    (λ c. too-long _ _ _ _ _ (c .if1 .taken))
     (λ c. search needs)
     (λ c. search needs)
-    (λ c. no-room _ _ _ _ (c .before .if1 .left) (c .if2 .taken))
-    (λ c. fitting _ _ _ _ (c .before .if1 .left) (c .if2 .left)))
+    (λ c. no-room _ _ _ _ _ (c .before .if1 .left) (c .if2 .taken))
+    (λ c. fitting _ _ _ _ _ (c .before .if1 .left) (c .if2 .left)))

@@ -31,6 +31,7 @@ struct Aead {
 
 extern "C" {
     static nettle_gcm_aes128: Aead;
+    static nettle_gcm_aes192: Aead;
     static nettle_gcm_aes256: Aead;
 
     fn nettle_memeql_sec(a: *const c_void, b: *const c_void, n: usize) -> c_int;
@@ -48,6 +49,7 @@ impl Gcm for AesGcm {
         let aead = unsafe {
             match key_length {
                 16 => &nettle_gcm_aes128,
+                24 => &nettle_gcm_aes192,
                 32 => &nettle_gcm_aes256,
                 _ => panic!("no method has a key of {key_length} bytes"),
             }

@@ -8,6 +8,7 @@ use crate::ciphers::{Gcm, Gmac, TAG_LENGTH};
 
 extern "C" {
     fn EVP_aes_128_gcm() -> *const EvpCipher;
+    fn EVP_aes_192_gcm() -> *const EvpCipher;
     fn EVP_aes_256_gcm() -> *const EvpCipher;
     fn EVP_CipherFinal_ex(ctx: *mut EvpCipherCtx, out: *mut u8, out_len: *mut c_int) -> c_int;
     fn EVP_CIPHER_CTX_ctrl(
@@ -31,6 +32,7 @@ impl Gcm for AesGcm {
         unsafe {
             let cipher = match key_length {
                 16 => EVP_aes_128_gcm(),
+                24 => EVP_aes_192_gcm(),
                 32 => EVP_aes_256_gcm(),
                 _ => panic!("no method has a key of {key_length} bytes"),
             };

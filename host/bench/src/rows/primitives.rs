@@ -1,6 +1,6 @@
 //! AES, GHASH and BLAKE3, each alone.
 
-use super::{text, Contestant, Library, Row, KEY, NONCE};
+use super::{text, Contestant, Library, Row, KEY, NONCE, SALT};
 use crate::around::SUBKEY_CONTEXT;
 use crate::bearssl::{BearSsl, Ghash};
 use crate::ciphers::{Block, Ciphers, Counter, Gcm, Gmac, TAG_LENGTH};
@@ -26,8 +26,6 @@ const GMAC_KEY: usize = 16;
 
 /// The counter of GCM's first block of text.
 const FIRST_COUNTER: u32 = 2;
-
-const SALT: [u8; 32] = *b"thirty-two bytes to do for salt!";
 
 /// The length of a datagram's session ID, which is its subkey's salt.
 const SESSION_ID: usize = 8;

@@ -5,7 +5,7 @@ use std::fs;
 use std::path::Path;
 
 use crate::{
-    answer, recording, Method, Pool, Refusal, SealSession, Table, MAX_CHUNK, MAX_DATAGRAM,
+    answer, recording, sip004, Method, Pool, Refusal, SealSession, Table, MAX_CHUNK, MAX_DATAGRAM,
 };
 
 /// The header without its comments.
@@ -80,7 +80,7 @@ fn list(parameters: &str) -> Vec<String> {
 fn every_function_is_declared_as_in_the_header() {
     let in_header = parameters(&header(), "uint64_t");
     let here = parameters(include_str!("../ffi.rs"), "fn");
-    assert_eq!(in_header.len(), 18);
+    assert_eq!(in_header.len(), 24);
     assert_eq!(here.len(), in_header.len());
     for (name, parameters) in in_header {
         let expected: Vec<String> = list(&parameters).iter().map(|p| in_rust(p)).collect();
@@ -99,6 +99,7 @@ fn sizes_are_the_headers() {
         ("ANSWER_WORDS", answer::WORDS),
         ("MAX_DATAGRAM", MAX_DATAGRAM),
         ("MAX_CHUNK", MAX_CHUNK),
+        ("SIP004_MAX_CHUNK", sip004::MAX_CHUNK),
         ("MAX_COMPARED", recording::MAX_COMPARED),
         ("CHANGE_WORDS", recording::Change::WORDS),
     ] {
@@ -119,6 +120,10 @@ fn methods_and_refusals_have_the_headers_numbers() {
     assert_eq!(names.len(), 14);
     assert_eq!(numbers["RELAY_AES_128_GCM"], Method::Aes128Gcm.number());
     assert_eq!(numbers["RELAY_AES_256_GCM"], Method::Aes256Gcm.number());
+    for method in sip004::Method::ALL {
+        let name = method.name().to_uppercase().replace('-', "_");
+        assert_eq!(numbers[&format!("RELAY_SIP004_{name}")], method.number());
+    }
     for (name, refusal) in [
         ("SETTINGS", Refusal::Settings),
         ("LENGTH", Refusal::Length),
@@ -183,9 +188,10 @@ fn answers_have_the_headers_order() {
             "CHUNK_LENGTH",
             "HEAD_TIME",
             "SEALED_LENGTH",
+            "PLAINTEXT_LENGTH",
             "WANTED"
         ]),
-        [0, 1, 2, 0, 0]
+        [0, 1, 2, 0, 0, 0]
     );
     assert_eq!(places(&["DATAGRAMS", "GOOD"]), [0, 0]);
 }

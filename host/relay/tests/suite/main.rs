@@ -11,5 +11,6 @@ mod pools;
 mod recordings;
 mod refusals;
 mod sessions;
+mod sip004;
 mod streams;
 mod words;

@@ -1,51 +1,33 @@
--- Each return is one case of the tests.
-use mathlib.Core.Path.{_≡_, sym, _∙_}
-use lib.ListN.{length, getD}
-use Rattle.words.specs.States.{streamSize, turnOf, turnLawful}
-use Rattle.words.proofs.LentLaws.{its-size}
-use Rattle.relay.proofs.StreamLaws.{step-untold, step-unlawful, step-told}
+use mathlib.Core.Path.{sym, ap, _∙_, subst}
 use borrow.Author.Needs.{needs}
+use Rattle.stream_pieces.specs.declared.Framing.{Framing}
+use Rattle.stream_pieces.specs.Framing.{HasCipher, framingOf}
+use Rattle.stream_pieces.proofs.FramingLaws.{framing-cipher}
+use Rattle.stream_answers.specs.Chunks.{opensChunk}
 use Rattle.relay.proofs.streams.relay_stream_open_chunk.Statement.{statement}
 use Rattle.relay.proofs.streams.relay_stream_open_chunk.Tie as tie
 
+open-on-requires : tie.Need-open-on-requires
+open-on-requires c κs = subst HasCipher (sym (c .before .before .before .framing-of .ensures)) (framing-cipher _)
+
 returns : tie.Need-returns
 returns c =
-    let a = c .before .before .before .before .before .args in
-    step-untold (a .stream .now) (a .bytes .now) (a .out .now) (a .answer .now) (c .if1 .taken)
-
--- a lawful stream has its length
-stream-size : (c : tie.Then2) → length (c .before .before .before .before .before .before .before .before .args .stream .now) ≡ streamSize
-stream-size c =
-    let w = c .before .before .before .before .before .before .before .before .args .stream .now in
-    its-size (length w) streamSize (turnLawful (turnOf w) (getD w 3 0)) (sym (c .if2 .taken) ∙ c .before .is-receiver .ensures)
-
-receiver-in-requires : tie.Need-receiver-in-requires
-receiver-in-requires c κs = stream-size (c .before)
-
-write-step-requires : tie.Need-write-step-requires
-write-step-requires c κs =
-    let t = c .before .before .before .before .before .before .before .before in
-    (stream-size t, t .before .before .before .if1 .left)
-
-returns-2 : tie.Need-returns-2
-returns-2 c =
-    let d = c .before .before .before .before in
-    let s = d .before .before .before .before .before in
-    let r = s .before .before in
-    let t = r .before .before in
-    let i = t .before in
-    let e = i .before .before in
-    let a = e .before .before .before .before .before .args in
-    step-told (a .stream .now) (a .bytes .now) (a .out .now) (a .answer .now) (e .if1 .left) _ (i .is-receiver .ensures) (t .if2 .taken) _
-    (r .receiver-in .ensures) _ _ _ _ _ _ (s .open-chunk .ensures .0) (s .open-chunk .ensures .1 .0) (s .open-chunk .ensures .1 .1)
-    (d .write-step .ensures .0) (d .write-step .ensures .1 .0) (d .write-step .ensures .1 .1)
-
-returns-3 : tie.Need-returns-3
-returns-3 c =
-    let i = c .before in
-    let e = i .before .before in
-    let a = e .before .before .before .before .before .args in
-    step-unlawful (a .stream .now) (a .bytes .now) (a .out .now) (a .answer .now) (e .if1 .left) _ (i .is-receiver .ensures) (c .if2 .left)
+    let o = c .before .before .before .before .before .before in
+    let f = o .before .before .before .before in
+    let m = f .before in
+    let a = m .before .before .before .before .before .before .args in
+    o .open-on .ensures
+    ∙ ap (λ (g : Framing). opensChunk g (a .stream .now) (a .bytes .now) (a .out .now) (a .answer .now))
+    (f .framing-of .ensures ∙ ap framingOf (m .method-in .ensures))
 
 pub relay-stream-open-chunk-spec : {M : Type 1} → statement M
-relay-stream-open-chunk-spec = tie.close (tie.spec returns (λ c κs. search needs) receiver-in-requires (λ c κs. search needs) write-step-requires (λ c. search needs) (λ c. search needs) (λ c. search needs) returns-2 (λ c. search needs) returns-3)
+relay-stream-open-chunk-spec =
+    tie.close
+    (tie.spec
+    (λ c κs. search needs)
+    (λ c κs. search needs)
+    open-on-requires
+    (λ c. search needs)
+    (λ c. search needs)
+    (λ c. search needs)
+    returns)

@@ -1,5 +1,6 @@
 use mathlib.Core.Path.{sym, _∙_}
-use Rattle.relay.proofs.StreamLaws.{fitting, request-unfit, request-fit}
+use Rattle.stream_answers.proofs.ChunkLaws.{fitting}
+use Rattle.relay.proofs.StreamLaws.{request-unfit, request-fit}
 use borrow.Author.Needs.{needs}
 use Rattle.relay.proofs.streams.relay_stream_open_request.Statement.{statement}
 use Rattle.relay.proofs.streams.relay_stream_open_request.Tie as tie

@@ -1,5 +1,6 @@
 use mathlib.Core.Path.{sym, _∙_}
-use Rattle.relay.proofs.StreamLaws.{fitting, response-unfit, response-fit}
+use Rattle.stream_answers.proofs.ChunkLaws.{fitting}
+use Rattle.relay.proofs.StreamLaws.{response-unfit, response-fit}
 use borrow.Author.Needs.{needs}
 use Rattle.relay.proofs.streams.relay_stream_open_response.Statement.{statement}
 use Rattle.relay.proofs.streams.relay_stream_open_response.Tie as tie

@@ -2,7 +2,7 @@ use mathlib.Core.Path.{sym, _∙_}
 use lib.ListN.{length}
 use Rattle.stream_seal_heads.specs.HeadSealing.{responseAnswer, response}
 use Rattle.relay.specs.Streams.{sealsResponse}
-use Rattle.relay.proofs.StreamLaws.{fitting, unfit, sealed-fit}
+use Rattle.stream_answers.proofs.ChunkLaws.{fitting, unfit, sealed-fit}
 use borrow.Author.Needs.{needs}
 use Rattle.relay.proofs.streams.relay_stream_seal_response.Statement.{statement}
 use Rattle.relay.proofs.streams.relay_stream_seal_response.Tie as tie

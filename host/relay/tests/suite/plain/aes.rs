@@ -78,7 +78,7 @@ fn substitute(byte: u8) -> u8 {
     inverse ^ turned(1) ^ turned(2) ^ turned(3) ^ turned(4) ^ 0x63
 }
 
-/// FIPS 197, appendices C.1 and C.3.
+/// FIPS 197, appendix C.
 #[test]
 fn published_examples() {
     let text = std::array::from_fn(|i| 0x11 * i as u8);
@@ -86,6 +86,8 @@ fn published_examples() {
     let hex = |block: [u8; 16]| format!("{:032x}", u128::from_be_bytes(block));
     let short = Aes::new(&key[..16]).encrypt(text);
     assert_eq!(hex(short), "69c4e0d86a7b0430d8cdb78070b4c55a");
+    let middle = Aes::new(&key[..24]).encrypt(text);
+    assert_eq!(hex(middle), "dda97ca4864cdfe06eaf70a0ec0d7191");
     let long = Aes::new(&key).encrypt(text);
     assert_eq!(hex(long), "8ea2b7ca516745bfeafc49904b496089");
 }

@@ -7,6 +7,7 @@ mod aes;
 #[path = "../../../../bench/src/plain/blake3.rs"]
 mod blake3;
 mod gcm;
+mod hkdf;
 
 use aes::Aes;
 
@@ -70,4 +71,18 @@ fn subkey(key: &[u8], salt: &[u8]) -> Vec<u8> {
     blake3::DeriveKey::new("shadowsocks 2022 session subkey")
         .derive(&[key, salt].concat(), &mut subkey);
     subkey
+}
+
+/// A piece of a stream of the 2017 edition: the text under the stream's subkey and a
+/// counter (SIP004).
+pub fn sip004_piece(key: &[u8], salt: &[u8], counter: u64, text: &[u8]) -> Vec<u8> {
+    let mut nonce = [0; 12];
+    nonce[..8].copy_from_slice(&counter.to_le_bytes());
+    let subkey = hkdf::derive(salt, key, b"ss-subkey", key.len());
+    gcm::seal(&subkey, nonce, text)
+}
+
+/// A datagram of the 2017 edition.
+pub fn sip004_datagram(key: &[u8], salt: &[u8], text: &[u8]) -> Vec<u8> {
+    [salt, &sip004_piece(key, salt, 0, text)].concat()
 }

@@ -1,0 +1,4 @@
+pub mod RotationLaws
+pub mod ScheduleLaws
+pub mod RoundLaws
+pub mod SumLaws

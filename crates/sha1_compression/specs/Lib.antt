@@ -1,0 +1,4 @@
+pub mod Functions
+pub mod Rounds
+pub mod Schedule
+pub mod Compression

@@ -1,0 +1,4 @@
+pub mod MethodLaws
+pub mod SubkeyLaws
+pub mod AnswerLaws
+pub mod DatagramLaws

@@ -1,0 +1,3 @@
+pub mod Method
+pub mod Subkey
+pub mod Datagram

@@ -1,0 +1,9 @@
+pub mod DatagramLaws
+pub mod DatagramOrders
+pub mod Datagrams
+pub mod DatagramNumbers
+pub mod FramingLaws
+pub mod Streams
+pub mod StreamOrders
+pub mod Sip004
+pub mod StreamNumbers

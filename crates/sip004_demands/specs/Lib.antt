@@ -1,0 +1,7 @@
+pub mod Datagrams
+pub mod DatagramOrders
+pub mod DatagramNumbers
+pub mod Streams
+pub mod StreamOrders
+pub mod Sip004
+pub mod StreamNumbers

@@ -1,0 +1,5 @@
+pub mod Opens
+pub mod Flows
+pub mod Back
+pub mod Keeps
+pub mod Orders
