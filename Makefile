@@ -65,7 +65,7 @@ uninstall:
 # run's: cp target/bench/speed.txt target/bench/speed.svg docs/
 bench: PROGRAM := bench
 bench: arguments library target/staticlib/libbench.a
-	@tools/need libcrypto.so=libssl-dev libnettle.so=nettle-dev libbearssl.so=libbearssl-dev
+	@tools/need libcrypto.so=libssl-dev libnettle.so=nettle-dev libbearssl.so=libbearssl-dev libsodium.so=libsodium-dev
 	@$(CARGO) run --release $(HOST) -p $(PROGRAM) -- $(ARGS)
 
 # The fuzz target under AddressSanitizer, for so many seconds.

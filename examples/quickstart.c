@@ -22,11 +22,11 @@ int main(void)
     relay_session_begin_client(0x1f2e3d4c5b6a7988, session, RELAY_SESSION_WORDS);
     relay_table_new(60, table, RELAY_TABLE_WORDS);
 
-    /* The client seals. */
+    /* The client seals. This method has no nonce from us. */
     uint8_t datagram[1500], out[1500];
-    uint64_t refused = relay_datagram_seal(RELAY_AES_128_GCM, key, sizeof key, session, RELAY_SESSION_WORDS, now, target,
-                                           sizeof target, 0, payload, sizeof payload - 1, datagram, sizeof datagram,
-                                           answer, RELAY_ANSWER_WORDS);
+    uint64_t refused = relay_datagram_seal(RELAY_AES_128_GCM, key, sizeof key, NULL, 0, session, RELAY_SESSION_WORDS, now,
+                                           target, sizeof target, 0, payload, sizeof payload - 1, datagram,
+                                           sizeof datagram, answer, RELAY_ANSWER_WORDS);
     if (refused) {
         printf("not sealed: %s (%" PRIu64 ")\n", relay_refusal_name(refused), refused);
         return 1;

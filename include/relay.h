@@ -4,8 +4,8 @@
  *
  * Link with librelay.a. No function allocates, keeps a pointer, reads a clock
  * or makes random numbers: the caller lends every buffer and brings the time,
- * the IDs and the salts. What a caller keeps between calls it keeps as words
- * (uint64_t) in its own memory: a session table, a salt pool, sending
+ * the IDs, the salts and the nonces. What a caller keeps between calls it keeps
+ * as words (uint64_t) in its own memory: a session table, a salt pool, sending
  * sessions and streams. Any words have a meaning, so a faulty word leads to a
  * refusal or to another answer, never to undefined behaviour.
  *
@@ -23,10 +23,11 @@
  *   A buffer is a pointer and a length: in bytes for uint8_t, in words for
  *   uint64_t. A length of 0 may come with any pointer, NULL too. Buffers that
  *   one call writes must not overlap any other buffer of the call. Keys have
- *   16 bytes (methods 1 and 11), 24 (method 12) or 32 (methods 2 and 13), and so
- *   have salts.
+ *   16 bytes (methods 1 and 11), 24 (method 12) or 32 (methods 2 to 5 and 13), and
+ *   so have salts. A datagram's nonce has 24 bytes (methods 3 to 5); methods 1 and 2
+ *   do not look at it.
  *   RELAY_REFUSED_SETTINGS is: a method that there is not, or that is the other
- *   edition's; a key, salt, table, pool, session, stream or answer of another
+ *   edition's; a key, salt, nonce, table, pool, session, stream or answer of another
  *   length than its own; a table whose retention is not 60 to 3,600; a pool of
  *   another method; a session whose side is neither 0 nor 1; a stream at another
  *   turn than the call's, at a payload with a length that its edition has not (0
@@ -48,14 +49,18 @@
  *   time.
  *
  * STACK
- *   A call takes up to 8,648 bytes of the caller's stack, its arguments
+ *   A call takes up to 8,632 bytes of the caller's stack, its arguments
  *   included: opening a datagram. tests/stack.c measured it on x86-64, by the
  *   deepest byte that a call changes of a painted stack. The only recursion is
  *   over the digits of a number of a comparison, five at most. Allow 16 KiB.
  *
- * NOT CONSTANT TIME
- *   AES and GHASH look up tables by secret bytes. Do not share the processor
- *   with code that you do not trust.
+ * TIMING
+ *   AES and GHASH look up tables by secret bytes, so the time of a call of methods
+ *   1, 2 and 11 to 13 tells of key and text to whoever shares the processor. By
+ *   methods 3 to 5 nothing secret is a branch or an index up to the verdict on the
+ *   tag (tests/constant-time): boxes that share their processor with code that they
+ *   do not trust should use these. The header behind a good tag is read with
+ *   branches on what it says.
  */
 #ifndef RELAY_H
 #define RELAY_H
@@ -74,13 +79,14 @@ extern "C" {
 #define RELAY_VERSION_MINOR 1
 #define RELAY_VERSION_PATCH 0
 
-/* ---- sizes, in words but for the last three */
+/* ---- sizes, in words but for the last four */
 
 #define RELAY_TABLE_WORDS 833        /* a session table: 64 sessions */
 #define RELAY_POOL_WORDS 1537        /* a salt pool: 256 salts */
 #define RELAY_SESSION_WORDS 4        /* a sending session */
 #define RELAY_STREAM_WORDS 8         /* one direction of a stream */
 #define RELAY_ANSWER_WORDS 9         /* an answer */
+#define RELAY_NONCE_BYTES 24         /* the nonce of a datagram by methods 3 to 5 */
 #define RELAY_MAX_DATAGRAM 65507     /* bytes */
 #define RELAY_MAX_CHUNK 65535        /* bytes */
 #define RELAY_SIP004_MAX_CHUNK 16383 /* bytes, by the 2017 edition */
@@ -89,6 +95,11 @@ extern "C" {
 
 #define RELAY_AES_128_GCM 1 /* 2022-blake3-aes-128-gcm: 16-byte keys and salts */
 #define RELAY_AES_256_GCM 2 /* 2022-blake3-aes-256-gcm: 32-byte keys and salts */
+
+/* with ChaCha of 20, 12 and 8 rounds: 32-byte keys and salts, 24-byte nonces of datagrams */
+#define RELAY_CHACHA20_POLY1305 3 /* 2022-blake3-chacha20-poly1305 */
+#define RELAY_CHACHA12_POLY1305 4 /* 2022-blake3-chacha12-poly1305 */
+#define RELAY_CHACHA8_POLY1305 5  /* 2022-blake3-chacha8-poly1305 */
 
 /* of the 2017 edition: lawful in the functions named relay_sip004_ alone, which take no others */
 #define RELAY_SIP004_AES_128_GCM 11 /* aes-128-gcm: 16-byte keys and salts */
@@ -164,7 +175,8 @@ static inline const char *relay_refusal_name(uint64_t number)
 #define RELAY_AT_PACKET_ID 5
 #define RELAY_AT_TIMESTAMP 6 /* the sender's clock */
 #define RELAY_AT_PADDING 7   /* bytes of it */
-#define RELAY_AT_PAYLOAD 8   /* place in `out`; it ends at the datagram's length less 32 */
+#define RELAY_AT_PAYLOAD 8   /* place in `out`; it ends at the datagram's length less 32, by methods
+                              * 3 to 5 less 40 */
 
 /* an opened variable header of a request: kind, first, second and port as above, and then */
 #define RELAY_AT_HEAD_PADDING 4 /* bytes of it */
@@ -221,7 +233,7 @@ static inline const char *relay_refusal_name(uint64_t number)
 #define RELAY_TURN_PAYLOAD 2   /*   opens a payload */
 #define RELAY_TURN_SEALING 3   /*   seals */
 #define RELAY_TURN_VARIABLE 4  /*   opens a request's variable header */
-#define RELAY_STREAM_METHOD 1  /* 1 and 2, or 11 to 13: which functions take the stream */
+#define RELAY_STREAM_METHOD 1  /* 1 to 5, or 11 to 13: which functions take the stream */
 #define RELAY_STREAM_COUNTER 2 /* of the next piece */
 #define RELAY_STREAM_LENGTH 3  /* of the payload (1 to 65,535; by SIP004 0 to 16,383) or variable
                                 * header that is next */
@@ -267,13 +279,14 @@ uint64_t relay_session_begin_client(uint64_t id, uint64_t *session, size_t sessi
  * session  RELAY_SESSION_WORDS words: 1, the ID, the client's ID, next packet ID (0)
  *
  * WARNING: the ID must differ from every other session ID under the key, those
- * of all clients included. A subkey comes from key and session ID, and nonces
- * from session ID and packet ID: two sessions of one ID use the same subkey and
- * nonces for different texts, which lets others read and forge both. The
- * function compares the ID with the client's and with all that are alive in the
- * table: draw another where it is refused. A client may come later with an ID
- * that was begun here, and is accepted; and nobody but the host knows the IDs
- * of sessions that it began itself.
+ * of all clients included. By methods 1 and 2 a subkey comes from key and session
+ * ID, and nonces from session ID and packet ID: two sessions of one ID use the same
+ * subkey and nonces for different texts, which lets others read and forge both. By
+ * methods 3 to 5 the nonce keeps the texts apart, but the receiver takes packets of
+ * the one for repeats of the other's. The function compares the ID with the
+ * client's and with all that are alive in the table: draw another where it is
+ * refused. A client may come later with an ID that was begun here, and is accepted;
+ * and nobody but the host knows the IDs of sessions that it began itself.
  *
  * Refusals, in this order: 1 (lengths, a table whose retention is not 60 to
  * 3,600), 12 (an ID that a session alive or the client has), and nothing is
@@ -286,8 +299,13 @@ uint64_t relay_session_begin_server(uint64_t id, uint64_t client, uint64_t clock
 /* ---- datagrams */
 
 /*
- * Seals one datagram to the front of `out`.
+ * Seals one datagram to the front of `out`. By methods 1 and 2 it begins with
+ * session ID and packet ID, encrypted; by methods 3 to 5 with the nonce, and the
+ * IDs are in front of the plaintext.
  *
+ * nonce    methods 3 to 5: RELAY_NONCE_BYTES random bytes, new for each datagram: two
+ *          datagrams of one key and nonce let others read and forge both. Methods 1
+ *          and 2 do not look at it: NULL, 0
  * session  a begun session; its next packet ID goes one up
  * clock    seconds since 1970, written as the timestamp
  * address  the target (from a server: the source), exactly one SOCKS5
@@ -295,18 +313,20 @@ uint64_t relay_session_begin_server(uint64_t id, uint64_t client, uint64_t clock
  * padding  bytes of zeros before the address
  * payload  may be empty
  * out      sealed length bytes are written: payload, address and padding and
- *          43 bytes more from a client, 51 from a server
+ *          43 bytes more from a client, 51 from a server; by methods 3 to 5 67
+ *          from a client, 75 from a server
  * answer   RELAY_AT_SEALED_LENGTH
  *
- * Refusals, in this order: 1, 12 (address; a server's ID equal to its
- * client's), 11 (packet ID 2^64 - 1), 2 (over 65,507 bytes), 3. A refusal
- * writes nothing and moves no counter.
+ * Refusals, in this order: 1 (by methods 3 to 5 a nonce of another length too), 12
+ * (address; a server's ID equal to its client's), 11 (packet ID 2^64 - 1), 2 (over
+ * 65,507 bytes), 3. A refusal writes nothing and moves no counter.
  */
 uint64_t relay_datagram_seal(uint64_t method, const uint8_t *key, size_t key_len,
-                             uint64_t *session, size_t session_len, uint64_t clock,
-                             const uint8_t *address, size_t address_len, size_t padding,
-                             const uint8_t *payload, size_t payload_len, uint8_t *out,
-                             size_t out_len, uint64_t *answer, size_t answer_len);
+                             const uint8_t *nonce, size_t nonce_len, uint64_t *session,
+                             size_t session_len, uint64_t clock, const uint8_t *address,
+                             size_t address_len, size_t padding, const uint8_t *payload,
+                             size_t payload_len, uint8_t *out, size_t out_len, uint64_t *answer,
+                             size_t answer_len);
 
 /*
  * Opens a client's datagram, for a server.
@@ -314,15 +334,17 @@ uint64_t relay_datagram_seal(uint64_t method, const uint8_t *key, size_t key_len
  * clock                  seconds since 1970; must not go back between calls
  * first, second, port    the caller's address, as the host numbers it; kept in
  *                        the session for replies (words 8 to 10 of its record)
- * datagram               32 to 65,507 bytes
+ * datagram               32 to 65,507 bytes, by methods 3 to 5 40 at least
  * table                  a session table; changed by an accepted datagram, and by 8
  *                        in one word: its session's RELAY_RECORD_REPEATS goes one up
- * out                    room for the datagram's length less 32: the plaintext
+ * out                    room for the plaintext: the datagram's length less 32, by
+ *                        methods 3 to 5 less 40. There it begins with session ID and
+ *                        packet ID, 16 bytes, and places count from these on
  * answer                 RELAY_AT_KIND to RELAY_AT_PAYLOAD
  *
- * Refusals, in this order: 1, 2, 3, 4, 5 (plaintext under 11 bytes), 6, 7,
- * 5 (padding, address), 8, 9. 1 to 4 leave `out` as it was, the others zero
- * the plaintext's bytes.
+ * Refusals, in this order: 1, 2, 3, 4, 5 (plaintext under 11 bytes, by methods 3 to
+ * 5 under 27), 6, 7, 5 (padding, address), 8, 9. 1 to 4 leave `out` as it was, the
+ * others zero the plaintext's bytes.
  */
 uint64_t relay_datagram_open_server(uint64_t method, const uint8_t *key, size_t key_len,
                                     uint64_t clock, uint64_t first, uint64_t second, uint16_t port,
@@ -335,8 +357,8 @@ uint64_t relay_datagram_open_server(uint64_t method, const uint8_t *key, size_t 
  *
  * client  the client's own session ID, which the datagram must name
  *
- * Refusals, in this order: 1, 2, 3, 4, 5 (plaintext under 19 bytes), 6, 7,
- * 13 (another client's), 5 (padding, address), 8, 9.
+ * Refusals, in this order: 1, 2, 3, 4, 5 (plaintext under 19 bytes, by methods 3 to
+ * 5 under 35), 6, 7, 13 (another client's), 5 (padding, address), 8, 9.
  */
 uint64_t relay_datagram_open_client(uint64_t method, const uint8_t *key, size_t key_len,
                                     uint64_t clock, uint64_t client, uint64_t first,
@@ -610,8 +632,7 @@ uint64_t relay_sip004_stream_open_chunk(uint64_t *stream, size_t stream_len, con
  * no datagram is over the limit, and no other such plan has fewer datagrams.
  * Sealed from a client's session, no datagram of a good plan is refused with 2.
  *
- * method   1 to 5. Methods 3 to 5 are section 4's of SIP022: 24 bytes more in
- *          each datagram. They are planned for, and nothing else here knows them
+ * method   1 to 5; by methods 3 to 5 each datagram has 24 bytes more
  * address  the target of every datagram, exactly one SOCKS5 address
  * limit    bytes of a datagram, up to 65,507; with any report at least 44 and
  *          the address (68 by methods 3 to 5)

@@ -1,7 +1,8 @@
-"""AES blocks and AES-GCM by OpenSSL's libcrypto, for the other references to be fast.
+"""AES blocks, AES-GCM and ChaCha20-Poly1305 by OpenSSL's libcrypto, for the other references to be fast.
 
-A second opinion beside aes.py and gcm.py, which stay the originals: where there is
-no libcrypto they serve alone, and where there is one it is compared with them.
+A second opinion beside aes.py, gcm.py and chacha_poly.py, which stay the originals:
+where there is no libcrypto they serve alone, and where there is one it is compared with
+them. It has ChaCha of 20 rounds only; of fewer the original serves.
 
     python3 reference/openssl.py --selftest
 """
@@ -14,6 +15,8 @@ import sys
 
 sys.dont_write_bytecode = True  # no __pycache__ in the tree
 import aes  # noqa: E402
+import chacha  # noqa: E402
+import chacha_poly  # noqa: E402
 import gcm  # noqa: E402
 
 GET_TAG, SET_TAG = 0x10, 0x11  # EVP_CTRL_AEAD_GET_TAG and EVP_CTRL_AEAD_SET_TAG
@@ -24,7 +27,10 @@ ORIGINALS = {
     "decrypt": aes.decrypt,
     "seal": gcm.seal,
     "open": gcm.open,
+    "seal_chacha": chacha_poly.seal,
+    "open_chacha": chacha_poly.open,
 }
+DOUBLES = 10  # double rounds of its ChaCha
 
 
 def load() -> ctypes.CDLL | None:
@@ -36,6 +42,7 @@ def load() -> ctypes.CDLL | None:
         for bits in (128, 192, 256):
             for mode in ("ecb", "gcm"):
                 getattr(library, f"EVP_aes_{bits}_{mode}").restype = ctypes.c_void_p
+        library.EVP_chacha20.restype = library.EVP_chacha20_poly1305.restype = ctypes.c_void_p
     except (OSError, AttributeError):
         return None
     return library
@@ -47,10 +54,9 @@ LIBRARY = load()
 class Cipher:
     """One operation of a cipher under a key: its parts are written one behind the other."""
 
-    def __init__(self, mode: str, key: bytes, iv: bytes | None, encrypts: bool) -> None:
+    def __init__(self, name: str, key: bytes, iv: bytes | None, encrypts: bool) -> None:
         self.context = ctypes.c_void_p(LIBRARY.EVP_CIPHER_CTX_new())
-        name = f"EVP_aes_{8 * len(key)}_{mode}"
-        cipher = ctypes.c_void_p(getattr(LIBRARY, name)())
+        cipher = ctypes.c_void_p(getattr(LIBRARY, f"EVP_{name}")())
         self.must(LIBRARY.EVP_CipherInit_ex(self.context, cipher, None, key, iv, int(encrypts)))
         self.must(LIBRARY.EVP_CIPHER_CTX_set_padding(self.context, 0))
 
@@ -78,19 +84,12 @@ class Cipher:
         self.must(LIBRARY.EVP_CIPHER_CTX_ctrl(self.context, what, gcm.TAG_LENGTH, data))
 
 
-# As in aes.py and gcm.py.
+def aes_name(key: bytes, mode: str) -> str:
+    return f"aes_{8 * len(key)}_{mode}"
 
 
-def encrypt(key: bytes, block: bytes) -> bytes:
-    return Cipher("ecb", key, None, True).update(block)
-
-
-def decrypt(key: bytes, block: bytes) -> bytes:
-    return Cipher("ecb", key, None, False).update(block)
-
-
-def seal(key: bytes, iv: bytes, plaintext: bytes) -> bytes:
-    cipher = Cipher("gcm", key, iv, True)
+def sealed(name: str, key: bytes, iv: bytes, plaintext: bytes) -> bytes:
+    cipher = Cipher(name, key, iv, True)
     ciphertext = cipher.update(plaintext)
     cipher.finish()
     tag = ctypes.create_string_buffer(gcm.TAG_LENGTH)
@@ -98,16 +97,75 @@ def seal(key: bytes, iv: bytes, plaintext: bytes) -> bytes:
     return ciphertext + tag.raw
 
 
-def open(key: bytes, iv: bytes, sealed: bytes) -> bytes | None:
-    cipher = Cipher("gcm", key, iv, False)
+def opened(name: str, key: bytes, iv: bytes, sealed: bytes) -> bytes | None:
+    cipher = Cipher(name, key, iv, False)
     plaintext = cipher.update(sealed[: -gcm.TAG_LENGTH])
     cipher.control(SET_TAG, sealed[-gcm.TAG_LENGTH :])
     return plaintext if cipher.finish() else None
 
 
+# As in aes.py and gcm.py.
+
+
+def encrypt(key: bytes, block: bytes) -> bytes:
+    return Cipher(aes_name(key, "ecb"), key, None, True).update(block)
+
+
+def decrypt(key: bytes, block: bytes) -> bytes:
+    return Cipher(aes_name(key, "ecb"), key, None, False).update(block)
+
+
+def seal(key: bytes, iv: bytes, plaintext: bytes) -> bytes:
+    return sealed(aes_name(key, "gcm"), key, iv, plaintext)
+
+
+def open(key: bytes, iv: bytes, sealed: bytes) -> bytes | None:
+    return opened(aes_name(key, "gcm"), key, iv, sealed)
+
+
+# As in chacha.py and chacha_poly.py. A counter must not wrap; with additional data the original serves.
+
+
+def encrypt_chacha(key: bytes, counter: int, nonce: bytes, text: bytes) -> bytes:
+    return Cipher("chacha20", key, counter.to_bytes(4, "little") + nonce, True).update(text)
+
+
+def seal_chacha(
+    doubles: int, key: bytes, nonce: bytes, text: bytes, additional: bytes = b""
+) -> bytes:
+    if doubles != DOUBLES or additional:
+        return ORIGINALS["seal_chacha"](doubles, key, nonce, text, additional)
+    return sealed("chacha20_poly1305", key, nonce, text)
+
+
+def open_chacha(
+    doubles: int, key: bytes, nonce: bytes, sealed: bytes, additional: bytes = b""
+) -> bytes | None:
+    if doubles != DOUBLES or additional:
+        return ORIGINALS["open_chacha"](doubles, key, nonce, sealed, additional)
+    return opened("chacha20_poly1305", key, nonce, sealed)
+
+
 # The two compared.
 
 LENGTHS = (*range(50), 63, 64, 65, 255, 256, 1_400)
+
+
+def chacha_messages(lengths):
+    """What is compared of ChaCha20 and ChaCha20-Poly1305: a name, and both answers."""
+    for length in lengths:
+        text = bytes((7 * place + length) % 256 for place in range(length))
+        key = bytes((length + 3 * place) % 256 for place in range(chacha.KEY_LENGTH))
+        nonce, name = key[: chacha.NONCE_LENGTH], f"ChaCha20-Poly1305, {length} bytes"
+        sealed = ORIGINALS["seal_chacha"](DOUBLES, key, nonce, text)
+        damaged = sealed[:-1] + bytes([sealed[-1] ^ 1])
+        yield f"{name}, sealed", seal_chacha(DOUBLES, key, nonce, text), sealed
+        yield f"{name}, opened", open_chacha(DOUBLES, key, nonce, sealed), text
+        yield f"{name}, damaged", open_chacha(DOUBLES, key, nonce, damaged), None
+        for counter in (0, 1, 2**31, 2**32 - 1 - length // chacha.BLOCK_LENGTH):
+            ours = encrypt_chacha(key, counter, nonce, text)
+            theirs = chacha.encrypt(DOUBLES, key, counter, nonce, text)
+            yield f"ChaCha20, {length} bytes from {counter}", ours, theirs
 
 
 def differences(lengths=LENGTHS) -> list[str]:
@@ -118,6 +176,8 @@ def differences(lengths=LENGTHS) -> list[str]:
         if ours != theirs:
             found.append(what)
 
+    for what, ours, theirs in chacha_messages(lengths):
+        check(what, ours, theirs)
     for bits in (128, 192, 256):
         for length in lengths:
             text = bytes((7 * place + length) % 256 for place in range(length))
@@ -136,4 +196,4 @@ def differences(lengths=LENGTHS) -> list[str]:
 if __name__ == "__main__":
     if LIBRARY is None:
         sys.exit("there is no libcrypto")
-    aes.run(differences, "OpenSSL and aes.py, gcm.py: all agree")
+    aes.run(differences, "OpenSSL and aes.py, gcm.py, chacha_poly.py: all agree")

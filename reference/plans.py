@@ -19,7 +19,7 @@ from collections.abc import Iterator
 sys.dont_write_bytecode = True  # no __pycache__ in the tree
 import aes  # noqa: E402
 from datagram import ARGUMENT, MAX_LENGTH, NAME, ROOM, SETTINGS, V4, V6  # noqa: E402
-from datagram import address_length  # noqa: E402
+from datagram import address_length, sealed_length  # noqa: E402
 
 # What a client's datagram has besides address, padding and piece, by method: as it is sealed,
 # and of its header. Methods 3 to 5 begin with a nonce and have session and packet ID inside.
@@ -163,9 +163,23 @@ def examples():
     yield "padding", not check(1, V4, 1_500, 1, (1, 2**64 - 50))[1]
 
 
+def sealed_plans():
+    """What is planned for is what is sealed: full datagrams are as long as the limit."""
+    for method, address in itertools.product(BESIDES, (V4, V6, NAME)):
+        fixed = sealed_length(method, None, address, 0, b"")
+        yield f"besides, by {method}", fixed == BESIDES[method] + len(address)
+        _, plan = make(method, address, 1_500, 9_999, 100)
+        lengths = [
+            sealed_length(method, None, address, padding, bytes(piece))
+            for piece, padding in pieces_of(plan)
+        ]
+        yield f"lengths by {method}", set(lengths[:-1]) == {1_500} and lengths[-1] <= 1_500
+
+
 def selftest() -> list[str]:
     """The names of the examples that this code fails."""
-    return [name for name, holds in itertools.chain(enumeration(), examples()) if not holds]
+    checks = itertools.chain(enumeration(), examples(), sealed_plans())
+    return [name for name, holds in checks if not holds]
 
 
 if __name__ == "__main__":

@@ -19,6 +19,7 @@ import sys
 
 sys.dont_write_bytecode = True  # no __pycache__ in the tree
 import aes  # noqa: E402
+import chacha_poly  # noqa: E402
 import datagram  # noqa: E402
 import gcm  # noqa: E402
 import openssl  # noqa: E402
@@ -92,6 +93,7 @@ def session_begin_server(id: int, client: int, clock: int, table: Words, session
 def datagram_seal(
     method: int,
     key: bytes,
+    nonce: bytes,
     session: Words,
     clock: int,
     address: bytes,
@@ -107,7 +109,7 @@ def datagram_seal(
         return refused(SETTINGS)
     sender = datagram.Sender(id, packet, client if side == SERVER_SIDE else None)
     said = clock, address, padding, payload
-    number, sealed = datagram.seal(method, key, sender, *said, len(out))
+    number, sealed = datagram.seal(method, key, nonce, sender, *said, len(out))
     if number:
         return refused(number)
     return accepted(
@@ -476,15 +478,19 @@ FUNCTIONS = {f"relay_{function.__name__}": function for function in NUMBERS}
 
 
 def use_openssl() -> bool:
-    """Has all references take AES and GCM from OpenSSL, which is much faster; False if it is
-    not there. Texts are then no longer remembered, only subkeys and separate headers."""
+    """Has all references take AES, GCM and ChaCha20-Poly1305 from OpenSSL, which is much faster;
+    False if it is not there. Texts are then no longer remembered, only subkeys and separate headers."""
     if openssl.LIBRARY is None:
         return False
     aes.encrypt, aes.decrypt = openssl.encrypt, openssl.decrypt
     gcm.seal, gcm.open = openssl.seal, openssl.open
-    streams.seal_gcm, streams.open_gcm = openssl.seal, openssl.open
-    sessions.text_of = sessions.text_of.__wrapped__
-    sessions.sealed = sessions.sealed.__wrapped__
+    chacha_poly.seal, chacha_poly.open = openssl.seal_chacha, openssl.open_chacha
+    for module, names in (
+        (sessions, ("sealed", "sealed_inner", "text_of")),
+        (streams, ("sealed_piece", "text_of_piece")),
+    ):
+        for name in names:
+            setattr(module, name, getattr(module, name).__wrapped__)
     return True
 
 
@@ -512,7 +518,7 @@ def datagram_examples():
     begun = session_begin_server(7, 8, 1_000, table, (9,) * 4)
     yield "reply", begun == accepted(session=(1, 7, 8, 0))
     call = {"clock": 1_000, "address": NAME, "padding": 0, "payload": b"", "out": FILLED}
-    wrote = datagram_seal(1, KEY, session, answer=ANSWER, **call).wrote
+    wrote = datagram_seal(1, KEY, b"", session, answer=ANSWER, **call).wrote
     sealed = wrote["out"][: wrote["answer"][0]]
     yield "sealed", wrote["session"] == (0, 7, 0, 1) and wrote["answer"] == (48, *ANSWER[1:])
     lent = {"datagram": sealed, "out": FILLED, "answer": ANSWER}
@@ -527,7 +533,32 @@ def datagram_examples():
     repeated = (60, *record[:-1], 1) + (0,) * 819
     yield "again", again == Left(8, {"table": repeated, "out": bytes(16) + FILLED[16:]})
     odd = (2, 7, 0, 0)
-    yield "no side", datagram_seal(1, KEY, odd, answer=ANSWER, **call) == refused(1)
+    yield "no side", datagram_seal(1, KEY, b"", odd, answer=ANSWER, **call) == refused(1)
+
+
+def chacha_examples():
+    """A datagram of each method of ChaCha, opened once; the same again, and forged."""
+    table = table_new(60, (9,) * TABLE_WORDS).wrote["table"]
+    session = session_begin_client(7, (9,) * 4).wrote["session"]
+    call = {"clock": 1_000, "address": NAME, "padding": 0, "payload": b"", "out": FILLED}
+    for method in datagram.DOUBLES:
+        key, nonce = datagram.KEYS[method], datagram.NONCE
+        settings, lent = (method, key, 1_000, 1, 2, 3), {"out": FILLED, "answer": ANSWER}
+        for length in (0, 23, 25):
+            short = datagram_seal(method, key, bytes(length), session, answer=ANSWER, **call)
+            yield f"a nonce of {length} by {method}", short == refused(1)
+        wrote = datagram_seal(method, key, nonce, session, answer=ANSWER, **call).wrote
+        sealed = wrote["out"][: wrote["answer"][0]]
+        yield f"sealed by {method}", len(sealed) == 72 and wrote["session"] == (0, 7, 0, 1)
+        yield f"its nonce by {method}", sealed[:24] == nonce
+        number, wrote = datagram_open_server(*settings, sealed, table, **lent)
+        header = (3, 29, 1, 80, 7, 0, 1_000, 0, 32)
+        yield f"opened by {method}", (number, wrote["answer"]) == (0, header)
+        yield f"its plaintext by {method}", wrote["out"][:16] == bytes(7) + b"\7" + bytes(8)
+        again = datagram_open_server(*settings, sealed, wrote["table"], **lent)
+        yield f"again by {method}", (again.number, again.wrote["out"][:33]) == (8, bytes(32) + b"\xa5")
+        forged = datagram_open_server(*settings, datagram.flipped(sealed, 3), table, **lent)
+        yield f"forged by {method}", forged == Left(4, {"table": table, "out": FILLED})
 
 
 def stream_examples():
@@ -552,7 +583,7 @@ def stream_examples():
     yield "its end", forged == Left(4, {"out": FILLED, "stream": (0, *between[1:])})
     yield "a step", stream_open_chunk(between, head[43:], FILLED, ANSWER)[0] == 1
     yield "another turn", stream_open_variable(receiver, head[43:], FILLED, ANSWER)[0] == 1
-    for place, word in ((2, 2), (3, 65_536), (1, 3)):
+    for place, word in ((2, 2), (3, 65_536), (1, 6)):
         odd = (*between[:place], word, *between[place + 1 :])
         yield f"word {place}", stream_open_variable(odd, head[43:], FILLED, ANSWER)[0] == 1
     wrote = stream_seal_chunk(sender, b"abc", FILLED, ANSWER).wrote
@@ -566,13 +597,13 @@ def stream_examples():
     yield "ended", forged == Left(4, {"out": FILLED, "stream": (0, *receiver[1:])})
     yield "turns", stream_seal_chunk(receiver, b"", FILLED, ANSWER) == refused(1)
     yield "too long", stream_open_chunk((2, 1, 3, 65_536, *sender[4:]), b"", b"", ANSWER)[0] == 1
-    for stream in ((0, 1, *sender[2:]), (0, 3, *sender[2:])):
+    for stream in ((0, 1, *sender[2:]), (0, 6, *sender[2:])):
         for payload, refusal in ((b"a", 4), (b"", 14)):
             number = stream_seal_chunk(stream, payload, FILLED, ANSWER).number
             yield "sealing, ended", number == (refusal if stream[1] == 1 else 1)
     none = stream_open_chunk((2, 1, 3, 0, *sender[4:]), bytes(16), b"", ANSWER)
     yield "a payload of 0", none == Left(1, {"out": b""})
-    empty = streams.sealed_piece(streams.subkey(KEY, SALT), 4, b"\0\0")
+    empty = streams.sealed_piece(1, streams.subkey(KEY, SALT), 4, b"\0\0")
     stream = (1, 1, 4, 0, *sender[4:])
     given = stream_open_chunk(stream, empty, FILLED, ANSWER)
     yield "a length of 0", given == Left(14, {"out": FILLED, "stream": (0, *stream[1:])})
@@ -619,12 +650,12 @@ def sip004_examples():
         yield "payload", wrote["out"] == payload + FILLED[length:]
         yield "used", wrote["answer"] == (16 + length, length, *ANSWER[2:])
         yield "a length is next", wrote["stream"] == (1, 12, 2, 0, *sender[4:])
-    long = streams.sealed_piece(sip004.subkey(key, salt), 0, b"\x40\0")
+    long = streams.sealed_piece(12, sip004.subkey(key, salt), 0, b"\x40\0")
     given = sip004_stream_open_chunk(receiver, long, FILLED, ANSWER)
     yield "a long length", given == Left(5, {"out": FILLED, "stream": (0, *receiver[1:])})
     ended = (0, *sender[1:])
     yield "sealing, ended", sip004_stream_seal_chunk(ended, b"", FILLED, ANSWER) == refused(4)
-    for method in (1, 2, 10, 14, 267):
+    for method in (1, 2, 3, 5, 10, 14, 267):
         other = (3, method, *sender[2:])
         yield f"by {method}", sip004_stream_seal_chunk(other, b"", FILLED, ANSWER) == refused(1)
     yield "of SIP022", stream_seal_chunk(sender, b"abc", FILLED, ANSWER) == refused(1)
@@ -661,7 +692,8 @@ def recording_examples():
 
 def selftest() -> list[str]:
     """The names of the examples that this code fails."""
-    checks = itertools.chain(datagram_examples(), stream_examples(), response_examples())
+    checks = itertools.chain(datagram_examples(), chacha_examples())
+    checks = itertools.chain(checks, stream_examples(), response_examples())
     checks = itertools.chain(checks, sip004_examples(), plan_examples(), recording_examples())
     return plans.selftest() + [name for name, holds in checks if not holds]
 

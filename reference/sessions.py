@@ -18,9 +18,9 @@ import sys
 sys.dont_write_bytecode = True  # no __pycache__ in the tree
 import aes  # noqa: E402
 import datagram  # noqa: E402
-import gcm  # noqa: E402
-from datagram import ARGUMENT, CLIENT_PACKET, KEY_LENGTHS, LENGTH, MAX_LENGTH, ROOM  # noqa: E402
-from datagram import SEPARATE_LENGTH, SERVER_PACKET, SETTINGS, u16, u64  # noqa: E402
+from datagram import ARGUMENT, CLIENT_PACKET, DOUBLES, KEY_LENGTHS, LENGTH, MAX_LENGTH  # noqa: E402
+from datagram import NONCE, NONCE_LENGTH, ROOM, SEPARATE_LENGTH, SERVER_PACKET, SETTINGS  # noqa: E402
+from datagram import overhead, u16, u64  # noqa: E402
 
 SESSIONS = 64
 RECORD_WORDS = 13
@@ -29,7 +29,6 @@ WINDOW = 256
 RETENTIONS = range(60, 3_601)
 DEFAULT_RETENTION = 300
 TIME_LIMIT = 30
-MIN_LENGTH = SEPARATE_LENGTH + gcm.TAG_LENGTH
 MOST_COUNTED = 2**64 - 1
 
 # The numbers of the other refusals.
@@ -209,30 +208,24 @@ def book_sessions(pages, retention, clock):
 # Opening: what the arguments decide.
 
 
-subkey = functools.lru_cache(maxsize=None)(datagram.subkey)
-
-
-@functools.lru_cache(maxsize=None)
-def sealed(key, session, packet, text):
-    """A datagram of any plaintext."""
-    header = datagram.separate_header(session, packet)
-    body = gcm.seal(subkey(key, session), datagram.nonce(header), text)
-    return aes.encrypt(key, header) + body
+# Remembered: datagrams of any plaintext.
+sealed = functools.lru_cache(maxsize=None)(datagram.sealed_text)
+sealed_inner = functools.lru_cache(maxsize=None)(datagram.sealed_inner)
 
 
 @functools.lru_cache(maxsize=None)
 def separate(key, block):
-    """The session ID and packet ID of a datagram's first 16 bytes."""
+    """The session ID and packet ID of a datagram's first 16 bytes, by a method of AES."""
     header = aes.decrypt(key, block)
     return tuple(int.from_bytes(header[at : at + 8], "big") for at in (0, 8))
 
 
 @functools.lru_cache(maxsize=None)
-def text_of(key, sealed):
-    """The plaintext, None if the tag is wrong."""
-    session, packet = separate(key, sealed[:SEPARATE_LENGTH])
-    nonce = datagram.nonce(datagram.separate_header(session, packet))
-    return gcm.open(subkey(key, session), nonce, sealed[SEPARATE_LENGTH:])
+def text_of(method, key, sealed):
+    """The plaintext, which by a method of ChaCha begins with session and packet ID; None if the tag is
+    wrong, or if there is none."""
+    text = datagram.opened_text(method, key, sealed)
+    return text if text is None or method in DOUBLES else text[SEPARATE_LENGTH:]
 
 
 def target_of(address):
@@ -245,20 +238,21 @@ def target_of(address):
     return (3, 2, len(address) - 4)
 
 
-def read(client, clock, session, packet, text):
-    """Refusal 5, 6, 7 or 13, or 0; and the header if there is one."""
+def read(client, clock, ids, text):
+    """Refusal 5, 6, 7 or 13, or 0; and the header if there is one. Without IDs from before the body they
+    stand in front of the text."""
     kind, bound = (CLIENT_PACKET, 0) if client is None else (SERVER_PACKET, 8)
-    fixed = datagram.parts(text, 1, 8, bound, 2)
-    if fixed is None:
+    *fixed, behind = datagram.parts(text, *(() if ids else (8, 8)), 1, 8, bound, 2) or [None]
+    if behind is None:
         return MALFORMED, None
-    said, time, ours, padding = (int.from_bytes(part, "big") for part in fixed[:4])
+    *inner, said, time, ours, padding = (int.from_bytes(part, "big") for part in fixed)
     if said != kind:
         return TYPE, None
     if not time_valid(time, clock):
         return TIME, None
     if client is not None and ours != client:
         return BINDING, None
-    padded = datagram.parts(fixed[4], padding)
+    padded = datagram.parts(behind, padding)
     length = datagram.address_length(padded[1]) if padded else None
     if length is None:
         return MALFORMED, None
@@ -268,22 +262,28 @@ def read(client, clock, session, packet, text):
     if target[0] == 3:
         target = (3, end - length + target[1], target[2])
     port = int.from_bytes(address[-2:], "big")
-    return 0, Header(target, port, session, packet, time, padding, end)
+    return 0, Header(target, port, *(ids or inner), time, padding, end)
 
 
 def judge(call):
     """The first refusal before 8, or 0; the header if there is one; a good tag's plaintext."""
     if KEY_LENGTHS.get(call.method) != len(call.key):
         return SETTINGS, None, None
-    if not MIN_LENGTH <= len(call.datagram) <= MAX_LENGTH:
+    if not overhead(call.method) <= len(call.datagram) <= MAX_LENGTH:
         return LENGTH, None, None
-    if len(call.output) < len(call.datagram) - MIN_LENGTH:
+    if len(call.output) < len(call.datagram) - overhead(call.method):
         return ROOM, None, None
-    text = text_of(call.key, call.datagram)
+    text = text_of(call.method, call.key, call.datagram)
     if text is None:
         return NOT_AUTHENTIC, None, None
-    session, packet = separate(call.key, call.datagram[:SEPARATE_LENGTH])
-    return *read(call.client, call.clock, session, packet, text), text
+    return *read(call.client, call.clock, separate_ids(call), text), text
+
+
+def separate_ids(call):
+    """Session and packet ID from before the body, None by a method of ChaCha."""
+    if call.method in DOUBLES:
+        return None
+    return separate(call.key, call.datagram[:SEPARATE_LENGTH])
 
 
 def answer(call, number, header, text):
@@ -364,10 +364,16 @@ def counted(retention, calls, answers):
 
 
 def belongs(call):
-    """The ID of the session that a call's datagram belongs to, None if it names none."""
-    if KEY_LENGTHS.get(call.method) != len(call.key) or len(call.datagram) < SEPARATE_LENGTH:
+    """The ID of the session that a call's datagram belongs to, None if it names none. By a method of ChaCha
+    it names one only if it authenticates and has room for an ID, whatever else is wrong with it."""
+    if KEY_LENGTHS.get(call.method) != len(call.key):
         return None
-    return separate(call.key, call.datagram[:SEPARATE_LENGTH])[0]
+    if call.method in DOUBLES:
+        text = text_of(call.method, call.key, call.datagram)
+        return None if text is None or len(text) < 8 else int.from_bytes(text[:8], "big")
+    if len(call.datagram) < SEPARATE_LENGTH:
+        return None
+    return separate_ids(call)[0]
 
 
 # Lists of calls, the same in every run.
@@ -428,17 +434,29 @@ class Host:
         payload = bytes(self.dice.below(256) for _ in range(self.dice.below(6)))
         return plaintext(client, time, address, bytes(self.dice.below(3)), payload)
 
+    def nonce(self):
+        """New for each datagram by a method of ChaCha; the others have none."""
+        if self.method not in DOUBLES:
+            return b""
+        return self.dice.below(2**128).to_bytes(NONCE_LENGTH, "big")
+
     def new(self):
         """A client, and a datagram for its side."""
         id, client = self.dice.pick(self.ids), self.dice.pick(self.clients)
         high = self.high.get(id, self.dice.below(600))
         packet = min(max(0, high + self.dice.pick(STEPS)), 2**64 - 1)
         self.high[id] = max(high, packet)
-        return client, sealed(self.key, id, packet, self.text(client))
+        nonce, text = self.nonce(), self.text(client)
+        if self.method in DOUBLES and self.dice.often(6):
+            inner = datagram.separate_header(id, packet) + text
+            cut = inner[: self.dice.pick((0, 7, 8, 15, 16, 26, 27, 34, 35))]
+            return client, sealed_inner(self.method, self.key, nonce, cut)
+        return client, sealed(self.method, self.key, nonce, id, packet, text)
 
     def damaged(self, data):
         if self.dice.often(50):
-            return data[: self.dice.pick((0, 15, 16, 31, 32, 40))]
+            lengths = (0, 23, 24, 39, 40, 48) if self.method in DOUBLES else (0, 15, 16, 31, 32, 40)
+            return data[: self.dice.pick(lengths)]
         return datagram.flipped(data, self.dice.below(len(data)))
 
     def call(self):
@@ -453,7 +471,7 @@ class Host:
             data = self.damaged(data)
         if self.dice.often(4):
             client = self.dice.pick((None, self.dice.below(2**64)))
-        room = max(0, len(data) - MIN_LENGTH + self.dice.pick((0, 0, 1, 3)))
+        room = max(0, len(data) - overhead(self.method) + self.dice.pick((0, 0, 1, 3)))
         if self.dice.often(3) and room:
             room -= 4 if room > 4 else 1
         peer = Peer(self.dice.below(2**64), self.dice.below(2**64), self.dice.below(2**16))
@@ -529,17 +547,18 @@ def marked_edges():
     far = not is_marked(table, 300) and marked_300(556, 300)[0] == REPLAY
     yield "P9", number == 0 and far and marked_300(556, 301)[0] == 0
     text = plaintext(None, 0, bytes.fromhex("03 01 61 0050"))
-    _, header = read(None, 0, ID, 5, text)
+    _, header = read(None, 0, (ID, 5), text)
     yield "P10", (header.target, header.port) == ((3, 13, 1), 80) and text[13:14] == b"a"
     text = plaintext(None, 0, bytes.fromhex("03 00 0050"))
-    yield "P11", read(None, 0, ID, 5, text)[0] == MALFORMED
+    yield "P11", read(None, 0, (ID, 5), text)[0] == MALFORMED
 
 
-def opened(text, client=None, clock=1_000, table=None, room=None, packet=5, peer=PEER):
-    """What opening answers to a datagram of method 1 with this plaintext."""
-    data = sealed(KEY, ID, packet, text)
-    room = len(text) if room is None else room
-    call = Call(1, KEY, client, clock, peer, data, b"\xa5" * room)
+def opened(text, client=None, clock=1_000, table=None, room=None, packet=5, peer=PEER, method=1):
+    """What opening answers to a datagram of the method with this main header and payload."""
+    key = datagram.KEYS[method]
+    data = sealed(method, key, NONCE, ID, packet, text)
+    room = len(data) - overhead(method) if room is None else room
+    call = Call(method, key, client, clock, peer, data, b"\xa5" * room)
     return open(call, table_with(60) if table is None else table)
 
 
@@ -560,6 +579,67 @@ def worked_example():
     lengths = {n: opened(bytes(n))[0].number for n in range(19)}
     yield "short plaintexts", set(lengths.values()) == {MALFORMED, TIME}
     yield "under 11 bytes", [n for n in lengths if lengths[n] == MALFORMED] == list(range(11))
+
+
+def inner(method, length, client=None, room=None, time=1_000, kind=None):
+    """A call whose datagram, by a method of ChaCha, has the first bytes of a good plaintext, or of one of
+    another time or type."""
+    key = datagram.KEYS[method]
+    text = plaintext(client, time, datagram.V4, payload=b"abc", kind=kind)
+    text = datagram.separate_header(ID, 5) + text
+    data = sealed_inner(method, key, NONCE, text[:length])
+    room = len(data) - 40 if room is None else room
+    return Call(method, key, client, 1_000, PEER, data, b"\xa5" * room)
+
+
+def chacha_edges():
+    """Both sides of each length by the methods of ChaCha, and where places are counted from."""
+    new = table_with(60)
+    for method, key in datagram.KEYS.items():
+        if method not in DOUBLES:
+            continue
+        cut = Call(method, key, None, 1_000, PEER, inner(method, 0).datagram[:39], b"")
+        yield f"39 bytes by {method}", open(cut, new) == (Answer(LENGTH, None, b""), new)
+        long = cut._replace(datagram=bytes(MAX_LENGTH + 1))
+        yield f"65,508 bytes by {method}", open(long, new)[0].number == LENGTH
+        for client, fixed in ((None, 27), (CLIENT, 35)):
+            for length in range(fixed + 7):
+                call = inner(method, length, client, length + 3)
+                left = bytes(length) + b"\xa5" * 3, new
+                name = f"{length} bytes of plaintext by {method} of {fixed}"
+                yield name, open(call, new) == (Answer(MALFORMED, None, left[0]), new)
+                yield name + ", named", belongs(call) == (ID if length >= 8 else None)
+            for length, number in ((fixed - 1, MALFORMED), (fixed, TYPE)):
+                wrong = open(inner(method, length, client, time=0, kind=9), new)[0].number
+                yield f"type behind {length} bytes by {method}", wrong == number
+        call = inner(method, 34)
+        given, table = open(call, new)
+        target = Header((1, 0xC0000201), 80, ID, 5, 1_000, 0, 34)
+        yield f"74 bytes by {method}", len(call.datagram) == 74 and given.header == target
+        yield f"its record by {method}", table == table_with(60, begun(ID, 5, 1_000, PEER))
+        short = open(call._replace(output=call.output[1:]), new)
+        yield f"its room by {method}", short == (Answer(ROOM, None, b"\xa5" * 33), new)
+        yield f"of a server by {method}", open(inner(method, 42, CLIENT), new)[0].number == 0
+        given, _ = opened(plaintext(None, 1_000, datagram.NAME, b"\0\0", b"x"), method=method)
+        yield f"places by {method}", (given.header.target, given.header.payload) == ((3, 31, 1), 34)
+        yield f"the place by {method}", given.output[31:32] == b"a" and given.output[34:] == b"x"
+
+
+def naming():
+    """By the methods of ChaCha only what authenticates names a session, whatever its length."""
+    for method in DOUBLES:
+        call = inner(method, 37)
+        yield f"named by {method}", belongs(call) == ID
+        yield f"without room by {method}", belongs(call._replace(output=b"")) == ID
+        for place in (0, 23, 24, 31, 40, len(call.datagram) - 1):
+            forged = call._replace(datagram=datagram.flipped(call.datagram, place))
+            yield f"forged at {place} by {method}", belongs(forged) is None
+        for other in {1, 2, 3, 4, 5, 6} - {method}:
+            there = other in KEY_LENGTHS and other not in DOUBLES and KEY_LENGTHS[other] == 32
+            by_other = belongs(call._replace(method=other))
+            yield f"of {method} by {other}", (by_other is not None) == there
+        long = sealed_inner(method, call.key, NONCE, u64(ID) + bytes(MAX_LENGTH))
+        yield f"over 65,507 by {method}", belongs(call._replace(datagram=long)) == ID
 
 
 def order_examples():
@@ -643,14 +723,15 @@ def answers_of(step, state, calls):
 def twice(method, client, address, padding, payload):
     """A datagram sealed at 1,030, for its side at 1,000, at 1,060 and at 1,061."""
     text = plaintext(client, 1_030, address, bytes(padding), payload)
-    data = sealed(datagram.KEYS[method], ID, 5, text)
+    data = sealed(method, datagram.KEYS[method], NONCE, ID, 5, text)
+    due = len(data) - overhead(method)
     lent = ((1_000, PEER, b"\xa5"), (1_060, OTHER_PEER, b"\x5a"), (1_061, PEER, b"\0"))
     for clock, peer, fill in lent:
-        yield Call(method, datagram.KEYS[method], client, clock, peer, data, fill * len(text))
+        yield Call(method, datagram.KEYS[method], client, clock, peer, data, fill * due)
 
 
 def breaking_runs():
-    sides = itertools.product((1, 2), (None, CLIENT), ADDRESSES, (0, 7), (b"", b"reading"))
+    sides = itertools.product(KEY_LENGTHS, (None, CLIENT), ADDRESSES, (0, 7), (b"", b"reading"))
     for side in sides:
         calls = list(twice(*side))
         for retention, again in ((59, 0), (60, REPLAY)):
@@ -679,6 +760,9 @@ def lists():
     yield 60, Host("empty").calls(1)
     for number in range(6):
         yield 60, Host(f"few {number}", 1 + number % 2, 3, quiet=85).calls(90)
+    for number in range(6):
+        yield 60, Host(f"few of ChaCha {number}", 3 + number % 3, 3, quiet=85).calls(90)
+    yield 60, Host("many of ChaCha", 4, 200, quiet=99).calls(220)
     yield 60, Host("many", 1, 200, quiet=99).calls(220)
     yield 61, Host("late", 2, 5, 2**64 - 1_000, quiet=93).calls(90)
     yield 3_600, Host("equal", 1, 6, quiet=100).calls(90)
@@ -730,8 +814,8 @@ def replies_by_book(retention, calls):
 
 def selftest():
     """The names of the examples that this code fails."""
-    edges = (marked_edges(), worked_example(), order_examples(), table_examples())
-    runs = (breaking_runs(), book_runs())
+    edges = (marked_edges(), worked_example(), chacha_edges(), order_examples(), table_examples())
+    runs = (naming(), breaking_runs(), book_runs())
     return [name for name, holds in itertools.chain(*edges, *runs) if not holds]
 
 

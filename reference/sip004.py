@@ -197,7 +197,7 @@ def length_examples():
         _, sender = begin_sealing(method, key, SALTS[method])
         ended = stream._replace(turn=ENDED)
         for length in (0, 1, MAX_CHUNK, MAX_CHUNK + 1, 0x8000, 0xC001, 0xFFFF):
-            data = streams.sealed_piece(secret_bytes(stream), 0, u16(length))
+            data = streams.sealed_piece(method, secret_bytes(stream), 0, u16(length))
             answer, name = step(stream, data + b"behind", FILLED), f"{method}, {length}"
             if length <= MAX_CHUNK:
                 later = stream._replace(turn=PAYLOAD_NEXT, length=length, counter=1)

@@ -1,4 +1,4 @@
-"""Streams and the salt pool (SIP022, section 3.1), written from that document and the scope.
+"""Streams and the salt pool (SIP022, sections 3.1 and 4), written from that document and the scope.
 
 An independent reference for the proved code: the heads of both directions and the
 chunks behind them, sealed and opened, and the pool as its 1,537 words. Plain and slow.
@@ -18,9 +18,10 @@ import sys
 sys.dont_write_bytecode = True  # no __pycache__ in the tree
 import aes  # noqa: E402
 import blake3  # noqa: E402
+import chacha_poly  # noqa: E402
 import datagram  # noqa: E402
 import gcm  # noqa: E402
-from datagram import ARGUMENT, COUNTER, KEY_LENGTHS, LENGTH, ROOM, SETTINGS  # noqa: E402
+from datagram import ARGUMENT, COUNTER, DOUBLES, KEY_LENGTHS, LENGTH, ROOM, SETTINGS  # noqa: E402
 from datagram import u16, u64  # noqa: E402
 from gcm import TAG_LENGTH  # noqa: E402
 from sessions import BINDING, FULL, MALFORMED, NOT_AUTHENTIC, REPLAY, TIME, TYPE  # noqa: E402
@@ -29,7 +30,7 @@ from sessions import target_of, time_valid  # noqa: E402
 MORE = 10  # the refusal that gives the number of bytes wanted
 EMPTY = 14  # a payload of no bytes
 
-SALT_LENGTHS = {1: 16, 2: 32}  # by method
+SALT_LENGTHS = {1: 16, 2: 32, 3: 32, 4: 32, 5: 32}  # by method
 REQUEST, RESPONSE = 0, 1  # types
 MAX_CHUNK = 0xFFFF
 MAX_PADDING = 900
@@ -99,17 +100,27 @@ def nonce(counter):
     return counter.to_bytes(12, "little")
 
 
-seal_gcm = functools.lru_cache(maxsize=None)(gcm.seal)
-open_gcm = functools.lru_cache(maxsize=None)(gcm.open)
+# Section 4: the methods of ChaCha replace GCM and nothing else. The 2017 edition has GCM.
 
 
-def sealed_piece(secret, counter, text):
-    return seal_gcm(secret, nonce(counter), text)
+@functools.lru_cache(maxsize=None)
+def sealed_piece(method, secret, counter, text):
+    if method in DOUBLES:
+        return chacha_poly.seal(DOUBLES[method], secret, nonce(counter), text)
+    return gcm.seal(secret, nonce(counter), text)
 
 
-def opened_piece(secret, counter, sealed):
+@functools.lru_cache(maxsize=None)
+def text_of_piece(method, secret, counter, sealed):
+    """The plaintext, None if the tag is wrong."""
+    if method in DOUBLES:
+        return chacha_poly.open(DOUBLES[method], secret, nonce(counter), sealed)
+    return gcm.open(secret, nonce(counter), sealed)
+
+
+def opened_piece(method, secret, counter, sealed):
     """The plaintext, where the tag is good."""
-    text = open_gcm(secret, nonce(counter), sealed)
+    text = text_of_piece(method, secret, counter, sealed)
     require(text is not None, NOT_AUTHENTIC)
     return text
 
@@ -245,7 +256,7 @@ def seal_request(method, key, salt, clock, address, padding, payload, output):
     except Refused as refusal:
         return refusal.answer(None, output)
     texts = fixed_header(REQUEST, clock, b"", length), variable_header(address, padding, payload)
-    return written(head(key, salt, *texts), begun(method, key, salt), output)
+    return written(head(method, key, salt, *texts), begun(method, key, salt), output)
 
 
 def seal_response(method, key, salt, request_salt, clock, payload, output):
@@ -257,13 +268,13 @@ def seal_response(method, key, salt, request_salt, clock, payload, output):
     except Refused as refusal:
         return refusal.answer(None, output)
     fixed = fixed_header(RESPONSE, clock, request_salt, len(payload))
-    return written(head(key, salt, fixed, payload), begun(method, key, salt), output)
+    return written(head(method, key, salt, fixed, payload), begun(method, key, salt), output)
 
 
-def head(key, salt, *texts):
+def head(method, key, salt, *texts):
     """The salt and these plaintexts sealed, from counter 0 on."""
     secret = subkey(key, salt)
-    return salt + b"".join(sealed_piece(secret, *each) for each in enumerate(texts))
+    return salt + b"".join(sealed_piece(method, secret, *each) for each in enumerate(texts))
 
 
 def seal_chunk(stream, payload, output, edition=SIP022):
@@ -274,9 +285,9 @@ def seal_chunk(stream, payload, output, edition=SIP022):
         require_size(len(payload), LENGTH_CHUNK, output, edition.greatest)
     except Refused as refusal:
         return refusal.answer(stream, output)
-    secret, counter = secret_of(stream, edition), stream.counter
-    data = sealed_piece(secret, counter, u16(len(payload)))
-    data += sealed_piece(secret, counter + 1, payload)
+    settings, counter = (stream.method, secret_of(stream, edition)), stream.counter
+    data = sealed_piece(*settings, counter, u16(len(payload)))
+    data += sealed_piece(*settings, counter + 1, payload)
     return written(data, stream._replace(counter=counter + 2), output)
 
 
@@ -299,7 +310,8 @@ def accept_request(method, key, clock, data, pool, output):
     require_bytes(data, end)
     salt = data[:fixed]
     secret = subkey(key, salt)
-    time, _, length = read_fixed(REQUEST, clock, opened_piece(secret, 0, data[fixed:end]))
+    text = opened_piece(method, secret, 0, data[fixed:end])
+    time, _, length = read_fixed(REQUEST, clock, text)
     require(salt not in salts_kept(pool, clock), REPLAY)
     record = free_record(pool, clock)
     require(record is not None, FULL)
@@ -324,7 +336,7 @@ def accept_variable(stream, data, output):
     length, end = stream.length, stream.length + TAG_LENGTH
     require_bytes(data, end)
     require(length <= len(output), ROOM)
-    text = opened_piece(secret_of(stream), 1, data[:end])
+    text = opened_piece(stream.method, secret_of(stream), 1, data[:end])
     said = read_variable(text)
     require(said is not None, MALFORMED, cleared=length)
     later = stream._replace(turn=LENGTH_NEXT, length=0, counter=2)
@@ -345,7 +357,7 @@ def open_response(method, key, clock, request_salt, data, output=b""):
         end = fixed + fixed_length(method, RESPONSE) + TAG_LENGTH
         require_bytes(data, end)
         secret = subkey(key, data[:fixed])
-        text = opened_piece(secret, 0, data[fixed:end])
+        text = opened_piece(method, secret, 0, data[fixed:end])
         time, bound, length = read_fixed(RESPONSE, clock, text)
         require(bound == request_salt, BINDING)
         require(length, EMPTY)
@@ -375,7 +387,8 @@ def accept_chunk(stream, data, output, edition):
     require_bytes(data, end)
     if stream.turn == PAYLOAD_NEXT:
         require(text_length <= len(output), ROOM)
-    text = opened_piece(secret_of(stream, edition), stream.counter, data[:end])
+    secret = secret_of(stream, edition)
+    text = opened_piece(stream.method, secret, stream.counter, data[:end])
     later = stream._replace(counter=stream.counter + 1)
     if stream.turn == PAYLOAD_NEXT:
         later = later._replace(turn=LENGTH_NEXT, length=0)
@@ -389,16 +402,16 @@ def accept_chunk(stream, data, output, edition):
 
 # Examples.
 
-KEYS = {1: bytes(range(16)), 2: bytes(range(32))}
-SALTS_OF = {1: bytes(range(100, 116)), 2: bytes(range(100, 132))}
-REQUEST_SALTS = {1: bytes(range(200, 216)), 2: bytes(range(200, 232))}
+KEYS = datagram.KEYS
+SALTS_OF = {method: bytes(range(100, 100 + length)) for method, length in SALT_LENGTHS.items()}
+REQUEST_SALTS = {method: bytes(range(200, 200 + length)) for method, length in SALT_LENGTHS.items()}
 CLOCK = 1_000
 
 # Of the scope: a counter and its nonce.
 COUNTER_OF_NONCE, NONCE = 258, "02 01" + " 00" * 10
 
 # By method: the bytes wanted of a request and of a response.
-WANTED = {1: (43, 59), 2: (59, 91)}
+WANTED = {1: (43, 59), 2: (59, 91), 3: (59, 91), 4: (59, 91), 5: (59, 91)}
 FILLED = b"\xa5" * 70_000
 
 
@@ -415,13 +428,13 @@ def request_of(method, text, kind=REQUEST, time=CLOCK, length=None):
     """A head of any plaintext of the variable chunk, with any length said."""
     length = len(text) if length is None else length
     fixed = fixed_header(kind, time, b"", length)
-    return head(KEYS[method], SALTS_OF[method], fixed, text)
+    return head(method, KEYS[method], SALTS_OF[method], fixed, text)
 
 
 def response_of(method, payload, kind=RESPONSE, time=CLOCK, bound=None):
     bound = REQUEST_SALTS[method] if bound is None else bound
     fixed = fixed_header(kind, time, bound, len(payload))
-    return head(KEYS[method], SALTS_OF[method], fixed, payload)
+    return head(method, KEYS[method], SALTS_OF[method], fixed, payload)
 
 
 def opened(method, data, clock=CLOCK, pool=None):
@@ -602,7 +615,7 @@ def empty_chunks():
         bad = seal_response(method, key, SALTS_OF[method], REQUEST_SALTS[method], CLOCK, b"", b"")
         yield f"a response of {method}", bad == (EMPTY, 0, None, None, b"")
         stream = Receiver(method, LENGTH_NEXT, 0, 2, words)
-        data = sealed_piece(secret_of(stream), 2, b"\0\0")
+        data = sealed_piece(method, secret_of(stream), 2, b"\0\0")
         answer = step(stream, data + b"behind", FILLED)
         ended = stream._replace(turn=ENDED)
         yield f"a length of {method}", answer == (EMPTY, 0, None, ended, FILLED)
@@ -610,9 +623,9 @@ def empty_chunks():
         bad = step(stream, datagram.flipped(data, 17), FILLED)
         yield f"its tag first {method}", bad.number == NOT_AUTHENTIC
         lent = stream._replace(turn=PAYLOAD_NEXT)
-        answer = step(lent, sealed_piece(secret_of(stream), 2, b""), FILLED)
+        answer = step(lent, sealed_piece(method, secret_of(stream), 2, b""), FILLED)
         yield f"a payload turn of {method}", answer == (SETTINGS, 0, None, lent, FILLED)
-        one = sealed_piece(secret_of(stream), 2, b"\0\1")
+        one = sealed_piece(method, secret_of(stream), 2, b"\0\1")
         yield f"a length of 1 of {method}", step(stream, one, FILLED).number == 0
 
 
@@ -629,14 +642,22 @@ def pool_examples():
     yield "the lowest record", answer.number == 0 and pool == good
     yield "another method's pool", number_of(1, data, pool=new_pool(2)) == SETTINGS
     yield "making", make(2, (9,) * POOL_WORDS) == (0, new_pool(2))
-    for method, words in ((0, POOL_WORDS), (3, POOL_WORDS), (2**32 + 1, POOL_WORDS), (1, 1_536)):
+    for method in (3, 4, 5):
+        yield f"making {method}", make(method, (9,) * POOL_WORDS) == (0, new_pool(method))
+        others = {1, 2, 3, 4, 5, 6} - {method}
+        data = request_of(method, datagram.NAME + b"\0\0x")
+        wrong = {number_of(method, data, pool=new_pool(other)) for other in others}
+        yield f"pools of others by {method}", wrong == {SETTINGS}
+        junk = new_pool(method, (1, CLOCK, SALTS_OF[method][:31] + b"\0"))
+        yield f"four words of {method}", number_of(method, data, pool=junk) == 0
+    for method, words in ((0, POOL_WORDS), (6, POOL_WORDS), (2**32 + 1, POOL_WORDS), (1, 1_536)):
         pool = (9,) * words
         yield f"making {method} of {words}", make(method, pool) == (SETTINGS, pool)
 
 
 def heads_once():
     """A head at every second from before its time to behind it: accepted once."""
-    for method in (1, 2):
+    for method in KEYS:
         data = request_of(method, datagram.NAME + b"\0\0x", time=CLOCK + 30)
         for pool in (new_pool(method), new_pool(method, (9, CLOCK - 60, SALTS_OF[method]))):
             numbers = {}
@@ -656,20 +677,36 @@ def counter_examples():
         later = stream if number else stream._replace(counter=LAST_COUNTER)
         yield f"sealing at {counter}", (answer.number, answer.stream) == (number, later)
         yield f"sealed at {counter}", (answer.output == FILLED) == (number != 0)
-    data = sealed_piece(KEYS[1], 2**64 - 2, b"\0\5")
-    stream = Receiver(1, LENGTH_NEXT, 0, 2**64 - 2, words)
-    answer = step(stream, data, b"")
-    yield "opening at 2^64 - 2", answer.stream == (1, PAYLOAD_NEXT, 5, LAST_COUNTER, words)
-    yield "then", step(answer.stream, b"", b"") == (COUNTER, 0, None, answer.stream, b"")
-    ended = step(stream, datagram.flipped(data, 0), b"").stream
-    yield "ended", ended.turn == ENDED and step(ended, b"", b"").number == NOT_AUTHENTIC
-    yield "no method", step(ended._replace(method=3), b"", b"").number == SETTINGS
+    for method, key in KEYS.items():
+        words = words_from(key)
+        data = sealed_piece(method, key, 2**64 - 2, b"\0\5")
+        stream = Receiver(method, LENGTH_NEXT, 0, 2**64 - 2, words)
+        answer = step(stream, data, b"")
+        later = Receiver(method, PAYLOAD_NEXT, 5, LAST_COUNTER, words)
+        yield f"opening at 2^64 - 2 by {method}", answer.stream == later
+        yield f"then by {method}", step(later, b"", b"") == (COUNTER, 0, None, later, b"")
+        ended = step(stream, datagram.flipped(data, 0), b"").stream
+        yield "ended", ended.turn == ENDED and step(ended, b"", b"").number == NOT_AUTHENTIC
+        yield "no method", step(ended._replace(method=6), b"", b"").number == SETTINGS
+
+
+def ciphers():
+    """A piece of one method opens by no other, and by ChaCha as RFC 8439 has it."""
+    for method, key in KEYS.items():
+        sealed = sealed_piece(method, key, COUNTER_OF_NONCE, b"text")
+        others = [other for other in KEYS if len(KEYS[other]) == len(key) and other != method]
+        opened = {text_of_piece(other, key, COUNTER_OF_NONCE, sealed) for other in others}
+        yield f"{method} by others", opened <= {None}
+        if method in DOUBLES:
+            plain = chacha_poly.open(DOUBLES[method], key, bytes.fromhex(NONCE), sealed)
+            yield f"by {method}", plain == b"text"
 
 
 def selftest():
     """The names of the examples that this code fails."""
     checks = (whole_streams(), wanted_numbers(), malformed_requests(), order_examples())
     checks += (pool_examples(), heads_once(), counter_examples(), second_calls(), empty_chunks())
+    checks += (ciphers(),)
     return [name for name, holds in itertools.chain(*checks) if not holds]
 
 

@@ -37,7 +37,7 @@ from oddities import odd  # noqa: E402
 from recording_scenarios import Recordings  # noqa: E402
 from scenarios import SCENARIOS  # noqa: E402
 
-CALLS = 60_000
+CALLS = 70_000
 PLAN_CALLS = 10_000  # by dice, beside these
 SIP004_CALLS = 20_000
 SEQUENCE = 150  # steps of a scenario

@@ -9,10 +9,10 @@ sys.dont_write_bytecode = True  # no __pycache__ in the tree
 from library import Parameter, Value  # noqa: E402
 
 LAST = 2**64 - 1
-METHODS = (0, 3, 10, 11, 12, 13, 14, 257, 2**32 + 1, LAST)
+METHODS = (0, 6, 10, 11, 12, 13, 14, 257, 259, 2**32 + 1, 2**32 + 3, LAST)
 NUMBERS = (0, 1, 2, 3, 255, 256, 2**16, 2**32, 2**63, LAST - 1, LAST)
 STEPS = (1, 30, 31, 60, 61, 255, 256)
-KEY_LENGTHS = (0, 1, 15, 16, 17, 24, 31, 32, 33)
+KEY_LENGTHS = (0, 1, 15, 16, 17, 23, 24, 25, 31, 32, 33)  # and of nonces
 
 Words = tuple[int, ...]
 

@@ -35,6 +35,7 @@ def sealing(call) -> Call:
     return "relay_datagram_seal", {
         "method": call.method,
         "key": call.key,
+        "nonce": call.nonce,
         "session": (side, sender.session, sender.client or 0, sender.packet),
         "clock": call.time,
         "address": call.address,

@@ -14,7 +14,8 @@ sys.dont_write_bytecode = True  # no __pycache__ in the tree
 import relay  # noqa: E402
 import sessions  # noqa: E402
 import streams  # noqa: E402
-from datagram import KEY_LENGTHS, LONG_NAME, MAX_LENGTH, NAME, V4, V6, u16, u64  # noqa: E402
+from datagram import DOUBLES, KEY_LENGTHS, LONG_NAME, MAX_LENGTH, NAME, NONCE_LENGTH  # noqa: E402
+from datagram import V4, V6, overhead, separate_header, u16, u64  # noqa: E402
 from library import Value  # noqa: E402
 from oddities import LAST, METHODS, few_changed, flipped, odd_bytes, pattern  # noqa: E402
 from sessions import RECORD_WORDS, SESSIONS, TABLE_WORDS, Peer  # noqa: E402
@@ -26,8 +27,10 @@ Run = Callable[..., tuple[int, dict[str, Value]]]
 CLOCKS = (0, 1_000, 1_700_000_000, 2**63, LAST - 5_000)
 CLOCK_STEPS = (0, 0, 0, 0, 1, 5, 29, 30, 31, 59, 60, 61, 62, 3_600, 3_601, -1, -30, -31, -60, -61)
 PACKET_STEPS = (1, 1, 1, 2, 63, 64, 65, 255, 256, 257, 2**63, 0, -1, -2, -63, -64, -255, -256)
-SIZES = (0, 0, 1, 1, 5, 15, 16, 17, 31, 32, 33, 100, 255, 256)
+SIZES = (0, 0, 1, 1, 5, 15, 16, 17, 31, 32, 33, 63, 64, 65, 100, 255, 256)
 LARGE = (1_400, 1_400, 9_000)
+NONCE_LENGTHS = (0, 0, 1, 12, 23, 24, 25, 48)  # of methods that do not look at it
+INNER_LENGTHS = (0, 7, 8, 15, 16, 26, 27, 34, 35, 42)  # of plaintexts that are cut
 LONG_HOST = b"\3\xff" + bytes(range(255)) + b"\xff\xff"
 ADDRESSES = (V4, V6, NAME, LONG_NAME, LONG_HOST, b"\3\x0bexample.com\x01\xbb", b"\1" + bytes(6))
 BAD_ADDRESSES = (b"", b"\3\0\0\x50", b"\2" + V4[1:], V6[:-1], NAME + b"\0", b"\3\xff", b"\1")
@@ -48,7 +51,7 @@ class Scenario:
 
     def __init__(self, run: Run, dice: random.Random) -> None:
         self.run, self.dice = run, dice
-        self.method = dice.choice((1, 2))
+        self.method = dice.choice(tuple(KEY_LENGTHS))
         self.key = dice.randbytes(KEY_LENGTHS[self.method])
         self.clock = dice.choice(CLOCKS)
         self.answer = tuple(dice.getrandbits(64) for _ in range(relay.ANSWER_WORDS))
@@ -152,6 +155,13 @@ class Datagrams(Scenario):
 
     # Sending.
 
+    def new_nonce(self) -> bytes:
+        """Of a method of ChaCha; the others take anything."""
+        if self.method in DOUBLES:
+            length = NONCE_LENGTH if self.often(99) else self.dice.choice(NONCE_LENGTHS)
+            return self.dice.randbytes(length)
+        return self.dice.randbytes(self.dice.choice(NONCE_LENGTHS))
+
     def seal(self) -> None:
         """Seals with one of the sessions, at times moved to another packet ID."""
         side = self.dice.randrange(2)
@@ -167,10 +177,12 @@ class Datagrams(Scenario):
         padding = self.dice.choice((0, 0, 0, 1, 2, 17, 900, 901))
         if self.often(1):
             padding = self.dice.choice((65_535, 65_536, 2**32, LAST))
-        most = MAX_LENGTH - (43, 51)[side] - len(address) - padding
+        besides = (67, 75)[side] if self.method in DOUBLES else (43, 51)[side]
+        most = MAX_LENGTH - besides - len(address) - padding
         payload = pattern(self.dice, self.size(most))
-        due = min((43, 51)[side] + len(address) + padding + len(payload), 2 * MAX_LENGTH)
-        values = {"session": session, "clock": self.clock, "address": address}
+        due = min(besides + len(address) + padding + len(payload), 2 * MAX_LENGTH)
+        values = {"nonce": self.new_nonce(), "session": session}
+        values |= {"clock": self.clock, "address": address}
         values |= {"padding": padding, "payload": payload, "out": self.room(due)}
         number, left = self.call("datagram_seal", **self.settings(), **values, answer=self.answer)
         if number == 0:
@@ -193,7 +205,16 @@ class Datagrams(Scenario):
         if self.often(10):
             text = odd_bytes(self.dice, text)
         packet = (packet + self.dice.choice(PACKET_STEPS)) % 2**64
-        self.sent.append((side, client, sessions.sealed(self.key, id, packet, text)))
+        self.sent.append((side, client, self.crafted(id, packet, text)))
+
+    def crafted(self, id: int, packet: int, text: bytes) -> bytes:
+        """By a method of ChaCha the IDs are in the plaintext, which may be cut among them."""
+        nonce = self.dice.randbytes(NONCE_LENGTH)
+        if self.method in DOUBLES and self.often(15):
+            inner = separate_header(id, packet) + text
+            cut = inner[: self.dice.choice(INNER_LENGTHS)]
+            return sessions.sealed_inner(self.method, self.key, nonce, cut)
+        return sessions.sealed(self.method, self.key, nonce, id, packet, text)
 
     # Receiving.
 
@@ -210,7 +231,8 @@ class Datagrams(Scenario):
         values = {"clock": self.clock, **self.peer()._asdict(), "datagram": data}
         if side == 1:
             values["client"] = client if self.often(93) else self.dice.choice(self.clients)[1]
-        values |= {"table": self.tables[side], "out": self.room(max(0, len(data) - 32))}
+        due = max(0, len(data) - overhead(self.method))
+        values |= {"table": self.tables[side], "out": self.room(due)}
         name = ("datagram_open_server", "datagram_open_client")[side]
         _, left = self.call(name, **self.settings(), **values, answer=self.answer)
         table = left["table"]
@@ -342,7 +364,8 @@ class Streams(Lines):
         said = kind if self.often(85) else self.dice.randrange(256)
         fixed = streams.fixed_header(said, time, bound if kind else b"", length)
         sender = relay.sender_words(streams.begun(self.method, self.key, salt))
-        line = Line(salt, bound, sender, streams.head(self.key, salt, fixed, text))
+        data = streams.head(self.method, self.key, salt, fixed, text)
+        line = Line(salt, bound, sender, data)
         (self.requests, self.responses)[kind].append(line)
 
     def open_request(self, line: Line) -> None:

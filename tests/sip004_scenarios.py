@@ -36,7 +36,7 @@ Call = tuple[str, dict[str, Value]]
 
 # What is lent to the functions of SIP022 that have a method, beside method, key and salts.
 OTHERS = {
-    "datagram_seal": {"session": SESSION, "clock": 1_000, "padding": 0},
+    "datagram_seal": {"nonce": bytes(24), "session": SESSION, "clock": 1_000, "padding": 0},
     "datagram_open_server": {"clock": 1_000, "table": TABLE},
     "datagram_open_client": {"clock": 1_000, "client": 7, "table": TABLE},
     "stream_seal_request": {"clock": 1_000, "padding": 1},
@@ -71,7 +71,7 @@ def foreign_methods() -> Iterator[Call]:
 # Streams that a host made.
 
 CHUNK_CALLS = ("stream_seal_chunk", "stream_open_chunk")
-STATE_METHODS = (1, 2, 11, 12, 13, 10, 14, 256 + 11, 2**32 + 12, LAST)
+STATE_METHODS = (1, 2, 3, 5, 11, 12, 13, 10, 14, 256 + 11, 2**32 + 12, LAST)
 STATE_LENGTHS = (0, 1, MAX_CHUNK, MAX_CHUNK + 1, 65_535, 65_536, 2**32 + 1, LAST)
 
 
@@ -199,7 +199,7 @@ class Sip004(Lines):
         if not line.data and turn == streams.LENGTH_NEXT and method in KEY_LENGTHS:
             secret = streams.secret_of(relay.receiver_in(line.receiver), sip004.SIP004)
             length = self.dice.choice(LENGTHS)
-            line.data = streams.sealed_piece(secret, counter, u16(length))
+            line.data = streams.sealed_piece(method, secret, counter, u16(length))
 
     def open_chunk(self, line: Line) -> None:
         stream = self.disturbed(line.receiver)

@@ -13,11 +13,11 @@
 #include <string.h>
 
 /* Fixed here, so that every run is the same. A real host takes keys from its
- * settings, salts and session IDs from the system's random numbers, and the
- * clock from time(). */
-static const uint8_t KEY[16] = "a 16-byte secret";
-static const uint8_t SALT[16] = "a request's salt";
-static const uint8_t OTHER_SALT[16] = "a response's one";
+ * settings, salts, nonces and session IDs from the system's random numbers, and
+ * the clock from time(). A method has of keys and salts what it needs. */
+static const uint8_t KEY[32] = "thirty-two bytes to serve as key";
+static const uint8_t SALT[32] = "a request's salt of thirty-two..";
+static const uint8_t OTHER_SALT[32] = "a response's one of thirty-two..";
 static const uint64_t CLOCK = 1700000000;
 static const uint64_t CLIENT_ID = 0x0102030405060708;
 static const uint64_t SERVER_ID = 0x1112131415161718;
@@ -26,7 +26,20 @@ static const uint64_t SERVER_ID = 0x1112131415161718;
 static const uint8_t ADDRESS[] = "\003\013example.com\001\273";
 #define ADDRESS_LEN (sizeof ADDRESS - 1)
 
-#define METHOD RELAY_AES_128_GCM
+/* The methods, with the length of their keys and salts, how much longer a datagram
+ * is than its plaintext, and how many bytes of IDs that has in front. */
+static const struct method {
+    uint64_t number;
+    size_t key_len, overhead, inner;
+} METHODS[] = {{RELAY_AES_128_GCM, 16, 32, 0},
+               {RELAY_AES_256_GCM, 32, 32, 0},
+               {RELAY_CHACHA20_POLY1305, 32, 40, 16},
+               {RELAY_CHACHA12_POLY1305, 32, 40, 16},
+               {RELAY_CHACHA8_POLY1305, 32, 40, 16}};
+
+enum { METHOD_COUNT = sizeof METHODS / sizeof METHODS[0], FIRST_CHACHA = 2 };
+
+static const struct method *method; /* the one that is tried */
 
 static void check(int holds, const char *what)
 {
@@ -58,7 +71,20 @@ static int all(const uint8_t *bytes, size_t len, uint8_t value)
     return 1;
 }
 
+static int same(const uint8_t *bytes, const uint8_t *others, size_t len)
+{
+    return memcmp(bytes, others, len) == 0;
+}
+
 /* ---- datagrams */
+
+/* One that was not used before; methods 1 and 2 do not look at it. */
+static const uint8_t *new_nonce(void)
+{
+    static uint8_t nonce[RELAY_NONCE_BYTES];
+    nonce[0]++;
+    return nonce;
+}
 
 /* Seals "ping" or "pong" with a begun session. A refusal would leave the
  * session as it was; here its next packet ID goes one up. */
@@ -66,7 +92,8 @@ static size_t seal(uint64_t *session, const char *payload, uint8_t *out, size_t 
 {
     uint64_t answer[RELAY_ANSWER_WORDS];
     uint64_t packet = session[RELAY_SESSION_NEXT];
-    check_number(relay_datagram_seal(METHOD, KEY, sizeof KEY, session, RELAY_SESSION_WORDS, CLOCK,
+    check_number(relay_datagram_seal(method->number, KEY, method->key_len, new_nonce(),
+                                     RELAY_NONCE_BYTES, session, RELAY_SESSION_WORDS, CLOCK,
                                      ADDRESS, ADDRESS_LEN, 3, text(payload), strlen(payload), out,
                                      room, answer, RELAY_ANSWER_WORDS),
                  RELAY_OK, "sealing a datagram");
@@ -78,8 +105,8 @@ static size_t seal(uint64_t *session, const char *payload, uint8_t *out, size_t 
 static uint64_t open_server(uint64_t clock, const uint8_t *datagram, size_t len, uint64_t *table,
                             uint8_t *out, size_t room, uint64_t *answer)
 {
-    return relay_datagram_open_server(METHOD, KEY, sizeof KEY, clock, 10, 20, 30, datagram, len,
-                                      table, RELAY_TABLE_WORDS, out, room, answer,
+    return relay_datagram_open_server(method->number, KEY, method->key_len, clock, 10, 20, 30,
+                                      datagram, len, table, RELAY_TABLE_WORDS, out, room, answer,
                                       RELAY_ANSWER_WORDS);
 }
 
@@ -104,7 +131,7 @@ static void refused_datagrams(uint8_t *datagram, size_t len, uint64_t *table)
     uint64_t before[RELAY_TABLE_WORDS];
     uint64_t answer[RELAY_ANSWER_WORDS];
     uint8_t out[200];
-    size_t due = len - 32;
+    size_t due = len - method->overhead;
     memset(out, 0xa5, sizeof out);
     memcpy(before, table, sizeof before);
 
@@ -143,19 +170,22 @@ static void client_to_server(void)
     refused_datagrams(datagram, len, table);
 
     /* Accepted once, with exactly the room that it needs. */
-    check_number(open_server(CLOCK, datagram, len, table, out, len - 32, answer), RELAY_OK,
+    size_t due = len - method->overhead;
+    check_number(open_server(CLOCK, datagram, len, table, out, due, answer), RELAY_OK,
                  "opening a client's datagram");
-    check_header(answer, out, len - 32, CLIENT_ID, "ping");
+    check_header(answer, out, due, CLIENT_ID, "ping");
     memcpy(before, table, sizeof before);
-    check_number(open_server(CLOCK, datagram, len, table, out, len - 32, answer),
-                 RELAY_REFUSED_REPLAY, "the same datagram again");
+    check_number(open_server(CLOCK, datagram, len, table, out, due, answer), RELAY_REFUSED_REPLAY,
+                 "the same datagram again");
 
     /* One word of the table counts the repeat. */
     check(table[1 + RELAY_RECORD_ACCEPTED] == 1 && table[1 + RELAY_RECORD_REPEATS] == 1,
           "one datagram accepted and one repeat");
     before[1 + RELAY_RECORD_REPEATS]++;
     check(memcmp(before, table, sizeof before) == 0, "a repeat changes no other word");
-    printf("client to server: %zu bytes opened; forged, late and replayed ones refused\n", len);
+    printf(
+        "method %d, client to server: %zu bytes opened; forged, late and replayed ones refused\n",
+        (int)method->number, len);
 }
 
 /* A session in reply to the client's, begun on the table that has it. */
@@ -205,13 +235,146 @@ static void server_to_client(void)
 
     for (uint64_t client = CLIENT_ID - 1; client <= CLIENT_ID; client++) {
         uint64_t expected = client == CLIENT_ID ? RELAY_OK : RELAY_REFUSED_BINDING;
-        check_number(relay_datagram_open_client(METHOD, KEY, sizeof KEY, CLOCK, client, 10, 20, 30,
-                                                datagram, len, table, RELAY_TABLE_WORDS, out,
-                                                sizeof out, answer, RELAY_ANSWER_WORDS),
+        check_number(relay_datagram_open_client(method->number, KEY, method->key_len, CLOCK, client,
+                                                10, 20, 30, datagram, len, table, RELAY_TABLE_WORDS,
+                                                out, sizeof out, answer, RELAY_ANSWER_WORDS),
                      expected, "opening a server's datagram");
     }
-    check_header(answer, out, len - 32, SERVER_ID, "pong");
-    printf("server to client: %zu bytes opened; refused for another client\n", len);
+    check_header(answer, out, len - method->overhead, SERVER_ID, "pong");
+    printf("method %d, server to client: %zu bytes opened; refused for another client\n",
+           (int)method->number, len);
+}
+
+/* ---- lengths of nonces, and of datagrams with a nonce */
+
+static const uint8_t V4[] = {1, 192, 0, 2, 1, 0, 80};
+
+/* A client's datagram without a payload, by a nonce of any length. */
+static uint64_t seal_v4(size_t nonce_len, uint64_t *session, uint8_t *out, size_t room,
+                        uint64_t *answer)
+{
+    static const uint8_t nonces[2 * RELAY_NONCE_BYTES] =
+        "a nonce of forty-eight bytes, or its front";
+    return relay_datagram_seal(method->number, KEY, method->key_len, nonce_len > 0 ? nonces : NULL,
+                               nonce_len, session, RELAY_SESSION_WORDS, CLOCK, V4, sizeof V4, 0,
+                               NULL, 0, out, room, answer, RELAY_ANSWER_WORDS);
+}
+
+/* Methods 1 and 2 do not look at a nonce; the others refuse all but 24 bytes. */
+static void nonces(void)
+{
+    static const size_t lens[] = {0, 1, 12, 23, 24, 25, 48};
+    uint64_t session[RELAY_SESSION_WORDS], answer[RELAY_ANSWER_WORDS];
+    uint8_t first[100], out[100];
+    int looks = method->inner > 0;
+    for (size_t i = 0; i < sizeof lens / sizeof lens[0]; i++) {
+        memset(out, 0xa5, sizeof out);
+        relay_session_begin_client(CLIENT_ID, session, RELAY_SESSION_WORDS);
+        uint64_t number = seal_v4(lens[i], session, out, sizeof out, answer);
+        if (looks && lens[i] != RELAY_NONCE_BYTES) {
+            check_number(number, RELAY_REFUSED_SETTINGS, "a nonce of another length");
+            check(all(out, sizeof out, 0xa5) && session[RELAY_SESSION_NEXT] == 0,
+                  "it writes nothing");
+            continue;
+        }
+        check_number(number, RELAY_OK, "sealing with a nonce");
+        check(answer[RELAY_AT_SEALED_LENGTH] == method->overhead + method->inner + 11 + sizeof V4,
+              "the sealed length");
+        if (i == 0)
+            memcpy(first, out, sizeof first);
+        check(looks || same(out, first, sizeof first), "the same bytes whatever the nonce is");
+    }
+}
+
+/* The shortest datagram that is accepted, and one with a byte less: not authentic. */
+static void shortest(void)
+{
+    uint64_t session[RELAY_SESSION_WORDS], table[RELAY_TABLE_WORDS], answer[RELAY_ANSWER_WORDS];
+    uint8_t datagram[100], out[100];
+    relay_session_begin_client(CLIENT_ID, session, RELAY_SESSION_WORDS);
+    relay_table_new(60, table, RELAY_TABLE_WORDS);
+    check_number(seal_v4(RELAY_NONCE_BYTES, session, datagram, sizeof datagram, answer), RELAY_OK,
+                 "sealing without a payload");
+    size_t len = (size_t)answer[RELAY_AT_SEALED_LENGTH], due = len - method->overhead;
+    check(len == (method->inner > 0 ? 74 : 50), "its length");
+    check_number(open_server(CLOCK, datagram, method->overhead - 1, table, NULL, 0, answer),
+                 RELAY_REFUSED_LENGTH, "a datagram too short for a tag");
+    check_number(open_server(CLOCK, datagram, method->overhead, table, NULL, 0, answer),
+                 RELAY_REFUSED_NOT_AUTHENTIC, "a datagram cut to where a tag could be");
+    check_number(open_server(CLOCK, datagram, len, table, out, due - 1, answer), RELAY_REFUSED_ROOM,
+                 "a byte of room too few");
+    check_number(open_server(CLOCK, datagram, len, table, out, due, answer), RELAY_OK,
+                 "opening it");
+    check(answer[RELAY_AT_KIND] == 1 && answer[RELAY_AT_FIRST] == 0xc0000201 &&
+              answer[RELAY_AT_PAYLOAD] == due,
+          "what it says");
+    check(method->inner == 0 || out[7] == 8, "the session ID is in front of the plaintext");
+}
+
+/* Sealed by the independent reference: the first 0, 8 and 26 bytes of a client's plaintext, under
+ * KEY and the nonce 0, 1, 2 and so on. */
+static const char *const CUT[3][3] = {
+    {"37bb31874efe40cbfe349bd1f2dd732e", "3dd3d6b975d002c5a523336cc1879b0cf5e34c46a91b9303",
+     "3dd3d6b975d002c5829c02bc02f81546a44e5bcbcb93a732f49604b13b5d342ab07bb6cf2a26aeb9f8df"},
+    {"d8db990f0de34d4891e1ee039baa82e9", "2137ef41016f4b652ee6d0233fe9afdce3053b3378242776",
+     "2137ef41016f4b65276addd5a37b3487c6418ee9ff23d7758d5948368dba18e060fa979d5793cd6d1e65"},
+    {"774fd0687889b9272ea6c6412f35e271", "78c72d8a255b9e9cf6261aaffaad67213f213b7e4f056235",
+     "78c72d8a255b9e9c4df06a11df6dc03354bf9897efaf2f8e7a5efa71874c89c071b8026521b03f54dbc6"},
+};
+
+/* The nonce and the bytes of a hexadecimal string. Gives the length. */
+static size_t cut_datagram(const char *hex, uint8_t *datagram)
+{
+    size_t len = strlen(hex) / 2;
+    for (size_t i = 0; i < RELAY_NONCE_BYTES; i++)
+        datagram[i] = (uint8_t)i;
+    for (size_t i = 0; i < len; i++) {
+        const char digits[3] = {hex[2 * i], hex[2 * i + 1], 0};
+        datagram[RELAY_NONCE_BYTES + i] = (uint8_t)strtoul(digits, NULL, 16);
+    }
+    return RELAY_NONCE_BYTES + len;
+}
+
+/* Authentic datagrams of 40, 48 and 66 bytes: too short for a header, so 5, and as many zeros as
+ * there is plaintext. */
+static void too_short(void)
+{
+    uint64_t table[RELAY_TABLE_WORDS], before[RELAY_TABLE_WORDS], answer[RELAY_ANSWER_WORDS];
+    uint8_t datagram[100], out[100];
+    relay_table_new(60, table, RELAY_TABLE_WORDS);
+    memcpy(before, table, sizeof before);
+    for (int i = 0; i < 3; i++) {
+        size_t len = cut_datagram(CUT[method - METHODS - FIRST_CHACHA][i], datagram),
+               due = len - 40;
+        memset(out, 0xa5, sizeof out);
+        check_number(open_server(CLOCK, datagram, len, table, out, due, answer),
+                     RELAY_REFUSED_MALFORMED, "a plaintext that is too short");
+        check(all(out, due, 0) && all(out + due, sizeof out - due, 0xa5),
+              "exactly its bytes are zero");
+        if (due > 0)
+            check_number(open_server(CLOCK, datagram, len, table, out, due - 1, answer),
+                         RELAY_REFUSED_ROOM, "a byte of room too few");
+        datagram[len - 1] ^= 1;
+        check_number(open_server(CLOCK, datagram, len, table, out, due, answer),
+                     RELAY_REFUSED_NOT_AUTHENTIC, "a forged one");
+    }
+    check(memcmp(before, table, sizeof before) == 0, "the table is as it was");
+}
+
+/* No other method opens a datagram of this one, though its key is as long. */
+static void other_methods(void)
+{
+    const struct method *sealing = method;
+    uint64_t session[RELAY_SESSION_WORDS], table[RELAY_TABLE_WORDS], answer[RELAY_ANSWER_WORDS];
+    uint8_t datagram[200], out[200];
+    relay_session_begin_client(CLIENT_ID, session, RELAY_SESSION_WORDS);
+    relay_table_new(60, table, RELAY_TABLE_WORDS);
+    size_t len = seal(session, "ping", datagram, sizeof datagram);
+    for (method = METHODS + 1; method < METHODS + METHOD_COUNT; method++)
+        check_number(open_server(CLOCK, datagram, len, table, out, sizeof out, answer),
+                     method == sealing ? RELAY_OK : RELAY_REFUSED_NOT_AUTHENTIC,
+                     "a datagram by another method");
+    method = sealing;
 }
 
 /* ---- streams */
@@ -249,7 +412,7 @@ static size_t seal_chunk(uint64_t *stream, const char *payload, uint8_t *out, si
 static uint64_t open_front(const uint8_t *bytes, size_t len, uint64_t *pool, uint64_t *stream,
                            uint64_t *answer)
 {
-    return relay_stream_open_request(METHOD, KEY, sizeof KEY, CLOCK, bytes, len, pool,
+    return relay_stream_open_request(method->number, KEY, method->key_len, CLOCK, bytes, len, pool,
                                      RELAY_POOL_WORDS, stream, RELAY_STREAM_WORDS, answer,
                                      RELAY_ANSWER_WORDS);
 }
@@ -266,9 +429,10 @@ static size_t seal_request(uint8_t *bytes, size_t room, size_t *len)
 {
     uint64_t stream[RELAY_STREAM_WORDS];
     uint64_t answer[RELAY_ANSWER_WORDS];
-    check_number(relay_stream_seal_request(METHOD, KEY, sizeof KEY, SALT, sizeof SALT, CLOCK,
-                                           ADDRESS, ADDRESS_LEN, 0, text("GET"), 3, bytes, room,
-                                           stream, RELAY_STREAM_WORDS, answer, RELAY_ANSWER_WORDS),
+    check_number(relay_stream_seal_request(method->number, KEY, method->key_len, SALT,
+                                           method->key_len, CLOCK, ADDRESS, ADDRESS_LEN, 0,
+                                           text("GET"), 3, bytes, room, stream, RELAY_STREAM_WORDS,
+                                           answer, RELAY_ANSWER_WORDS),
                  RELAY_OK, "sealing a request's head");
     size_t head = (size_t)answer[RELAY_AT_SEALED_LENGTH];
     *len = head + seal_chunk(stream, "first", bytes + head, room - head);
@@ -284,10 +448,11 @@ static void open_head(const uint8_t *bytes, size_t len, size_t head, uint64_t *p
     uint64_t answer[RELAY_ANSWER_WORDS];
     uint8_t out[100];
     check_number(open_front(bytes, 10, pool, stream, answer), RELAY_REFUSED_MORE, "ten bytes");
-    check(answer[RELAY_AT_WANTED] == 16 + 11 + 16, "salt, fixed header and tag are wanted");
-    check_number(open_front(bytes, 43, pool, stream, answer), RELAY_OK, "opening the front");
+    size_t wanted = method->key_len + 11 + 16;
+    check(answer[RELAY_AT_WANTED] == wanted, "salt, fixed header and tag are wanted");
+    check_number(open_front(bytes, wanted, pool, stream, answer), RELAY_OK, "opening the front");
     size_t front = (size_t)answer[RELAY_AT_USED];
-    check(front == 43 && answer[RELAY_AT_CHUNK_LENGTH] == head - front - 16 &&
+    check(front == wanted && answer[RELAY_AT_CHUNK_LENGTH] == head - front - 16 &&
               answer[RELAY_AT_HEAD_TIME] == CLOCK,
           "what the front says");
     check(stream[RELAY_STREAM_TURN] == RELAY_TURN_VARIABLE &&
@@ -319,7 +484,8 @@ static void request(void)
     uint8_t out[100];
     size_t len;
 
-    check_number(relay_pool_new(METHOD, pool, RELAY_POOL_WORDS), RELAY_OK, "making a pool");
+    check_number(relay_pool_new(method->number, pool, RELAY_POOL_WORDS), RELAY_OK, "making a pool");
+    check(pool[0] == method->number, "its method");
     size_t head = seal_request(bytes, sizeof bytes, &len);
     open_head(bytes, len, head, pool, stream);
     size_t at = head;
@@ -337,7 +503,9 @@ static void request(void)
                  RELAY_REFUSED_NOT_AUTHENTIC, "a variable header of an ended stream");
     check_number(open_front(bytes, len, pool, stream, answer), RELAY_REFUSED_REPLAY,
                  "the same head again");
-    printf("request: head and 2 chunks, %zu bytes; replayed head and forged chunk refused\n", len);
+    printf("method %d, request: head and 2 chunks, %zu bytes; replayed head and forged chunk "
+           "refused\n",
+           (int)method->number, len);
 }
 
 static void response(void)
@@ -347,8 +515,9 @@ static void response(void)
     uint64_t answer[RELAY_ANSWER_WORDS];
     uint8_t bytes[400];
 
-    check_number(relay_stream_seal_response(METHOD, KEY, sizeof KEY, OTHER_SALT, sizeof OTHER_SALT,
-                                            SALT, sizeof SALT, CLOCK, text("200"), 3, bytes,
+    const size_t salt_len = method->key_len;
+    check_number(relay_stream_seal_response(method->number, KEY, method->key_len, OTHER_SALT,
+                                            salt_len, SALT, salt_len, CLOCK, text("200"), 3, bytes,
                                             sizeof bytes, sender, RELAY_STREAM_WORDS, answer,
                                             RELAY_ANSWER_WORDS),
                  RELAY_OK, "sealing a response's head");
@@ -356,20 +525,21 @@ static void response(void)
     len += seal_chunk(sender, "body", bytes + len, sizeof bytes - len);
 
     /* It answers this request, and no other. */
-    check_number(relay_stream_open_response(METHOD, KEY, sizeof KEY, CLOCK, OTHER_SALT,
-                                            sizeof OTHER_SALT, bytes, len, receiver,
-                                            RELAY_STREAM_WORDS, answer, RELAY_ANSWER_WORDS),
+    check_number(relay_stream_open_response(method->number, KEY, method->key_len, CLOCK, OTHER_SALT,
+                                            salt_len, bytes, len, receiver, RELAY_STREAM_WORDS,
+                                            answer, RELAY_ANSWER_WORDS),
                  RELAY_REFUSED_BINDING, "a response to another request");
-    check_number(relay_stream_open_response(METHOD, KEY, sizeof KEY, CLOCK, SALT, sizeof SALT,
-                                            bytes, len, receiver, RELAY_STREAM_WORDS, answer,
-                                            RELAY_ANSWER_WORDS),
+    check_number(relay_stream_open_response(method->number, KEY, method->key_len, CLOCK, SALT,
+                                            salt_len, bytes, len, receiver, RELAY_STREAM_WORDS,
+                                            answer, RELAY_ANSWER_WORDS),
                  RELAY_OK, "opening a response's head");
     size_t at = (size_t)answer[RELAY_AT_USED];
     check(answer[RELAY_AT_CHUNK_LENGTH] == 3, "the first payload's length");
     at += open_chunk(receiver, bytes + at, len - at, "200");
     at += open_chunk(receiver, bytes + at, len - at, "body");
     check(at == len, "all bytes are used");
-    printf("response: head and 1 chunk, %zu bytes; refused for another request\n", len);
+    printf("method %d, response: head and 1 chunk, %zu bytes; refused for another request\n",
+           (int)method->number, len);
 }
 
 /* ---- the 2017 edition */
@@ -416,7 +586,7 @@ static void sip004_datagram(struct sip004_method m)
     datagram[len - 1] ^= 1;
     check_number(sip004_open(m, datagram, len, out, 4, answer), RELAY_OK, "opening it");
     check(answer[RELAY_AT_PLAINTEXT_LENGTH] == 4 && memcmp(out, "ping", 4) == 0, "its payload");
-    m.method = METHOD;
+    m.method = RELAY_AES_128_GCM;
     check_number(sip004_open(m, datagram, len, out, 4, answer), RELAY_REFUSED_SETTINGS,
                  "a method of the other edition");
 }
@@ -508,30 +678,47 @@ static void sip004(void)
 
 /* ---- a plan */
 
+/* A full datagram of a plan is sealed to just the limit. */
+static void sealed_plan(const uint64_t *plan, size_t limit)
+{
+    static const uint8_t report[1450];
+    uint64_t session[RELAY_SESSION_WORDS], answer[RELAY_ANSWER_WORDS];
+    uint8_t out[1600];
+    relay_session_begin_client(CLIENT_ID, session, RELAY_SESSION_WORDS);
+    check_number(relay_datagram_seal(method->number, KEY, method->key_len, new_nonce(),
+                                     RELAY_NONCE_BYTES, session, RELAY_SESSION_WORDS, CLOCK,
+                                     ADDRESS, ADDRESS_LEN, (size_t)plan[1], report, (size_t)plan[0],
+                                     out, sizeof out, answer, RELAY_ANSWER_WORDS),
+                 RELAY_OK, "sealing a planned datagram");
+    check(answer[RELAY_AT_SEALED_LENGTH] == limit, "it is as long as the limit");
+}
+
 static void plans(void)
 {
     uint64_t plan[7], answer[RELAY_ANSWER_WORDS];
-    const size_t limit = 43 + ADDRESS_LEN + 1450;
+    const size_t limit = method->overhead + method->inner + 11 + ADDRESS_LEN + 1450;
     for (size_t i = 0; i < 7; i++)
         plan[i] = 9;
-    check_number(relay_plan_make(METHOD, ADDRESS, ADDRESS_LEN, limit, 2901, plan, 5, answer,
+    check_number(relay_plan_make(method->number, ADDRESS, ADDRESS_LEN, limit, 2901, plan, 5, answer,
                                  RELAY_ANSWER_WORDS),
                  RELAY_REFUSED_ROOM, "a plan in five words");
     check(plan[0] == 9, "nothing is written");
-    check_number(relay_plan_make(METHOD, ADDRESS, ADDRESS_LEN, limit, 2901, plan, 7, answer,
+    check_number(relay_plan_make(method->number, ADDRESS, ADDRESS_LEN, limit, 2901, plan, 7, answer,
                                  RELAY_ANSWER_WORDS),
                  RELAY_OK, "a plan in seven words");
     check(answer[RELAY_AT_DATAGRAMS] == 3 && plan[0] == 1450 && plan[4] == 1 && plan[6] == 9,
           "three datagrams, and the word behind them");
-    check_number(relay_plan_check(METHOD, ADDRESS, ADDRESS_LEN, limit, 2901, plan, 6, answer,
-                                  RELAY_ANSWER_WORDS),
+    check_number(relay_plan_check(method->number, ADDRESS, ADDRESS_LEN, limit, 2901, plan, 6,
+                                  answer, RELAY_ANSWER_WORDS),
                  RELAY_OK, "checking it");
     check(answer[RELAY_AT_GOOD] == 1, "it is good");
-    check_number(relay_plan_check(METHOD, ADDRESS, ADDRESS_LEN, limit, 2901, plan, 7, answer,
-                                  RELAY_ANSWER_WORDS),
+    check_number(relay_plan_check(method->number, ADDRESS, ADDRESS_LEN, limit, 2901, plan, 7,
+                                  answer, RELAY_ANSWER_WORDS),
                  RELAY_OK, "checking an odd number of words");
     check(answer[RELAY_AT_GOOD] == 0, "they are no plan");
-    printf("plan: 2901 bytes in 3 datagrams of at most %zu\n", limit);
+    sealed_plan(plan, limit);
+    printf("method %d, plan: 2901 bytes in 3 datagrams of at most %zu\n", (int)method->number,
+           limit);
 }
 
 /* ---- names and version */
@@ -562,9 +749,9 @@ static void wrong_lengths(void)
                  "a table");
     check_number(relay_table_new(59, words, RELAY_TABLE_WORDS), RELAY_REFUSED_SETTINGS,
                  "a retention");
-    check_number(relay_pool_new(METHOD, words, RELAY_POOL_WORDS + 1), RELAY_REFUSED_SETTINGS,
-                 "a pool");
-    check_number(relay_pool_new(3, words, RELAY_POOL_WORDS), RELAY_REFUSED_SETTINGS, "a method");
+    check_number(relay_pool_new(RELAY_AES_128_GCM, words, RELAY_POOL_WORDS + 1),
+                 RELAY_REFUSED_SETTINGS, "a pool");
+    check_number(relay_pool_new(6, words, RELAY_POOL_WORDS), RELAY_REFUSED_SETTINGS, "a method");
     check_number(relay_session_begin_client(1, NULL, 0), RELAY_REFUSED_SETTINGS, "no session");
     check_number(relay_stream_seal_chunk(words, RELAY_STREAM_WORDS, NULL, 0, NULL, 0, words + 9,
                                          RELAY_ANSWER_WORDS - 1),
@@ -618,12 +805,20 @@ static void mended(void)
 
 int main(void)
 {
-    client_to_server();
-    server_to_client();
-    request();
-    response();
+    for (method = METHODS; method < METHODS + METHOD_COUNT; method++) {
+        client_to_server();
+        server_to_client();
+        nonces();
+        shortest();
+        if (method->inner > 0)
+            too_short();
+        if (method->key_len == 32)
+            other_methods();
+        request();
+        response();
+        plans();
+    }
     sip004();
-    plans();
     compared();
     mended();
     wrong_lengths();

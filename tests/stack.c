@@ -25,6 +25,7 @@
 
 static const uint8_t KEY[32] = "thirty-two bytes to serve as key";
 static const uint8_t SALT[32] = "thirty-two bytes to do for salt!";
+static const uint8_t NONCE[RELAY_NONCE_BYTES] = "and 24 bytes for a nonce";
 static const uint8_t ADDRESS[] = {1, 192, 0, 2, 1, 0, 53};
 
 /* What the calls are lent. */
@@ -58,9 +59,9 @@ static void session_begin_server(void)
 
 static void datagram_seal(void)
 {
-    number = relay_datagram_seal(method, KEY, key_len, session, RELAY_SESSION_WORDS, CLOCK, ADDRESS,
-                                 sizeof ADDRESS, 0, payload, payload_len, sealed, sizeof sealed,
-                                 answer, RELAY_ANSWER_WORDS);
+    number = relay_datagram_seal(method, KEY, key_len, NONCE, sizeof NONCE, session,
+                                 RELAY_SESSION_WORDS, CLOCK, ADDRESS, sizeof ADDRESS, 0, payload,
+                                 payload_len, sealed, sizeof sealed, answer, RELAY_ANSWER_WORDS);
 }
 
 static void datagram_open_server(void)
@@ -387,8 +388,10 @@ static void report(void)
            deepest->name, LIMIT);
 }
 
-/* Around blocks of 16 bytes, 256 bytes and 256 blocks, and the longest datagram. */
-static const size_t lengths[] = {0, 1, 15, 16, 17, 200, 256, 300, 1400, 4096, 4200, 65449};
+/* Around blocks of 16 and 64 bytes, 256 bytes and 256 blocks, and the longest datagram that a server
+ * can seal by every method. */
+static const size_t lengths[] = {0,   1,   15,  16,   17,   63,   64,   65,
+                                 200, 256, 300, 1400, 4096, 4200, 65425};
 
 enum { LENGTHS = sizeof lengths / sizeof lengths[0] };
 
@@ -416,7 +419,7 @@ static void try_sip004(void)
 
 int main(void)
 {
-    for (method = RELAY_AES_128_GCM; method <= RELAY_AES_256_GCM; method++) {
+    for (method = RELAY_AES_128_GCM; method <= RELAY_CHACHA8_POLY1305; method++) {
         key_len = method == RELAY_AES_128_GCM ? 16 : 32;
         try_sip022();
     }

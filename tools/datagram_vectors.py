@@ -10,13 +10,14 @@ import sys
 sys.dont_write_bytecode = True  # no __pycache__ in the tree
 import vectors  # noqa: E402
 import datagram  # noqa: E402
-from datagram import ARGUMENT, COUNTER, KEY_LENGTHS, LAST_PACKET, LENGTH  # noqa: E402
-from datagram import LONG_NAME, MAX_LENGTH, NAME, ROOM, SESSION, SETTINGS, V4, V6  # noqa: E402
+from datagram import ARGUMENT, COUNTER, DOUBLES, KEY_LENGTHS, LAST_PACKET, LENGTH  # noqa: E402
+from datagram import LONG_NAME, MAX_LENGTH, NAME, NONCE_LENGTH, ROOM, SESSION, SETTINGS  # noqa: E402
+from datagram import V4, V6  # noqa: E402
 from vectors import Case  # noqa: E402
 
 SEALING, BEGINNING = range(2)
 
-METHODS = {128: 1, 256: 2}
+METHODS = {"128": 1, "256": 2, "ChaCha20": 3, "ChaCha12": 4, "ChaCha8": 5}
 CLIENT = 0xFEDCBA9876543210
 SIDES = {"client": None, "server": CLIENT}
 
@@ -29,7 +30,9 @@ BEHIND = 16  # bytes of room behind a datagram, to show that they are left alone
 ADDRESSES = (V4, V6, NAME, b"\3\x0bexample.com\x01\xbb", LONG_NAME[:2] + HOST + b"\xff\xff")
 
 # The arguments of a call that seals; the payload by its length and seed.
-Call = collections.namedtuple("Call", "method key sender time address padding length seed room")
+Call = collections.namedtuple(
+    "Call", "method key nonce sender time address padding length seed room"
+)
 
 # A call with its answer and its datagram, and a beginning session with its answer.
 Sealing = collections.namedtuple("Sealing", "call answer datagram")
@@ -43,12 +46,15 @@ def payload(length, seed):
 def length_of(call):
     """The length of its datagram, sealed or not."""
     text = bytes(call.length)
-    return datagram.sealed_length(call.sender.client, call.address, call.padding, text)
+    return datagram.sealed_length(
+        call.method, call.sender.client, call.address, call.padding, text
+    )
 
 
 def make_call(
     method=1,
     key_length=None,
+    nonce_length=None,
     session=SESSION,
     packet=5,
     client=None,
@@ -58,13 +64,16 @@ def make_call(
     length=0,
     room=None,
 ):
-    """A call that is sealed, unless what is changed has it refused."""
+    """A call that is sealed, unless what is changed has it refused. Methods of AES have no nonce."""
     if key_length is None:
         key_length = KEY_LENGTHS[method]
+    if nonce_length is None:
+        nonce_length = NONCE_LENGTH if method in DOUBLES else 0
     sender = datagram.Sender(session, packet, client)
     name = f"datagram {method} {sender} {time} {padding} {length}"
     key, seed = vectors.stream(name, key_length, 1)
-    call = Call(method, key, sender, time, address, padding, length, seed[0], room)
+    (nonce,) = vectors.stream(f"{name}, nonce", nonce_length)
+    call = Call(method, key, nonce, sender, time, address, padding, length, seed[0], room)
     if room is None:
         call = call._replace(room=min(length_of(call) + BEHIND, ROOM_LIMIT))
     return call
@@ -74,7 +83,7 @@ def sealing(answer=0, **changes):
     """The call with these changes, the expected answer, and the datagram."""
     call = make_call(**changes)
     text = payload(call.length, call.seed)
-    number, sealed = datagram.seal(*call[:6], text, call.room)
+    number, sealed = datagram.seal(*call[:7], text, call.room)
     if number != answer:
         raise ValueError(f"{call}: the reference answers {number} and not {answer}")
     return Sealing(call, answer, sealed)
@@ -89,8 +98,8 @@ def due(**changes):
 
 # The changes for each method and side, by name.
 PAIRS = {
-    f"{bits} {side}": {"method": method, "client": client}
-    for bits, method in METHODS.items()
+    f"{name} {side}": {"method": method, "client": client}
+    for name, method in METHODS.items()
     for side, client in SIDES.items()
 }
 
@@ -101,7 +110,7 @@ def alternating(count):
 
 
 def sealed_groups():
-    worked = [sealing(method=method, room=48) for method in METHODS.values()]
+    worked = [sealing(method=m, room=72 if m in DOUBLES else 48) for m in METHODS.values()]
     yield "worked example", SEALING, worked
 
     lengths = itertools.cycle((0, 1, 16, 47, 255, 1000, 1400))
@@ -110,7 +119,7 @@ def sealed_groups():
         cases = [sealing(address=a, padding=p, length=next(lengths), **each) for a, p in pairs]
         yield name, SEALING, cases
 
-    cases = [sealing(length=n, **each) for n, each in enumerate(alternating(65))]
+    cases = [sealing(length=n, **each) for n, each in enumerate(alternating(130))]
     yield "each payload length", SEALING, cases
 
     ids = (0, 1, SESSION, 2**32, 2**63, CLIENT - 1, 2**64 - 1)
@@ -130,16 +139,24 @@ def sealed_groups():
     cases = [sealing(room=due(**each), **each) for each in changes]
     yield "room for just the datagram", SEALING, cases
 
+    lengths = (0, 1, 12, 23, 25, 32)
+    aes = [sealing(method=m, nonce_length=n) for m in (1, 2) for n in (*lengths, NONCE_LENGTH)]
+    yield "a nonce that is not looked at", SEALING, aes
+    cases = [sealing(SETTINGS, method=m, nonce_length=n) for m in DOUBLES for n in (*lengths, 255)]
+    yield "nonces of other lengths", SEALING, cases
+
 
 def padded_groups():
-    for name in ("128 client", "256 server"):
+    for name in ("128 client", "256 server", "ChaCha12 client"):
         cases = [sealing(padding=20_000, length=33, **PAIRS[name])]
         yield f"{name}, padding of 20000", SEALING, cases
 
 
 def longest_groups():
     """The room is just enough for a client's."""
-    for address, (name, each) in zip((NAME, V6, V4, ADDRESSES[4]), PAIRS.items()):
+    names = "128 client", "128 server", "256 client", "256 server", "ChaCha20 client", "ChaCha8 server"
+    for address, name in zip((NAME, V6, V4, ADDRESSES[4], V6, NAME), names):
+        each = PAIRS[name]
         length = MAX_LENGTH - due(address=address, **each)
         room = MAX_LENGTH if each["client"] is None else ROOM_LIMIT
         cases = [sealing(address=address, length=length, room=room, **each)]
@@ -150,9 +167,9 @@ def longest_groups():
 
 
 def settings_groups():
-    methods = (0, 3, 257, 2**32 + 1, 2**32 + 2, 2**64 - 1)
-    pairs = itertools.product(methods, KEY_LENGTHS.values())
-    cases = [sealing(SETTINGS, method=m, key_length=n) for m, n in pairs]
+    methods = (0, 6, 7, 257, 259, 2**32 + 1, 2**32 + 2, 2**32 + 3, 2**64 - 1)
+    triples = itertools.product(methods, (16, 32), (0, NONCE_LENGTH))
+    cases = [sealing(SETTINGS, method=m, key_length=n, nonce_length=k) for m, n, k in triples]
     yield "unknown methods", SEALING, cases
     pairs = itertools.product(METHODS.values(), (0, 1, 15, 16, 17, 24, 31, 32, 33, 255))
     cases = [sealing(SETTINGS, method=m, key_length=n) for m, n in pairs if n != KEY_LENGTHS[m]]
@@ -176,13 +193,17 @@ def argument_groups():
     yield "server session ID that is its client's", SEALING, cases
 
 
+# The pairs whose lengths differ.
+TESTED = [PAIRS[name] for name in PAIRS if not name.startswith(("ChaCha12", "ChaCha8"))]
+
+
 def length_groups():
     changes = [{"length": n} | each for n in (0, 40) for each in PAIRS.values()]
     cases = [sealing(COUNTER, packet=LAST_PACKET, **each) for each in changes]
     yield "last packet ID", SEALING, cases
 
     cases = []
-    for each in PAIRS.values():
+    for each in TESTED:
         least = due(**each)
         most = MAX_LENGTH - least  # bytes of padding and payload
         # The last three add up to little modulo 2^64.
@@ -195,31 +216,32 @@ def length_groups():
 
 def room_group():
     cases = []
-    for each in PAIRS.values():
+    for each in TESTED:
         most = MAX_LENGTH - due(**each)
         for padding, length in ((0, 0), (0, 100), (900, 0), (0, most), (most, 0)):
             changes = each | {"padding": padding, "length": length}
-            rooms = (0, 16, 31, due(**changes) - 1)
+            rooms = (0, 16, 31, 39, due(**changes) - 1)
             cases += [sealing(ROOM, room=room, **changes) for room in rooms]
     return "too little room", SEALING, cases
 
 
-# Two ways to each refusal, in the order of sealing.
+# What is sealed, and three ways to each refusal, in the order of sealing.
+BASES = ({}, {}, {"method": 4})
 FAULTS = {
-    SETTINGS: ({"method": 3, "key_length": 16}, {"key_length": 33}),
-    ARGUMENT: ({"address": NAME[:-1]}, {"client": SESSION}),
-    COUNTER: ({"packet": LAST_PACKET}, {"packet": LAST_PACKET}),
-    LENGTH: ({"padding": 65_536}, {"length": LONG_PAYLOAD}),
-    ROOM: ({"room": 0}, {"room": 47}),
+    SETTINGS: ({"method": 6, "key_length": 16}, {"key_length": 33}, {"nonce_length": 23}),
+    ARGUMENT: ({"address": NAME[:-1]}, {"client": SESSION}, {"address": NAME + b"\0"}),
+    COUNTER: ({"packet": LAST_PACKET},) * 3,
+    LENGTH: ({"padding": 65_536}, {"length": LONG_PAYLOAD}, {"padding": MAX_LENGTH - 71}),
+    ROOM: ({"room": 0}, {"room": 47}, {"room": 71}),
 }
 
 
 def order_group():
-    """Every set of faults, in both ways. The first is answered."""
+    """Every set of faults, in all ways. The first is answered."""
     cases = []
-    for way, count in itertools.product((0, 1), range(1, len(FAULTS) + 1)):
+    for way, count in itertools.product(range(3), range(1, len(FAULTS) + 1)):
         for faults in itertools.combinations(FAULTS, count):
-            changes = {}
+            changes = dict(BASES[way])
             for number in faults:
                 changes |= FAULTS[number][way]
             cases.append(sealing(faults[0], **changes))
@@ -260,7 +282,8 @@ def opens(call, _, sealed):
     """Whether a datagram of the due length opens to what was sealed."""
     text = payload(call.length, call.seed)
     said = call.sender, call.time, bytes(call.padding), call.address, text
-    return len(sealed) == length_of(call) and datagram.open(call.key, sealed) == said
+    opened = datagram.open(call.method, call.key, sealed)
+    return len(sealed) == length_of(call) and opened == said
 
 
 def session_words(session, packet, client):
@@ -282,6 +305,7 @@ def sealing_case(call, answer, sealed):
         clock=call.time,
         arguments=(*words, call.padding),
         key=call.key,
+        salt=call.nonce,
         other=call.address,
         data=payload(call.length, call.seed),
         output=sealed,

@@ -14,6 +14,8 @@ sys.dont_write_bytecode = True  # no __pycache__ in the tree
 import vectors  # noqa: E402
 import aes_vectors  # noqa: E402
 import blake3_vectors  # noqa: E402
+import chacha_poly_vectors  # noqa: E402
+import chacha_vectors  # noqa: E402
 import datagram_vectors  # noqa: E402
 import gcm_vectors  # noqa: E402
 import hash_vectors  # noqa: E402
@@ -27,6 +29,8 @@ MODULES = (
     blake3_vectors,
     gcm_vectors,
     hash_vectors,
+    chacha_vectors,
+    chacha_poly_vectors,
     datagram_vectors,
     session_vectors,
     stream_vectors,

@@ -7,21 +7,24 @@ import sys
 sys.dont_write_bytecode = True  # no __pycache__ in the tree
 import vectors  # noqa: E402
 import sessions  # noqa: E402
-from datagram import ARGUMENT, KEY_LENGTHS, LENGTH, LONG_NAME, MAX_LENGTH, NAME, ROOM  # noqa: E402
-from datagram import SETTINGS, V4, V6, u16  # noqa: E402
-from sessions import BINDING, CLIENT, FULL, ID, MALFORMED, MIN_LENGTH, NOT_AUTHENTIC  # noqa: E402
+from datagram import ARGUMENT, DOUBLES, KEY_LENGTHS, LENGTH, LONG_NAME, MAX_LENGTH  # noqa: E402
+from datagram import NAME, NONCE_LENGTH, ROOM, SETTINGS, V4, V6, overhead, u16  # noqa: E402
+from datagram import separate_header, u64  # noqa: E402
+from sessions import BINDING, CLIENT, FULL, ID, MALFORMED, NOT_AUTHENTIC  # noqa: E402
 from sessions import PEER, RECORD_WORDS, REPLAY, TABLE_WORDS, TIME, TYPE, Dice, Host  # noqa: E402
 from sessions import Peer, Session, begun, table_with  # noqa: E402
 
-METHODS = {128: 1, 256: 2}
+METHODS = {"128": 1, "256": 2, "ChaCha20": 3, "ChaCha12": 4, "ChaCha8": 5}
 
 # Methods and openers by name. What a server opens has no client.
 PAIRS = {
-    f"{bits} {side}": {"method": method, "client": client}
-    for bits, method in METHODS.items()
+    f"{name} {side}": {"method": method, "client": client}
+    for name, method in METHODS.items()
     for side, client in (("server", None), ("client", CLIENT))
 }
 TWO_PAIRS = {name: PAIRS[name] for name in ("128 server", "256 client")}
+CHACHA_PAIRS = {name: PAIRS[name] for name in ("ChaCha20 client", "ChaCha12 server", "ChaCha8 client")}
+FIVE_PAIRS = TWO_PAIRS | CHACHA_PAIRS
 
 LONG_BUFFER = 65_600
 WORD_LIMIT = TABLE_WORDS + 1  # words of a table, and one behind it
@@ -128,15 +131,21 @@ def make_call(
     if key is None:
         key = key_of(KEY_LENGTHS[method])
     if room is None:
-        room = max(0, len(data) - MIN_LENGTH) + BEHIND
+        room = max(0, len(data) - overhead(method)) + BEHIND
     return sessions.Call(method, key, client, clock, peer, data, FILL * room)
 
 
-def make_data(method, client, session=ID, packet=5, text=None, **changes):
-    """The datagram of a plaintext, or of what is in one."""
+def make_data(method, client, session=ID, packet=5, text=None, inner=None, nonce=None, **changes):
+    """The datagram of a main header and payload, or of what is in one. The inner plaintext of a method of
+    ChaCha can be any bytes; its nonce is by the IDs, unless it is given."""
+    key = key_of(KEY_LENGTHS[method])
+    if nonce is None:
+        (nonce,) = vectors.stream(f"nonce {session} {packet}", NONCE_LENGTH)
+    if inner is not None:
+        return sessions.sealed_inner(method, key, nonce, inner)
     if text is None:
         text = make_text(client, **changes)
-    return sessions.sealed(key_of(KEY_LENGTHS[method]), session, packet, text)
+    return sessions.sealed(method, key, nonce, session, packet, text)
 
 
 def make_text(client, time=1_000, address=NAME, padding=b"", payload=b"", kind=None, bound=None):
@@ -159,14 +168,14 @@ def alternating(count):
 
 
 def worked_groups():
-    for bits, method in METHODS.items():
-        calls = Calls(60)
-        calls.open(method=method, room=16)
-        calls.open(REPLAY, method=method, room=16)
-        for room in (0, 5):
+    for name, method in METHODS.items():
+        calls, inner = Calls(60), 16 if method in DOUBLES else 0
+        calls.open(method=method, room=inner + 16)
+        calls.open(REPLAY, method=method, room=inner + 16)
+        for room in (inner, inner + 5):
             calls.open(MALFORMED, method=method, packet=6, text=b"", room=room)
-        calls.open(method=method, packet=6, room=17)
-        yield f"worked example, {bits}", calls
+        calls.open(method=method, packet=6, room=inner + 17)
+        yield f"worked example, {name}", calls
 
 
 def opened_groups():
@@ -180,9 +189,10 @@ def opened_groups():
         yield name, calls
 
     calls = Calls(60)
-    for length, each in enumerate(alternating(36)):
+    for length, each in enumerate(alternating(70)):
         calls.open(packet=length, payload=PADDING[:length], **each)
-    calls.open(packet=99, payload=PADDING * 9, **PAIRS["256 client"])
+    for packet, name in enumerate(("256 client", "ChaCha20 server", "ChaCha8 client"), 99):
+        calls.open(packet=packet, payload=PADDING * 9, **PAIRS[name])
     yield "payload lengths", calls
 
     ids = (0, 1, ID, 2**63, CLIENT, LAST)
@@ -199,6 +209,72 @@ def opened_groups():
     yield "callers' addresses", calls
 
 
+# By methods of ChaCha.
+
+
+def inner_text(each, **said):
+    """The whole plaintext of a datagram."""
+    return separate_header(ID, 5) + make_text(each["client"], **said)
+
+
+def nonce_group():
+    """A nonce that comes again is no replay; the same IDs under another nonce are."""
+    calls = Calls(60)
+    for number, each in enumerate(PAIRS.values()):
+        if each["method"] not in DOUBLES:
+            continue
+        same = {"nonce": bytes(range(number, number + NONCE_LENGTH)), "session": number, **each}
+        other = same | {"nonce": bytes(NONCE_LENGTH)}
+        for packet in (5, 6, 7):
+            calls.open(0, packet=packet, **same)
+            calls.open(REPLAY, packet=packet, **same)
+            calls.open(REPLAY, packet=packet, **other)
+        calls.open(0, packet=8, **other)
+        calls.open(0, packet=9, nonce=b"\xff" * NONCE_LENGTH, session=number, **each)
+    return "nonces", calls
+
+
+def inner_groups():
+    """Whole plaintexts cut at each place: under 27 bytes, or 35 of a server's, before all else."""
+    for name, each in CHACHA_PAIRS.items():
+        fixed = 27 if each["client"] is None else 35
+        calls = Calls(60)
+        for said in ({"address": V4}, {"kind": 9}, {"time": 1_031}):
+            inner = inner_text(each, payload=b"xyz", **said)
+            for length in range(fixed + 10):
+                answer = MALFORMED if length < fixed else None
+                calls.open(answer, inner=inner[:length], **each)
+        yield f"{name}, inner plaintexts cut short", calls
+
+    calls = Calls(60)
+    for each in (PAIRS[name] for name in PAIRS if PAIRS[name]["method"] in DOUBLES):
+        least = 34 if each["client"] is None else 42
+        inner = inner_text(each, address=V4)
+        for length in range(40):
+            calls.open(LENGTH, inner=inner, length=length, room=0, **each)
+        calls.open(MALFORMED, inner=b"", room=0, **each)  # 40 bytes, and nothing is due
+        calls.open(MALFORMED, inner=b"", room=9, **each)
+        calls.open(MALFORMED, inner=inner[:26], room=26, **each)
+        calls.open(ROOM, inner=inner[:26], room=25, **each)
+        calls.open(MALFORMED, inner=inner[: least - 1], **each)
+        calls.open(ROOM, inner=inner, room=least - 1, **each)
+        session = each["method"] + 10 * (each["client"] is None)
+        good = u64(session) + inner[8:]
+        calls.open(0, inner=good, room=least, **each)
+        calls.open(REPLAY, inner=good, room=least + 3, **each)
+    yield "shortest datagrams of ChaCha", calls
+
+
+def other_method_group():
+    """A datagram by another method of the same key: it is not authentic."""
+    calls = Calls(60)
+    methods = [method for method in METHODS.values() if KEY_LENGTHS[method] == 32]
+    for number, (ours, theirs) in enumerate(itertools.product(methods, methods)):
+        data = make_data(ours, None, session=number, payload=bytes(40))
+        calls.open(0 if ours == theirs else NOT_AUTHENTIC, method=theirs, data=data)
+    return "other methods' datagrams", calls
+
+
 # Refused by what the datagram says.
 
 
@@ -213,7 +289,7 @@ def short_groups():
 
 
 def type_groups():
-    for name, each in TWO_PAIRS.items():
+    for name, each in FIVE_PAIRS.items():
         calls = Calls(60)
         for packet, kind in enumerate((0, 1, 2, 3, 4, 16, 127, 128, 129, 254, 255)):
             answer = 0 if kind == (each["client"] is not None) else TYPE
@@ -242,7 +318,7 @@ TIMES += [(LAST - 30, LAST), (LAST - 31, LAST), (2**63, 2**63 - 30), (2**63, 2**
 
 
 def time_groups():
-    for name, each in TWO_PAIRS.items():
+    for name, each in FIVE_PAIRS.items():
         calls = Calls(60)
         for session, (clock, time) in enumerate(TIMES):
             answer = 0 if abs(clock - time) <= 30 else TIME
@@ -273,7 +349,7 @@ BAD_ADDRESSES += [address[:-count] for address in ADDRESSES for count in (1, 2)]
 
 
 def address_groups():
-    for name, each in TWO_PAIRS.items():
+    for name, each in FIVE_PAIRS.items():
         client = each["client"]
         calls = Calls(60)
         for kind in BAD_KINDS:
@@ -294,11 +370,11 @@ def address_groups():
 def room_group():
     calls = Calls(60)
     for packet, each in enumerate(PAIRS.values()):
-        due = len(make_text(each["client"]))
+        due = len(make_text(each["client"])) + (16 if each["method"] in DOUBLES else 0)
         for room in (0, 1, due - 1):
             calls.open(ROOM, room=room, packet=packet, **each)
         for turn, more in enumerate((0, 1, 1_000)):
-            calls.open(0, room=due + more, packet=packet + 10 * turn, **each)
+            calls.open(0, room=due + more, packet=packet + 20 * turn, **each)
         for room in (due, due + 1_000):
             calls.open(REPLAY, room=room, packet=packet, **each)
             calls.open(TYPE, room=room, kind=7, **each)
@@ -311,13 +387,14 @@ def room_group():
 
 
 def forged_groups():
-    for (name, each), mask in zip(TWO_PAIRS.items(), (1, 128)):
+    for (name, each), mask in zip(FIVE_PAIRS.items(), (1, 128, 2, 16, 128)):
         calls = Calls(60)
         calls.open(0, packet=4, **each)
         data, later = (make_data(packet=packet, **each) for packet in (5, 6))
         for place in range(len(data)):
             calls.open(NOT_AUTHENTIC, data=data, flip=(place, mask), **each)
-        calls.open(NOT_AUTHENTIC, data=later[:16] + data[16:], **each)
+        lead = overhead(each["method"]) - 16
+        calls.open(NOT_AUTHENTIC, data=later[:lead] + data[lead:], **each)
         calls.open(NOT_AUTHENTIC, data=data[:-16] + later[-16:], **each)
         calls.open(NOT_AUTHENTIC, data=data + b"\0", **each)
         calls.open(NOT_AUTHENTIC, data=data[:-1], **each)
@@ -329,27 +406,38 @@ def forged_groups():
         yield f"{name}, forged", calls
 
 
-def length_group():
-    calls = Calls(60)
-    for each in PAIRS.values():
-        for length in (0, 1, 15, 16, 17, 31):
-            calls.open(LENGTH, length=length, **each)
-            calls.open(LENGTH, length=length, room=0, **each)
-        for length in (32, 33, 47, 100):
-            calls.open(NOT_AUTHENTIC, length=length, **each)
-            calls.open(NOT_AUTHENTIC, data=b"", length=length, **each)
-        for length in (MAX_LENGTH + 1, 65_535, LONG_BUFFER):
-            calls.open(LENGTH, length=length, room=0, **each)
-            calls.open(LENGTH, length=length, room=LONG_BUFFER, **each)
-        calls.open(ROOM, length=MAX_LENGTH, room=MAX_LENGTH - 33, **each)
-    calls.open(NOT_AUTHENTIC, length=MAX_LENGTH, room=MAX_LENGTH - 32)
-    return "lengths", calls
+def length_groups():
+    for title, names in (
+        ("lengths", ("128 server", "128 client", "256 server", "256 client")),
+        ("lengths, ChaCha", ("ChaCha20 server", "ChaCha8 client")),
+    ):
+        calls = Calls(60)
+        for each in map(PAIRS.get, names):
+            try_lengths(calls, each)
+        each = PAIRS[names[0]]
+        room = MAX_LENGTH - overhead(each["method"])
+        calls.open(NOT_AUTHENTIC, length=MAX_LENGTH, room=room, **each)
+        yield title, calls
+
+
+def try_lengths(calls, each):
+    least = overhead(each["method"])
+    for length in (0, 1, 15, 16, 17, least - 1):
+        calls.open(LENGTH, length=length, **each)
+        calls.open(LENGTH, length=length, room=0, **each)
+    for length in (least, least + 1, least + 15, 100):
+        calls.open(NOT_AUTHENTIC, length=length, **each)
+        calls.open(NOT_AUTHENTIC, data=b"", length=length, **each)
+    for length in (MAX_LENGTH + 1, 65_535, LONG_BUFFER):
+        calls.open(LENGTH, length=length, room=0, **each)
+        calls.open(LENGTH, length=length, room=LONG_BUFFER, **each)
+    calls.open(ROOM, length=MAX_LENGTH, room=MAX_LENGTH - least - 1, **each)
 
 
 def settings_groups():
     calls = Calls(60)
-    for method in (0, 3, 257, 2**32 + 1, 2**32 + 2, LAST):
-        for length in KEY_LENGTHS.values():
+    for method in (0, 6, 257, 259, 2**32 + 1, 2**32 + 2, 2**32 + 3, LAST):
+        for length in (16, 32):
             calls.open(SETTINGS, method=method, key=key_of(length), data=pattern(48))
     for method in METHODS.values():
         for length in (0, 1, 15, 16, 17, 24, 31, 32, 33, 255):
@@ -368,14 +456,14 @@ def settings_groups():
         calls.begin((retention, *table_with(60, begun(3, 5, 990, PEER))[1:]))
         for packet, each in enumerate(PAIRS.values()):
             calls.open(answer, packet=packet, **each)
-        calls.open(SETTINGS, method=3, key=b"", data=b"", room=0)
+        calls.open(SETTINGS, method=6, key=b"", data=b"", room=0)
     yield "tables", calls
 
 
 # What brings each refusal about, in the order of opening.
 FAULTS = {
     SETTINGS: {"words": 705},
-    LENGTH: {"length": 31},
+    LENGTH: {},
     ROOM: {"room": 0},
     NOT_AUTHENTIC: {"flip": (40, 1)},
     "short": {},
@@ -396,6 +484,8 @@ def faulty(calls, faults, last, each):
     text = make_text(each["client"], **said)
     if "short" in faults:
         text = text[: 10 if each["client"] is None else 18]
+    if LENGTH in faults:
+        changes["length"] = overhead(each["method"]) - 1
     answer = faults[0] if faults else last
     calls.open(MALFORMED if answer == "short" else answer, text=text, **changes, **each)
 
@@ -406,7 +496,7 @@ def order_groups():
     for name, table, last, most in (("known", known, REPLAY, 2), ("full", full, FULL, 1)):
         calls = Calls()
         calls.begin(table)
-        for each in TWO_PAIRS.values():
+        for each in FIVE_PAIRS.values():
             order = [fault for fault in FAULTS if fault != BINDING or each["client"] is not None]
             for place in range(len(order) + 1):
                 faulty(calls, order[place:], last, each)
@@ -463,9 +553,7 @@ def refused_group():
     """Refused datagrams of far packets: the window stays."""
     calls = Calls(60)
     for each in PAIRS.values():
-        session = 7 if each["client"] is None else 8
-        if each["method"] == 2:
-            session += 10
+        session = (7 if each["client"] is None else 8) + 10 * (each["method"] - 1)
         known = {"session": session, **each}
         calls.open(0, packet=300, **known)
         calls.open(NOT_AUTHENTIC, packet=9_000, flip=(30, 2), **known)
@@ -749,6 +837,9 @@ def list_groups():
         ("many sessions", 60, Host("list 6", 2, 400, quiet=99), 150),
         ("late clocks", 60, Host("list 4", 1, 5, LAST - 900, 95), 60),
         ("equal clocks", 60, Host("list 5", 2, 6, quiet=100), 90),
+        ("few sessions, ChaCha20", 60, Host("list 7", 3, 3, quiet=85), 90),
+        ("many sessions, ChaCha12", 60, Host("list 8", 4, 400, quiet=99), 120),
+        ("equal clocks, ChaCha8", 61, Host("list 9", 5, 6, quiet=100), 90),
     )
     for name, retention, host, count in hosts:
         calls = Calls(retention)
@@ -757,18 +848,21 @@ def list_groups():
         yield f"list, {name}", calls
 
 
-def longest_group():
-    each = PAIRS["128 server"]
-    head = make_text(each["client"], address=V6)
-    text = head + pattern(MAX_LENGTH - MIN_LENGTH)[len(head) :]
-    call = make_call(text=text, room=len(text), **each)
-    longer = call._replace(output=FILL * LONG_BUFFER)
-    calls = Calls(60)
-    calls.run(call._replace(output=call.output[1:]), ROOM)
-    calls.run(longer, 0)
-    calls.run(call, REPLAY)
-    calls.run(longer, REPLAY)
-    return "longest", calls
+def longest_groups():
+    for name, title in (("128 server", "longest"), ("ChaCha12 client", "longest, ChaCha12")):
+        each = PAIRS[name]
+        least = overhead(each["method"])
+        head = make_text(each["client"], address=V6)
+        inner = 16 if each["method"] in DOUBLES else 0
+        text = head + pattern(MAX_LENGTH - least - inner)[len(head) :]
+        call = make_call(text=text, room=MAX_LENGTH - least, **each)
+        longer = call._replace(output=FILL * LONG_BUFFER)
+        calls = Calls(60)
+        calls.run(call._replace(output=call.output[1:]), ROOM)
+        calls.run(longer, 0)
+        calls.run(call, REPLAY)
+        calls.run(longer, REPLAY)
+        yield title, calls
 
 
 # The files.
@@ -779,6 +873,9 @@ def make_groups():
     return [
         *worked_groups(),
         *opened_groups(),
+        nonce_group(),
+        *inner_groups(),
+        other_method_group(),
         *short_groups(),
         *type_groups(),
         *time_groups(),
@@ -786,7 +883,7 @@ def make_groups():
         *address_groups(),
         room_group(),
         *forged_groups(),
-        length_group(),
+        *length_groups(),
         *settings_groups(),
         *order_groups(),
         *window_groups(),
@@ -801,5 +898,5 @@ def make_groups():
         *reply_groups(),
         making_group(),
         *list_groups(),
-        longest_group(),
+        *longest_groups(),
     ]

@@ -11,7 +11,8 @@ import vectors  # noqa: E402
 import session_cases  # noqa: E402
 import sessions  # noqa: E402
 from session_cases import Beginning, Making, Opening, Words  # noqa: E402
-from sessions import MIN_LENGTH, TABLE_WORDS  # noqa: E402
+from datagram import overhead  # noqa: E402
+from sessions import TABLE_WORDS  # noqa: E402
 from vectors import Case  # noqa: E402
 
 # The book.
@@ -44,7 +45,7 @@ def check_groups(groups):
 
 def written(call, answer):
     """The bytes of the output that the call writes."""
-    due = max(0, len(call.datagram) - MIN_LENGTH)
+    due = max(0, len(call.datagram) - overhead(call.method))
     return b"" if answer.output == call.output else answer.output[:due]
 
 

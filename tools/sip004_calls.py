@@ -123,4 +123,4 @@ def receiver(method, length=None, counter=0, number=0):
 
 def piece(method, text, counter=0, number=0):
     secret = streams.secret_of(sender(method, 0, number), SIP004)
-    return streams.sealed_piece(secret, counter, text)
+    return streams.sealed_piece(method, secret, counter, text)

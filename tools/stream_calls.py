@@ -11,7 +11,8 @@ from streams import ENDED, KEYS, LENGTH_NEXT, PAYLOAD_NEXT, POOL_WORDS  # noqa: 
 from streams import SALT_LENGTHS, SALTS, VARIABLE_NEXT, Receiver, Sender, new_pool  # noqa: E402
 from vectors import BUFFER_LIMIT, NO_STREAM, STREAM_WORDS, STREAMS  # noqa: E402
 
-METHODS = {128: 1, 256: 2}
+AES = {"128": 1, "256": 2}
+METHODS = AES | {"ChaCha20": 3, "ChaCha12": 4, "ChaCha8": 5}
 
 WORD_LIMIT = NO_STREAM  # words of a pool, one behind it, and four streams
 
@@ -40,6 +41,11 @@ Call = collections.namedtuple(
 Run = collections.namedtuple("Run", "call before answer after")
 Making = collections.namedtuple("Making", "method words before answer after")
 Words = collections.namedtuple("Words", "after")
+
+
+def beside(name):
+    """The methods of AES and this one, for what does not depend on the cipher."""
+    return AES | {name: METHODS[name]}
 
 
 def pattern(length):
@@ -227,7 +233,7 @@ def request(method, salt=None, text=None, kind=0, time=1_000, length=None, **sai
     text = text_of(**said) if text is None else text
     salt = salt_of(method) if salt is None else salt
     fixed = streams.fixed_header(kind, time, b"", len(text) if length is None else length)
-    return streams.head(KEYS[method], salt, fixed, text)
+    return streams.head(method, KEYS[method], salt, fixed, text)
 
 
 def response(method, salt=None, bound=None, kind=1, time=1_000, payload=b"x"):
@@ -235,7 +241,7 @@ def response(method, salt=None, bound=None, kind=1, time=1_000, payload=b"x"):
     salt = salt_of(method, "of a response") if salt is None else salt
     bound = salt_of(method) if bound is None else bound
     fixed = streams.fixed_header(kind, time, bound, len(payload))
-    return streams.head(KEYS[method], salt, fixed, payload)
+    return streams.head(method, KEYS[method], salt, fixed, payload)
 
 
 def front_of(method, kind):
@@ -263,7 +269,8 @@ def subkey_of(method, number=0):
 
 
 def piece(method, text, counter=2, number=0):
-    return streams.sealed_piece(streams.secret_of(sender(method, 0, number)), counter, text)
+    secret = streams.secret_of(sender(method, 0, number))
+    return streams.sealed_piece(method, secret, counter, text)
 
 
 def full_pool(method, **others):

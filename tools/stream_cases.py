@@ -8,7 +8,7 @@ import streams  # noqa: E402
 from datagram import ARGUMENT, COUNTER, LENGTH, NAME, ROOM, SETTINGS, V6, u16  # noqa: E402
 from sessions import BINDING, FULL, MALFORMED, NOT_AUTHENTIC, REPLAY, TIME, TYPE  # noqa: E402
 from sessions import Dice  # noqa: E402
-from stream_calls import ADDRESSES, BEHIND, JUNK, LAST, LONG, METHODS  # noqa: E402
+from stream_calls import ADDRESSES, AES, BEHIND, JUNK, LAST, LONG, METHODS, beside  # noqa: E402
 from stream_calls import NO_OUTPUT, OPEN_CHUNK, OPEN_REQUEST, OPEN_RESPONSE, OPEN_VARIABLE  # noqa: E402
 from stream_calls import SEAL_CHUNK, SEAL_REQUEST, SEAL_RESPONSE, SEALING, WORD_LIMIT  # noqa: E402
 from stream_calls import Calls, between, flipped, front_of, full_pool, pattern, piece  # noqa: E402
@@ -59,21 +59,21 @@ LENGTHS = ((0, 1, 16), (5, 1, 17), (1, 40, 2), (33, 15, 1), (16, 2, 31), (0, 1, 
 
 
 def whole_groups():
-    for bits, method in METHODS.items():
+    for name, method in METHODS.items():
         calls = Calls(method)
         paddings = itertools.cycle((1, 0, 900, 0, 17))
         for number, (address, lengths) in enumerate(zip(ADDRESSES, LENGTHS)):
             padding = next(paddings) or int(lengths[0] == 0)
             exchange(calls, number, address, padding, lengths)
-        yield f"{bits}, whole streams", calls
+        yield f"{name}, whole streams", calls
 
     calls = Calls(2)
     exchange(calls, 0, LONG, 900, (1_000, 1_500, 2, 1, 1_400))
     yield "longer chunks", calls
 
     calls = Calls()
-    for length in range(36):
-        method = 1 + length % 2
+    for length in range(70):
+        method = 1 + length % 5
         calls.begin(s0=sender(method), s1=receiver(method))
         data = calls.sealed(SEAL_CHUNK, answer=0 if length else EMPTY, data=pattern(length))
         receive(calls, 1, data)
@@ -81,7 +81,7 @@ def whole_groups():
 
 
 def head_groups():
-    for bits, method in METHODS.items():
+    for name, method in beside("ChaCha12").items():
         calls = Calls(method)
         for number, (address, padding) in enumerate(itertools.product(ADDRESSES, (0, 1, 900))):
             said = {"salt": salt_of(method, number), "other": address, "padding": padding}
@@ -98,7 +98,7 @@ def head_groups():
         same = salt_of(method)  # a response may have its request's salt
         data = calls.sealed(SEAL_RESPONSE, salt=same, other=same)
         calls.run(OPEN_RESPONSE, data=data, salt=same)
-        yield f"{bits}, heads", calls
+        yield f"{name}, heads", calls
 
 
 # Bytes that are not there yet.
@@ -114,7 +114,7 @@ def cut_fronts(calls, data, answer):
 
 
 def cut_request_groups():
-    for bits, method in METHODS.items():
+    for name, method in beside("ChaCha20").items():
         data, front = request(method, payload=b"abc"), front_of(method, 0)
         behind, calls = data[front:], Calls(method)
         for cut in range(front):
@@ -131,7 +131,7 @@ def cut_request_groups():
             calls.run(OPEN_REQUEST, MORE, cut=cut, **later)
         calls.open_head(MORE, cut=len(data) - 1, **later)
         calls.run(OPEN_VARIABLE, 0, data=later["data"][front:])
-        yield f"{bits}, requests cut short", calls
+        yield f"{name}, requests cut short", calls
 
 
 def cut_steps(calls, data, length):
@@ -142,7 +142,7 @@ def cut_steps(calls, data, length):
 
 
 def cut_response_groups():
-    for bits, method in METHODS.items():
+    for name, method in beside("ChaCha8").items():
         front, data = front_of(method, 1), response(method, payload=b"abcde")
         calls = Calls(method)
         for cut in range(front):
@@ -157,13 +157,13 @@ def cut_response_groups():
             calls.run(OPEN_CHUNK, MORE, data=pieces[-1], cut=cut, count=18)
         calls.run(OPEN_CHUNK, EMPTY, data=pieces[-1])
         calls.run(OPEN_CHUNK, NOT_AUTHENTIC, data=pieces[-1])
-        yield f"{bits}, responses and steps cut short", calls
+        yield f"{name}, responses and steps cut short", calls
 
 
 def wanted_group():
     """Lengths that are said, with few bytes or none behind them."""
     calls = Calls()
-    for method in METHODS.values():
+    for method in beside("ChaCha12").values():
         for length in (0, 1, 255, 256, 65_534, MAX_CHUNK):
             calls.begin(new_pool(method), s1=receiver(method, length))
             data = request(method, text=b"", length=length)[:-16]
@@ -187,7 +187,7 @@ TIMES += [(LAST - 30, LAST), (LAST - 31, LAST), (2**63, 2**63 - 30), (2**63, 2**
 
 
 def type_groups():
-    for bits, method in METHODS.items():
+    for name, method in METHODS.items():
         calls = Calls(method)
         for kind in KINDS:
             data = request(method, salt_of(method, kind), kind=kind)
@@ -197,11 +197,11 @@ def type_groups():
         mirrored = response(method, payload=bytes(60)), request(method, payload=bytes(60))
         calls.run(OPEN_REQUEST, NOT_AUTHENTIC, data=mirrored[0])
         calls.run(OPEN_RESPONSE, NOT_AUTHENTIC, data=mirrored[1])
-        yield f"{bits}, types", calls
+        yield f"{name}, types", calls
 
 
 def time_groups():
-    for bits, method in METHODS.items():
+    for name, method in beside("ChaCha8").items():
         calls = Calls(method)
         for number, (clock, time) in enumerate(TIMES):
             answer = 0 if abs(clock - time) <= 30 else TIME
@@ -209,11 +209,11 @@ def time_groups():
             calls.run(OPEN_REQUEST, answer, data=data, clock=clock)
             data = response(method, time=time)
             calls.run(OPEN_RESPONSE, answer, data=data, clock=clock, slot=1)
-        yield f"{bits}, times", calls
+        yield f"{name}, times", calls
 
 
 def binding_groups():
-    for bits, method in METHODS.items():
+    for name, method in beside("ChaCha20").items():
         calls = Calls(method, pool=False)
         salt = salt_of(method)
         for place in range(len(salt)):
@@ -223,7 +223,7 @@ def binding_groups():
             data = response(method, bound=bound)
             calls.run(OPEN_RESPONSE, BINDING, data=data)
             calls.run(OPEN_RESPONSE, 0, data=data, salt=bound)
-        yield f"{bits}, request salts", calls
+        yield f"{name}, request salts", calls
 
 
 BAD_KINDS = (0, 2, *range(5, 12), 127, 128, 129, 131, 132, 254, 255)
@@ -249,7 +249,7 @@ def malformed_texts():
 
 
 def malformed_groups():
-    for bits, method in METHODS.items():
+    for name, method in beside("ChaCha12").items():
         calls = Calls(method)
         for number, text in enumerate(malformed_texts()):
             room = len(text) + (0, 1, BEHIND)[number % 3]
@@ -262,14 +262,14 @@ def malformed_groups():
         good += [text_of(payload=b"\1" + NAME, said=1), text_of(padding=899, payload=b"", said=0)]
         for number, text in enumerate(good):
             calls.open_head(data=request(method, salt_of(method, number), text=text))
-        yield f"{bits}, malformed", calls
+        yield f"{name}, malformed", calls
 
 
 # Damaged and ended.
 
 
 def forged_head_groups():
-    for (bits, method), mask in zip(METHODS.items(), (1, 128)):
+    for (name, method), mask in zip(METHODS.items(), (1, 128, 2, 16, 64)):
         calls = Calls(method)
         another = bytes(len(KEYS[method]))
         data, other = (request(method, payload=payload) for payload in (b"abc", b"abd"))
@@ -291,12 +291,12 @@ def forged_head_groups():
             calls.run(OPEN_RESPONSE, NOT_AUTHENTIC, data=data, flip=(place, mask))
         calls.run(OPEN_RESPONSE, NOT_AUTHENTIC, data=data, key=another)
         calls.run(OPEN_RESPONSE, 0, data=data, flip=(front, mask))
-        yield f"{bits}, forged heads", calls
+        yield f"{name}, forged heads", calls
 
 
 def forged_chunk_groups():
     """A length and a payload, damaged at each place. The good ones then come too late."""
-    for (bits, method), mask in zip(METHODS.items(), (64, 2)):
+    for (name, method), mask in zip(METHODS.items(), (64, 2, 128, 1, 8)):
         calls = Calls(method, pool=False)
         pieces = piece(method, b"\0\3", 8), piece(method, b"xyz", 9)
         for place in range(19):
@@ -311,14 +311,28 @@ def forged_chunk_groups():
         calls.begin(s0=receiver(method, None, 8), s1=receiver(method, None, 9))
         calls.run(OPEN_CHUNK, NOT_AUTHENTIC, data=pieces[1])
         calls.run(OPEN_CHUNK, NOT_AUTHENTIC, data=pieces[0], slot=1)  # one counter too late
-        yield f"{bits}, forged chunks", calls
+        yield f"{name}, forged chunks", calls
+
+
+def other_method_group():
+    """Heads and chunks by another method whose keys are as long: they are not authentic."""
+    calls = Calls()
+    methods = [method for method in METHODS.values() if SALT_LENGTHS[method] == 32]
+    for ours, theirs in itertools.product(methods, methods):
+        answer = 0 if ours == theirs else NOT_AUTHENTIC
+        calls.begin(new_pool(theirs), s1=receiver(theirs), s2=receiver(theirs, 3))
+        calls.run(OPEN_REQUEST, answer, method=theirs, data=request(ours))
+        calls.run(OPEN_CHUNK, answer, slot=1, data=piece(ours, b"\0\3"))
+        calls.run(OPEN_CHUNK, answer, slot=2, data=piece(ours, b"abc"))
+        calls.run(OPEN_RESPONSE, answer, method=theirs, slot=3, data=response(ours))
+    return "other methods' heads and chunks", calls
 
 
 def ended_group():
     calls = Calls(pool=False)
     good = piece(1, b"\0\3")
     for counter in (0, 2, LAST - 1, LAST):
-        for method in (1, 2, 0, 3, 2**32 + 1, LAST):
+        for method in (1, 2, 3, 4, 5, 0, 6, 2**32 + 1, LAST):
             ended = (ENDED, method, counter, 5, *subkey_of(1))
             words = [0] * STREAMS + list(ended)
             answer = NOT_AUTHENTIC if method in METHODS.values() else SETTINGS
@@ -359,7 +373,7 @@ GOOD_COUNTERS = (0, 1, 2, 255, 256, 257, 258, 65_535, 2**32 - 1, 2**32, 2**40 + 
 
 
 def counter_groups():
-    for bits, method in METHODS.items():
+    for name, method in METHODS.items():
         calls = Calls(method, pool=False)
         for counter in (*GOOD_COUNTERS, LAST - 3, LAST - 2, LAST - 1, LAST):
             calls.begin(s0=sender(method, counter), s1=receiver(method, None, counter))
@@ -374,13 +388,13 @@ def counter_groups():
                 data = piece(method, text, LAST - 1)
                 calls.run(OPEN_CHUNK, answer, data=data, slot=slot)
                 calls.run(OPEN_CHUNK, COUNTER, data=b"", slot=slot, room=0)
-        yield f"{bits}, counters", calls
+        yield f"{name}, counters", calls
 
 
 def state_group():
     """States that a host made: other methods, and words behind a subkey of 16 bytes."""
     calls = Calls(pool=False)
-    for method in (0, 3, 257, 2**32 + 1, 2**32 + 2, LAST):
+    for method in ODD_METHODS:
         odd = {"method": method}
         states = {"s0": sender(1)._replace(**odd), "s1": receiver(1)._replace(**odd)}
         states |= {"s2": receiver(1, 3)._replace(**odd), "s3": between(1, 3)._replace(**odd)}
@@ -393,14 +407,16 @@ def state_group():
     junk = (*subkey_of(1)[:2], 7, LAST)
     calls.begin(s0=sender(1)._replace(subkey=junk), s1=receiver(1)._replace(subkey=junk))
     receive(calls, 1, calls.sealed(SEAL_CHUNK, data=b"abc"))
-    calls.begin(s0=sender(2)._replace(subkey=junk), s1=receiver(2)._replace(subkey=junk))
-    receive(calls, 1, calls.sealed(SEAL_CHUNK, data=b"abc"))
+    for method in (2, 3, 4, 5):
+        state = {"s0": sender(method), "s1": receiver(method)}
+        calls.begin(**{slot: each._replace(subkey=junk) for slot, each in state.items()})
+        receive(calls, 1, calls.sealed(SEAL_CHUNK, data=b"abc"))
     return "states of a host", calls
 
 
 # Settings.
 
-ODD_METHODS = (0, 3, 257, 2**32 + 1, 2**32 + 2, LAST)
+ODD_METHODS = (0, 6, 257, 259, 2**32 + 1, 2**32 + 2, 2**32 + 3, LAST)
 ODD_LENGTHS = (0, 1, 15, 16, 17, 24, 31, 32, 33, 255)
 
 
@@ -411,7 +427,7 @@ def string(length):
 def settings_groups():
     calls = Calls()
     for method, kind in itertools.product(ODD_METHODS, (0, 1, OPEN_REQUEST, OPEN_RESPONSE)):
-        for length in SALT_LENGTHS.values():
+        for length in (16, 32):
             odd = {"key": string(length), "salt": string(length)}
             if kind == SEAL_RESPONSE:
                 odd["other"] = string(length)
@@ -436,11 +452,12 @@ def settings_groups():
     calls = Calls()
     for method in METHODS.values():
         calls.make(method)
-        data, other = request(method), request(3 - method)
+        another = method % 5 + 1
+        data, other = request(method), request(another)
         for lent in (0, 1, 16, 1_536, 1_538):
             calls.run(OPEN_REQUEST, SETTINGS, method=method, data=data, lent=lent)
-        calls.run(OPEN_REQUEST, SETTINGS, method=3 - method, data=other)
-        for first in (0, 3, 3 - method, 2**32 + method, LAST):
+        calls.run(OPEN_REQUEST, SETTINGS, method=another, data=other)
+        for first in (0, 6, another, 2**32 + method, LAST):
             calls.begin((first, *new_pool(method)[1:]))
             calls.run(OPEN_REQUEST, SETTINGS, method=method, data=data)
             calls.run(OPEN_REQUEST, SETTINGS, method=method, data=b"")
@@ -459,11 +476,11 @@ def argument_groups():
     addresses = [bytes([kind]) + V6[1:] for kind in range(256) if kind not in (1, 3, 4)]
     addresses += BAD_ADDRESSES + [a[:-1] for a in ADDRESSES] + [a + b"\0" for a in ADDRESSES]
     for number, address in enumerate(addresses):
-        calls.run(SEAL_REQUEST, ARGUMENT, method=1 + number % 2, other=address)
+        calls.run(SEAL_REQUEST, ARGUMENT, method=1 + number % 5, other=address)
     yield "addresses that are not sealed", calls
 
     calls = Calls()
-    for method in METHODS.values():
+    for method in beside("ChaCha20").values():
         for padding, data in itertools.product(PADDINGS, (b"", b"x")):
             calls.run(SEAL_REQUEST, ARGUMENT, method=method, padding=padding, data=data)
         calls.run(SEAL_REQUEST, ARGUMENT, method=method, padding=0, data=b"")
@@ -475,7 +492,7 @@ def argument_groups():
 def size_group():
     """The payload of refused calls is not stored: it is the pattern."""
     calls = Calls()
-    for method in METHODS.values():
+    for method in beside("ChaCha8").values():
         calls.begin(s0=sender(method))
         for address, padding in ((NAME, 0), (LONG, 900), (V6, 1)):
             most = MAX_CHUNK - len(address) - 2 - padding
@@ -587,7 +604,7 @@ def order_groups():
 
 
 STEP_FAULTS = {
-    SETTINGS: {"method": 3},
+    SETTINGS: {"method": 6},
     "ended": {"turn": ENDED},
     COUNTER: {"counter": LAST},
     MORE: {"cut": 18},
@@ -642,7 +659,7 @@ def step_order_groups():
 
 # By kind of call, in the order of sealing. A head has no counter to run out.
 SEALING_FAULTS = {
-    SETTINGS: ({"salt": string(15)}, {"other": string(17)}, {"method": 3}),
+    SETTINGS: ({"salt": string(15)}, {"other": string(17)}, {"method": 6}),
     ARGUMENT: ({"other": NAME[:-1], "padding": 901}, None, None),
     EMPTY: (None, {"data": b""}, {"data": b""}),
     COUNTER: (None, None, {"counter": LAST - 1}),
@@ -673,7 +690,7 @@ def sealing_order_group():
 
 
 def kept_groups():
-    for bits, method in METHODS.items():
+    for name, method in beside("ChaCha20").items():
         calls = Calls(method)
         calls.run(OPEN_REQUEST, 0, data=request(method))
         for clock in (1_000, 1_001, 1_030, 999, 970):
@@ -685,12 +702,12 @@ def kept_groups():
         ):
             data = request(method, time=clock)
             calls.run(OPEN_REQUEST, answer, data=data, clock=clock)
-        yield f"{bits}, salts kept", calls
+        yield f"{name}, salts kept", calls
 
     calls = Calls()
     times = (0, 939, 940, 1_000, 2**63, LAST - 60, LAST)
     for time, clock in itertools.product(times, (1_000, LAST)):
-        for method in METHODS.values():
+        for method in beside("ChaCha8").values():
             salt = salt_of(method)
             calls.begin(new_pool(method, (1, time, salt)))
             data = request(method, time=clock)
@@ -714,7 +731,7 @@ def stored_group():
     accepted one stays, whatever the second call answers, and 10 and 3 leave that to be made
     again."""
     calls = Calls()
-    for method in METHODS.values():
+    for method in beside("ChaCha12").values():
         calls.make(method)
         data, front = request(method), front_of(method, 0)
         each = {"method": method, "data": data}
@@ -764,7 +781,7 @@ def full_groups():
 
     calls = Calls()
     for dead in ((), (255,), (0,), (5, 40), (8, 10, 255)):
-        for method in METHODS.values():
+        for method in beside("ChaCha20").values():
             gone = {f"r{place}": (1, 939, salt_of(method, "gone")) for place in dead}
             known = {"r9": (1, 940, salt_of(method, "known"))}
             calls.begin(full_pool(method, **gone, **known))
@@ -776,7 +793,7 @@ def full_groups():
 
 def odd_groups():
     calls = Calls()
-    for method in METHODS.values():
+    for method in beside("ChaCha12").values():
         salt, other = salt_of(method), salt_of(method, "other")
         each = {"method": method, "data": request(method)}
         for used in (0, 1, 2, 7, 2**32, 2**63, LAST):
@@ -793,7 +810,7 @@ def odd_groups():
     yield "odd words in use", calls
 
     calls = Calls()
-    for method in METHODS.values():
+    for method in beside("ChaCha8").values():
         salt = salt_of(method)
         for place in range(0, 32, 4):
             junk = flipped(salt.ljust(32, b"\7"), (place, 32))
@@ -820,8 +837,8 @@ def random_pool(dice, method, salts):
 
 
 def random_groups():
-    for bits, method in METHODS.items():
-        dice = Dice(f"pool {bits}")
+    for name, method in AES.items():
+        dice = Dice(f"pool {name}")
         salts = [salt_of(method, f"random {n}") for n in range(60)]
         calls = Calls(method, pool=False)
         calls.begin(random_pool(dice, method, salts))
@@ -829,12 +846,12 @@ def random_groups():
             clock = 2**63 + dice.pick((0, 0, 0, -9, 1, 30))
             data = request(method, dice.pick(salts), time=2**63)
             calls.run(OPEN_REQUEST, None, data=data, clock=clock)
-        yield f"{bits}, words of no meaning", calls
+        yield f"{name}, words of no meaning", calls
 
 
 def making_group():
     calls = Calls(pool=False)
-    for method in (0, 1, 2, 3, 257, 2**32 + 1, 2**32 + 2, LAST):
+    for method in (*METHODS.values(), *ODD_METHODS):
         answer = 0 if method in METHODS.values() else SETTINGS
         calls.begin((LAST,) * WORD_LIMIT)
         for words in (0, 1, 1_536, 1_538):
@@ -914,7 +931,8 @@ class Host:
         return self.calls.run(kind, None, clock=self.clock, **changes)
 
     def play(self, count):
-        self.send_head()
+        while not self.heads:
+            self.send_head()
         turns = (self.send_head, self.open_head, self.open_head, self.send_chunk, self.step)
         turns += (self.step, self.step, self.exchange_response)
         for _ in range(count):
@@ -923,15 +941,16 @@ class Host:
 
 
 def list_groups():
-    for bits, method in METHODS.items():
-        yield f"{bits}, list", Host(method).play(150)
+    for name, method in METHODS.items():
+        yield f"{name}, list", Host(method).play(150)
 
 
 # The longest chunks, one stored for each file.
 
 
 def longest_chunk_groups():
-    for (bits, method), length in zip(METHODS.items(), (MAX_CHUNK, MAX_CHUNK - 1)):
+    lengths = MAX_CHUNK, MAX_CHUNK - 1, MAX_CHUNK
+    for (name, method), length in zip(beside("ChaCha20").items(), lengths):
         calls = Calls(method, pool=False)
         calls.begin(s0=sender(method), s1=receiver(method))
         due = 18 + length + 16
@@ -942,7 +961,7 @@ def longest_chunk_groups():
         calls.run(OPEN_CHUNK, MORE, slot=1, data=sealed[:-1], room=length)
         calls.run(OPEN_CHUNK, ROOM, slot=1, data=sealed, room=length - 1)
         calls.run(OPEN_CHUNK, 0, slot=1, data=sealed, room=length)
-        yield f"{bits}, chunk of {length}", calls
+        yield f"{name}, chunk of {length}", calls
 
 
 def longest_request_group():
@@ -1001,6 +1020,7 @@ def make_groups():
         ended_group(),
         turn_group(),
         *forged_chunk_groups(),
+        other_method_group(),
         *settings_groups(),
         *argument_groups(),
         size_group(),

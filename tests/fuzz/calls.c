@@ -17,7 +17,8 @@ static const struct {
     [BEGIN_CLIENT] = {"relay_session_begin_client", B(SESSION), SETTINGS_ONLY},
     [BEGIN_SERVER] = {"relay_session_begin_server", B(TABLE) | B(SESSION), SETTINGS_ONLY | N(12)},
     [DATAGRAM_SEAL] = {"relay_datagram_seal",
-                       B(KEY) | B(SESSION) | B(ADDRESS) | B(PAYLOAD) | B(OUT) | B(ANSWER),
+                       B(KEY) | B(NONCE) | B(SESSION) | B(ADDRESS) | B(PAYLOAD) | B(OUT) |
+                           B(ANSWER),
                        SETTINGS_ONLY | N(2) | N(3) | N(11) | N(12)},
     [OPEN_SERVER] = {"relay_datagram_open_server",
                      B(KEY) | B(INPUT) | B(TABLE) | B(OUT) | B(ANSWER), 0x3ff},
@@ -119,8 +120,9 @@ static uint64_t call_datagrams(const struct call *c, const struct left *left)
     case BEGIN_SERVER:
         return relay_session_begin_server(c->id, c->client, c->clock, WORDS(TABLE), WORDS(SESSION));
     case DATAGRAM_SEAL:
-        return relay_datagram_seal(c->method, BYTES(KEY), WORDS(SESSION), c->clock, BYTES(ADDRESS),
-                                   c->padding, BYTES(PAYLOAD), BYTES(OUT), WORDS(ANSWER));
+        return relay_datagram_seal(c->method, BYTES(KEY), BYTES(NONCE), WORDS(SESSION), c->clock,
+                                   BYTES(ADDRESS), c->padding, BYTES(PAYLOAD), BYTES(OUT),
+                                   WORDS(ANSWER));
     case OPEN_SERVER:
         return relay_datagram_open_server(c->method, BYTES(KEY), c->clock, c->first, c->second,
                                           c->port, BYTES(INPUT), WORDS(TABLE), BYTES(OUT),

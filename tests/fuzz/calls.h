@@ -41,6 +41,7 @@ enum buffer {
     KEY,
     SALT,
     REQUEST_SALT,
+    NONCE,
     ADDRESS,
     PAYLOAD,
     INPUT,

@@ -1,5 +1,6 @@
 #include "cipher.h"
 
+#include "chacha.h"
 #include "relay.h"
 
 #include <openssl/evp.h>
@@ -9,7 +10,28 @@
 
 size_t key_length(uint64_t method)
 {
-    return method == RELAY_AES_128_GCM ? 16 : method == RELAY_AES_256_GCM ? 32 : 0;
+    if (method == RELAY_AES_128_GCM)
+        return 16;
+    return method == RELAY_AES_256_GCM || double_rounds(method) > 0 ? 32 : 0;
+}
+
+unsigned double_rounds(uint64_t method)
+{
+    switch (method) {
+    case RELAY_CHACHA20_POLY1305:
+        return 20 / 2;
+    case RELAY_CHACHA12_POLY1305:
+        return 12 / 2;
+    case RELAY_CHACHA8_POLY1305:
+        return 8 / 2;
+    default:
+        return 0;
+    }
+}
+
+size_t overhead(uint64_t method)
+{
+    return (double_rounds(method) > 0 ? EXTENDED_NONCE_LEN : 16) + TAG_LEN;
 }
 
 size_t sip004_key_length(uint64_t method)
@@ -192,9 +214,41 @@ int gcm_open(const uint8_t *key, size_t key_len, const uint8_t *nonce, const uin
     return EVP_CipherFinal_ex(context, last, &done) == 1;
 }
 
-void stream_nonce(uint64_t counter, uint8_t *nonce)
+/* ---- pieces of streams */
+
+/* A counter in 12 bytes, little-endian. */
+static void stream_nonce(uint64_t counter, uint8_t *nonce)
 {
     memset(nonce, 0, 12);
     for (int i = 0; i < 8; i++)
         nonce[i] = (uint8_t)(counter >> 8 * i);
+}
+
+/* At most one edition has the method. */
+static size_t subkey_length(uint64_t method)
+{
+    return key_length(method) + sip004_key_length(method);
+}
+
+void piece_seal(uint64_t method, const uint8_t *subkey, uint64_t counter, const uint8_t *text,
+                size_t len, uint8_t *out)
+{
+    uint8_t nonce[12];
+    unsigned doubles = double_rounds(method);
+    stream_nonce(counter, nonce);
+    if (doubles > 0)
+        chacha_seal(doubles, subkey, nonce, text, len, out);
+    else
+        gcm_seal(subkey, subkey_length(method), nonce, text, len, out);
+}
+
+int piece_open(uint64_t method, const uint8_t *subkey, uint64_t counter, const uint8_t *sealed,
+               size_t len, uint8_t *out)
+{
+    uint8_t nonce[12];
+    unsigned doubles = double_rounds(method);
+    stream_nonce(counter, nonce);
+    if (doubles > 0)
+        return chacha_open(doubles, subkey, nonce, sealed, len, out);
+    return gcm_open(subkey, subkey_length(method), nonce, sealed, len, out);
 }

@@ -1,7 +1,8 @@
 /*
  * The ciphers of the protocol, independent of the library: AES, GCM and HKDF by
- * OpenSSL, BLAKE3's key derivation from its paper. With them the fuzz target
- * makes authentic messages of any contents, and knows what is authentic.
+ * OpenSSL, BLAKE3's key derivation from its paper, ChaCha as in chacha.h. With
+ * them the fuzz target makes authentic messages of any contents, and knows what
+ * is authentic.
  */
 #ifndef CIPHER_H
 #define CIPHER_H
@@ -16,6 +17,12 @@ size_t key_length(uint64_t method);
 
 /* The same by the 2017 edition. */
 size_t sip004_key_length(uint64_t method);
+
+/* A method's double rounds of ChaCha; 0 for one of AES, or none. */
+unsigned double_rounds(uint64_t method);
+
+/* How many bytes a datagram of a method of SIP022 has more than its plaintext. */
+size_t overhead(uint64_t method);
 
 /* The subkey, as long as the key, of a salt or of a datagram's session ID. */
 void derive_subkey(const uint8_t *key, size_t key_len, const uint8_t *salt, size_t salt_len,
@@ -35,8 +42,11 @@ void gcm_seal(const uint8_t *key, size_t key_len, const uint8_t *nonce, const ui
 int gcm_open(const uint8_t *key, size_t key_len, const uint8_t *nonce, const uint8_t *sealed,
              size_t len, uint8_t *out);
 
-/* A stream's nonce: its counter in 12 bytes, little-endian. */
-void stream_nonce(uint64_t counter, uint8_t *nonce);
+/* The same of a piece of a stream by any method, under its subkey and counter. */
+void piece_seal(uint64_t method, const uint8_t *subkey, uint64_t counter, const uint8_t *text,
+                size_t len, uint8_t *out);
+int piece_open(uint64_t method, const uint8_t *subkey, uint64_t counter, const uint8_t *sealed,
+               size_t len, uint8_t *out);
 
 /* Numbers of `len` bytes, big-endian. */
 uint64_t get_number(const uint8_t *bytes, size_t len);

@@ -37,19 +37,25 @@ static size_t cut(const struct step *step, size_t len)
     return step->how & CUT && most < len ? most : len;
 }
 
+/* By a method of ChaCha the IDs are in the plaintext, which may be cut among them. */
 void craft_datagram_step(const struct step *step)
 {
     const uint64_t *session = host.sessions[step->who / 2 % SESSIONS];
     struct span lent_key = {key, key_length(host.method)}, whole = {text, 0};
     struct span payload = {filled, length_of(step->length)};
     uint64_t time = step->value == 0 ? host.clock : word_of(step->value);
-    whole.len = datagram_text(text, step->who & 1, time, session[2], step->place & 0x3ff,
-                              address_of(step->who / 8), payload);
-    apply_patches(text, whole.len, 0);
+    int inner = double_rounds(host.method) > 0;
+    size_t ids = inner ? ids_text(text, session[1], session[3]) : 0;
+    size_t len = datagram_text(text + ids, step->who & 1, time, session[2], step->place & 0x3ff,
+                               address_of(step->who / 8), payload);
+    apply_patches(text + ids, len, 0);
     host.patch_count = 0;
-    whole.len = cut(step, whole.len);
+    whole.len = cut(step, ids + len);
     struct message *message = &datagrams[host.next_datagram++ % DATAGRAMS];
-    message->len = craft_datagram(lent_key, session[1], session[3], whole, message->bytes);
+    if (inner)
+        message->len = craft_inner(host.method, lent_key, nonce_of(step), whole, message->bytes);
+    else
+        message->len = craft_datagram(lent_key, session[1], session[3], whole, message->bytes);
 }
 
 void craft_head_step(const struct step *step)
@@ -70,24 +76,23 @@ void craft_head_step(const struct step *step)
     apply_patches(front, fixed.len, OF_FIXED_HEADER);
     host.patch_count = 0;
     line->read = 0;
-    line->len =
-        craft_head(lent_key, salt_of(step->who / 16, step->value), fixed, whole, line->bytes);
+    line->len = craft_head(host.method, lent_key, salt_of(step->who / 16, step->value), fixed,
+                           whole, line->bytes);
 }
 
 /* A length, and a payload that may have another, for the stream that is to open them. */
 void craft_chunk_step(const struct step *step)
 {
     const uint64_t *stream = host.streams[step->who % STREAMS];
-    size_t key_len = key_length(stream[1]) + sip004_key_length(stream[1]); /* at most one has it */
     uint8_t subkey[32], said[2];
     struct span length = {said, 2}, payload = {filled, length_of(step->length)}, whole = {text, 0};
-    if (key_len == 0)
-        return;
+    if (key_length(stream[1]) + sip004_key_length(stream[1]) == 0)
+        return; /* neither edition has the method */
     for (int i = 0; i < 4; i++)
         put_number(subkey + 8 * i, 8, stream[4 + i]);
     put_number(said, 2, step->how & 1 ? step->place : payload.len);
-    whole.len = craft_piece(subkey, key_len, stream[2], length, text);
-    whole.len += craft_piece(subkey, key_len, stream[2] + 1, payload, text + whole.len);
+    whole.len = craft_piece(stream[1], subkey, stream[2], length, text);
+    whole.len += craft_piece(stream[1], subkey, stream[2] + 1, payload, text + whole.len);
     append(line_of(step), whole);
 }
 

@@ -1,5 +1,6 @@
 #include "expect.h"
 
+#include "chacha.h"
 #include "cipher.h"
 #include "messages.h"
 #include "relay.h"
@@ -18,7 +19,6 @@ enum {
     WINDOW = 256,
     KEPT = 60,
     MAX_PADDING = 900,
-    MIN_DATAGRAM = SEPARATE_LEN + TAG_LEN,
 };
 
 enum { LONGEST = RELAY_MAX_CHUNK + 200 }; /* of a head with its tags and salts */
@@ -81,6 +81,8 @@ static int lawful_buffer(const struct call *c, enum buffer b)
     case SALT:
     case REQUEST_SALT:
         return key_len != 0 && len == key_len;
+    case NONCE:
+        return double_rounds(c->method) == 0 || len == EXTENDED_NONCE_LEN;
     case TABLE:
         return len == RELAY_TABLE_WORDS &&
                (c->function == TABLE_NEW || lawful_retention(words_of(c, TABLE)[0]));
@@ -227,6 +229,26 @@ static uint64_t expect_size(const struct call *c, struct expectation *e, size_t 
     return RELAY_OK;
 }
 
+/* How many bytes of IDs the plaintext of a datagram begins with. */
+static size_t inner_ids(const struct call *c)
+{
+    return double_rounds(c->method) > 0 ? SEPARATE_LEN : 0;
+}
+
+/* The datagram of an accepted call, to `sealed`. */
+static void seal_datagram(const struct call *c)
+{
+    const uint64_t *w = words_of(c, SESSION);
+    size_t ids = inner_ids(c) > 0 ? ids_text(text, w[1], w[3]) : 0;
+    struct span whole = {text, ids};
+    whole.len += datagram_text(text + ids, w[0], c->clock, w[2], c->padding, span_of(c, ADDRESS),
+                               span_of(c, PAYLOAD));
+    if (ids > 0)
+        craft_inner(c->method, span_of(c, KEY), bytes_of(c, NONCE), whole, sealed);
+    else
+        craft_datagram(span_of(c, KEY), w[1], w[3], whole, sealed);
+}
+
 static uint64_t expect_datagram(const struct call *c, struct expectation *e)
 {
     const uint64_t *w = words_of(c, SESSION);
@@ -236,15 +258,13 @@ static uint64_t expect_datagram(const struct call *c, struct expectation *e)
         return RELAY_REFUSED_COUNTER;
     if (c->padding > RELAY_MAX_DATAGRAM)
         return RELAY_REFUSED_LENGTH;
-    size_t len = (w[0] == 1 ? 51 : 43) + c->padding + len_of(c, ADDRESS) + len_of(c, PAYLOAD);
+    size_t len = overhead(c->method) + inner_ids(c) + (w[0] == 1 ? 19 : 11) + c->padding;
+    len += len_of(c, ADDRESS) + len_of(c, PAYLOAD);
     uint64_t number = expect_size(c, e, len, RELAY_MAX_DATAGRAM, 0);
     if (number != RELAY_OK)
         return number;
     set_state(e, w[0], w[1], w[2], w[3] + 1, NULL);
-    struct span whole = {text, 0};
-    whole.len = datagram_text(text, w[0], c->clock, w[2], c->padding, span_of(c, ADDRESS),
-                              span_of(c, PAYLOAD));
-    craft_datagram(span_of(c, KEY), w[1], w[3], whole, sealed);
+    seal_datagram(c);
     return RELAY_OK;
 }
 
@@ -267,7 +287,7 @@ static void expect_head(const struct call *c, struct expectation *e, struct span
     uint64_t subkey[4];
     subkey_words(c, bytes_of(c, SALT), subkey);
     set_state(e, RELAY_TURN_SEALING, c->method, 2, 0, subkey);
-    craft_head(span_of(c, KEY), bytes_of(c, SALT), fixed, whole, sealed);
+    craft_head(c->method, span_of(c, KEY), bytes_of(c, SALT), fixed, whole, sealed);
 }
 
 static uint64_t expect_sealed_request(const struct call *c, struct expectation *e)
@@ -327,28 +347,29 @@ static uint64_t expect_sealed_chunk(const struct call *c, struct expectation *e)
     struct span length = {said, sizeof said};
     put_number(said, 2, len_of(c, PAYLOAD));
     stream_subkey(w, subkey);
-    size_t len = craft_piece(subkey, edition->key_length(w[1]), w[2], length, sealed);
-    craft_piece(subkey, edition->key_length(w[1]), w[2] + 1, span_of(c, PAYLOAD), sealed + len);
+    size_t len = craft_piece(w[1], subkey, w[2], length, sealed);
+    craft_piece(w[1], subkey, w[2] + 1, span_of(c, PAYLOAD), sealed + len);
     set_state(e, RELAY_TURN_SEALING, w[1], w[2] + 2, 0, w + 4);
     return RELAY_OK;
 }
 
 /* ---- opening datagrams */
 
-/* Refusals 5, 6, 7 and 13 of a plaintext. */
+/* Refusals 5, 6, 7 and 13 of a plaintext, whose main header is behind its IDs if it has any. */
 static uint64_t expect_header(const struct call *c, struct expectation *e)
 {
-    size_t bound = c->function == OPEN_CLIENT ? 8 : 0, fixed = 11 + bound;
-    if (e->due < fixed)
+    size_t ids = inner_ids(c), bound = c->function == OPEN_CLIENT ? 8 : 0, end = ids + 11 + bound;
+    const uint8_t *header = opened + ids;
+    if (e->due < end)
         return RELAY_REFUSED_MALFORMED;
-    uint64_t time = get_number(opened + 1, 8);
-    if (opened[0] != (bound ? 1 : 0))
+    uint64_t time = get_number(header + 1, 8);
+    if (header[0] != (bound ? 1 : 0))
         return RELAY_REFUSED_TYPE;
     if (!within(c->clock, time, TIME_LIMIT) || !within(time, c->clock, TIME_LIMIT))
         return RELAY_REFUSED_TIME;
-    if (bound && get_number(opened + 9, 8) != c->client)
+    if (bound && get_number(header + 9, 8) != c->client)
         return RELAY_REFUSED_BINDING;
-    size_t padding = (size_t)get_number(opened + fixed - 2, 2), place = fixed + padding;
+    size_t padding = (size_t)get_number(opened + end - 2, 2), place = end + padding;
     size_t address = place < e->due ? address_length(opened + place, e->due - place) : 0;
     if (address == 0)
         return RELAY_REFUSED_MALFORMED;
@@ -433,23 +454,41 @@ static uint64_t expect_admitted(const struct call *c, struct expectation *e)
     return RELAY_OK;
 }
 
+/* Whether a datagram is authentic. Its plaintext is then in `opened`, and its IDs are where they
+ * are written: a plaintext too short for them has none. */
+static int datagram_opens(const struct call *c, uint8_t *ids)
+{
+    const uint8_t *datagram = bytes_of(c, INPUT), *key = bytes_of(c, KEY);
+    size_t len = len_of(c, INPUT), key_len = len_of(c, KEY);
+    unsigned doubles = double_rounds(c->method);
+    uint8_t subkey[32], nonce[12];
+    if (doubles == 0) {
+        block_decrypt(key, key_len, datagram, ids);
+        derive_subkey(key, key_len, ids, 8, subkey);
+        return gcm_open(subkey, key_len, ids + 4, datagram + SEPARATE_LEN, len - SEPARATE_LEN,
+                        opened);
+    }
+    chacha_extended(doubles, key, datagram, subkey, nonce);
+    int good = chacha_open(doubles, subkey, nonce, datagram + EXTENDED_NONCE_LEN,
+                           len - EXTENDED_NONCE_LEN, opened);
+    memcpy(ids, opened, SEPARATE_LEN);
+    return good;
+}
+
 static uint64_t expect_opened(const struct call *c, struct expectation *e)
 {
-    size_t len = len_of(c, INPUT), key_len = len_of(c, KEY);
-    const uint8_t *datagram = bytes_of(c, INPUT), *key = bytes_of(c, KEY);
-    uint8_t header[SEPARATE_LEN], subkey[32];
-    if (len < MIN_DATAGRAM || len > RELAY_MAX_DATAGRAM)
+    size_t len = len_of(c, INPUT), more = overhead(c->method);
+    uint8_t ids[SEPARATE_LEN];
+    if (len < more || len > RELAY_MAX_DATAGRAM)
         return RELAY_REFUSED_LENGTH;
-    if (len_of(c, OUT) < len - MIN_DATAGRAM)
+    if (len_of(c, OUT) < len - more)
         return RELAY_REFUSED_ROOM;
-    block_decrypt(key, key_len, datagram, header);
-    derive_subkey(key, key_len, header, 8, subkey);
-    if (!gcm_open(subkey, key_len, header + 4, datagram + SEPARATE_LEN, len - SEPARATE_LEN, opened))
+    if (!datagram_opens(c, ids))
         return RELAY_REFUSED_NOT_AUTHENTIC;
-    e->due = len - MIN_DATAGRAM;
+    e->due = len - more;
     uint64_t number = expect_header(c, e);
-    e->words[RELAY_AT_SESSION_ID] = get_number(header, 8);
-    e->words[RELAY_AT_PACKET_ID] = get_number(header + 8, 8);
+    e->words[RELAY_AT_SESSION_ID] = get_number(ids, 8);
+    e->words[RELAY_AT_PACKET_ID] = get_number(ids + 8, 8);
     if (number == RELAY_OK)
         number = expect_admitted(c, e);
     if (number == RELAY_OK) {
@@ -468,14 +507,6 @@ static uint64_t wants(struct expectation *e, size_t wanted)
     return RELAY_REFUSED_MORE;
 }
 
-static int piece_opens(const uint8_t *subkey, size_t key_len, uint64_t counter,
-                       const uint8_t *piece, size_t len)
-{
-    uint8_t nonce[12];
-    stream_nonce(counter, nonce);
-    return gcm_open(subkey, key_len, nonce, piece, len, opened);
-}
-
 /* The refusals that both heads have, of the fixed header; the text is left in `opened`. */
 static uint64_t expect_fixed(const struct call *c, struct expectation *e, size_t fixed,
                              uint8_t type, uint8_t *subkey)
@@ -485,7 +516,7 @@ static uint64_t expect_fixed(const struct call *c, struct expectation *e, size_t
         return wants(e, wanted);
     const uint8_t *bytes = bytes_of(c, INPUT);
     derive_subkey(bytes_of(c, KEY), salt, bytes, salt, subkey);
-    if (!piece_opens(subkey, salt, 0, bytes + salt, fixed + TAG_LEN))
+    if (!piece_open(c->method, subkey, 0, bytes + salt, fixed + TAG_LEN, opened))
         return RELAY_REFUSED_NOT_AUTHENTIC;
     uint64_t time = get_number(opened + 1, 8);
     if (opened[0] != type)
@@ -572,7 +603,7 @@ static uint64_t expect_variable(const struct call *c, struct expectation *e)
     if (len_of(c, OUT) < len)
         return RELAY_REFUSED_ROOM;
     stream_subkey(w, subkey);
-    if (!piece_opens(subkey, key_length(w[1]), 1, bytes_of(c, INPUT), len + TAG_LEN))
+    if (!piece_open(w[1], subkey, 1, bytes_of(c, INPUT), len + TAG_LEN, opened))
         return RELAY_REFUSED_NOT_AUTHENTIC;
     e->due = len;
     set_state(e, RELAY_TURN_LENGTH, w[1], 2, 0, w + 4);
@@ -613,7 +644,7 @@ static uint64_t expect_opened_chunk(const struct call *c, struct expectation *e)
     if (payload && len_of(c, OUT) < len)
         return RELAY_REFUSED_ROOM;
     stream_subkey(w, subkey);
-    if (!piece_opens(subkey, edition->key_length(w[1]), w[2], bytes_of(c, INPUT), len + TAG_LEN))
+    if (!piece_open(w[1], subkey, w[2], bytes_of(c, INPUT), len + TAG_LEN, opened))
         return RELAY_REFUSED_NOT_AUTHENTIC;
     uint64_t length = payload ? len : get_number(opened, 2);
     if (length < edition->least)

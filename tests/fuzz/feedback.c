@@ -24,6 +24,18 @@ static unsigned magnitude(uint64_t value)
     return bits;
 }
 
+/* 0 for AES, 1 to 3 for the methods of ChaCha. */
+static unsigned cipher_of(const struct call *call)
+{
+    uint64_t method = call->method;
+    if (takes(call->function, STREAM) && !takes(call->function, KEY) &&
+        call->buffers[STREAM].len == RELAY_STREAM_WORDS)
+        method = ((const uint64_t *)call->buffers[STREAM].data)[RELAY_STREAM_METHOD];
+    if (method < RELAY_CHACHA20_POLY1305 || method > RELAY_CHACHA8_POLY1305)
+        return 0;
+    return (unsigned)(method - RELAY_CHACHA20_POLY1305 + 1);
+}
+
 /* Which words of a record were written, and how far they moved. */
 static void changed_words(const struct call *call, const struct left *left, enum buffer b)
 {
@@ -39,7 +51,7 @@ void feedback(const struct call *call, const struct left *left)
 {
     enum function f = call->function;
     const uint64_t *answer = (const void *)left->lent[ANSWER].ours;
-    feature(f, left->number);
+    feature(f, left->number + 16 * cipher_of(call));
     if (takes(f, INPUT))
         feature(INPUT_LENGTHS, left->number * 4 + magnitude(call->buffers[INPUT].len) / 5);
     if (takes(f, STREAM) && call->buffers[STREAM].len > 0)

@@ -99,6 +99,15 @@ const uint8_t *salt_of(unsigned which, uint64_t value)
     return salt;
 }
 
+const uint8_t *nonce_of(const struct step *step)
+{
+    static uint8_t nonce[RELAY_NONCE_BYTES + SPARE];
+    memset(nonce, step->who, sizeof nonce);
+    put_number(nonce, 8, step->value);
+    put_number(nonce + 16, 2, step->place); /* of the second stage */
+    return nonce;
+}
+
 struct message *line_of(const struct step *step)
 {
     return &lines[step->who / STREAMS % LINES];
@@ -154,7 +163,7 @@ void give_room(struct call *call, const struct step *step, size_t due)
 void spoil(struct call *call, const struct step *step)
 {
     static const uint64_t methods[2][8] = {
-        {0, 3, 257, (1ull << 32) + 1, UINT64_MAX, 1, 2, 4},
+        {0, 6, 259, (1ull << 32) + 1, UINT64_MAX, 2, 3, 4},
         {10, 14, 256 + 11, (1ull << 32) + 12, 5, 11, 12, 13},
     };
     unsigned which = step->fault & 15, way = step->fault >> 4 & 7;

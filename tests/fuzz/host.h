@@ -85,6 +85,7 @@ size_t length_of(uint16_t length);
 size_t padding_of(uint16_t place);
 struct span address_of(unsigned which); /* one of eight, the last two unlawful */
 const uint8_t *salt_of(unsigned which, uint64_t value);
+const uint8_t *nonce_of(const struct step *step); /* with some bytes behind it */
 struct message *line_of(const struct step *step);
 
 /* ---- calls */

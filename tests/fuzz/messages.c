@@ -1,5 +1,6 @@
 #include "messages.h"
 
+#include "chacha.h"
 #include "cipher.h"
 
 #include <string.h>
@@ -49,33 +50,48 @@ size_t variable_text(uint8_t *text, size_t padding, struct span address, struct 
     return len + put(text + len, payload);
 }
 
+size_t ids_text(uint8_t *text, uint64_t id, uint64_t packet)
+{
+    put_number(text, 8, id);
+    put_number(text + 8, 8, packet);
+    return 16;
+}
+
 size_t craft_datagram(struct span key, uint64_t id, uint64_t packet, struct span text, uint8_t *out)
 {
     uint8_t header[16], subkey[32];
-    put_number(header, 8, id);
-    put_number(header + 8, 8, packet);
+    ids_text(header, id, packet);
     block_encrypt(key.bytes, key.len, header, out);
     derive_subkey(key.bytes, key.len, header, 8, subkey);
     gcm_seal(subkey, key.len, header + 4, text.bytes, text.len, out + 16);
     return 16 + text.len + TAG_LEN;
 }
 
-size_t craft_piece(const uint8_t *subkey, size_t key_len, uint64_t counter, struct span text,
+size_t craft_inner(uint64_t method, struct span key, const uint8_t *nonce, struct span text,
                    uint8_t *out)
 {
-    uint8_t nonce[12];
-    stream_nonce(counter, nonce);
-    gcm_seal(subkey, key_len, nonce, text.bytes, text.len, out);
+    uint8_t subkey[32], inner[12];
+    unsigned doubles = double_rounds(method);
+    memcpy(out, nonce, EXTENDED_NONCE_LEN);
+    chacha_extended(doubles, key.bytes, nonce, subkey, inner);
+    chacha_seal(doubles, subkey, inner, text.bytes, text.len, out + EXTENDED_NONCE_LEN);
+    return EXTENDED_NONCE_LEN + text.len + TAG_LEN;
+}
+
+size_t craft_piece(uint64_t method, const uint8_t *subkey, uint64_t counter, struct span text,
+                   uint8_t *out)
+{
+    piece_seal(method, subkey, counter, text.bytes, text.len, out);
     return text.len + TAG_LEN;
 }
 
-size_t craft_head(struct span key, const uint8_t *salt, struct span fixed, struct span text,
-                  uint8_t *out)
+size_t craft_head(uint64_t method, struct span key, const uint8_t *salt, struct span fixed,
+                  struct span text, uint8_t *out)
 {
     uint8_t subkey[32];
     derive_subkey(key.bytes, key.len, salt, key.len, subkey);
     memcpy(out, salt, key.len);
     size_t len = key.len;
-    len += craft_piece(subkey, key.len, 0, fixed, out + len);
-    return len + craft_piece(subkey, key.len, 1, text, out + len);
+    len += craft_piece(method, subkey, 0, fixed, out + len);
+    return len + craft_piece(method, subkey, 1, text, out + len);
 }

@@ -23,7 +23,8 @@ void open_datagram(const struct step *step)
     call.port = step->length;
     lend_to(&call, TABLE, host.tables[call.function == OPEN_CLIENT], RELAY_TABLE_WORDS);
     lend_to(&call, INPUT, message->bytes, message->len);
-    give_room(&call, step, message->len < 32 ? 0 : message->len - 32);
+    size_t more = overhead(host.method);
+    give_room(&call, step, message->len < more ? 0 : message->len - more);
     spoil(&call, step);
     if (run(&call).number == RELAY_OK)
         must_be_replay(&call);

@@ -48,7 +48,7 @@ static void datagram_back(const struct call *sealing, const struct message *mess
     call.function = session[0] == 1 ? OPEN_CLIENT : OPEN_SERVER;
     call.client = session[2];
     lend_to(&call, INPUT, message->bytes, message->len);
-    call.buffers[OUT].len = message->len - 32;
+    call.buffers[OUT].len = message->len - overhead(call.method);
     must_open(&call, payload_of(sealing), RELAY_AT_PAYLOAD);
 }
 
@@ -121,9 +121,11 @@ void seal_datagram(const struct step *step)
     struct span address = address_of(step->who / SESSIONS);
     size_t payload = length_of(step->length);
     call.padding = padding_of(step->place);
+    lend_to(&call, NONCE, nonce_of(step), RELAY_NONCE_BYTES);
     lend_to(&call, ADDRESS, address.bytes, address.len);
     lend_to(&call, PAYLOAD, filled + (step->value & 0xff), payload);
-    size_t fixed = host.sessions[step->who % SESSIONS][0] == 1 ? 51 : 43;
+    size_t fixed = overhead(host.method) + (double_rounds(host.method) > 0 ? 16 : 0);
+    fixed += host.sessions[step->who % SESSIONS][0] == 1 ? 19 : 11;
     give_room(&call, step, fixed + (call.padding & 0x1ffff) + address.len + payload);
     spoil(&call, step);
     struct left left = run(&call);

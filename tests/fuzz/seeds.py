@@ -90,7 +90,7 @@ def settings():
         step("BEGIN_CLIENT", value=9),
         step("BEGIN_SERVER", who=1, value=ID_OF),
     ]
-    yield begun() + faulty("DATAGRAM_SEAL", "KEY", "SESSION", "ANSWER")
+    yield begun() + faulty("DATAGRAM_SEAL", "KEY", "NONCE", "SESSION", "ANSWER")
     opened = [step("DATAGRAM_SEAL"), *faulty("OPEN_SERVER", "KEY", "TABLE", "ANSWER")]
     yield begun() + opened + faulty("OPEN_CLIENT", "KEY", "TABLE", "ANSWER")
     yield begun() + faulty("SEAL_REQUEST", "KEY", "SALT", "STREAM", "ANSWER", place=1)
@@ -114,7 +114,7 @@ def sealed_datagrams():
             step("DATAGRAM_SEAL", who=1 + 4 * address, how=ONE_MORE, length=1),
             step("OPEN_CLIENT", who=1 + 8, how=MUCH_MORE, length=80),
         ]
-    for less in (142, 143, 150):
+    for less in (142, 143, 150, 166, 167, 174):  # the last three by methods of ChaCha
         yield begun() + [step("DATAGRAM_SEAL", who=who, length=0xFFFF - less) for who in (0, 1)]
     yield begun() + [
         step("DATAGRAM_SEAL", how=ONE_SHORT),
@@ -137,7 +137,10 @@ def refused_datagrams():
             step(code, who=who, how=ONE_SHORT),
             step(code, fault("INPUT", FLIPPED), who=who, place=20),
             step(code, fault("INPUT", FLIPPED), who=who, place=3),
-            *(step(code, fault("INPUT", AT_LENGTH), who=who, length=n) for n in (0, 31, 32, 40)),
+            *(
+                step(code, fault("INPUT", AT_LENGTH), who=who, length=n)
+                for n in (0, 31, 32, 39, 40, 48)
+            ),
             step("CLOCK", value=AFTER | 31),
             step(code, who=who),
             step("CLOCK", value=BEFORE | 1),
@@ -165,6 +168,35 @@ def refused_datagrams():
             step("CLOCK", value=AFTER | 1),
             step("CRAFT_DATAGRAM", who=who * 3),
             step(code, who=who),
+        ]
+
+
+# Plaintexts by methods of ChaCha: where the IDs end, and the fixed headers of both sides.
+INNER_LENGTHS = 0, 7, 8, 15, 16, 26, 27, 33, 34, 35, 41, 42
+
+
+def inner_datagrams():
+    """Authentic plaintexts cut at each edge, for both sides, with exactly the room or less; others' types
+    and times behind; and the same packet under another nonce."""
+    for code, who in (("OPEN_SERVER", 0), ("OPEN_CLIENT", 1)):
+        steps = begun()
+        for number, length in enumerate(INNER_LENGTHS):
+            steps.append(step("CRAFT_DATAGRAM", who=who * 3, how=CUT | length))
+            steps += [step(code, who=who + 8 * (number % 4), how=how) for how in (ONE_SHORT, 0)]
+        yield steps
+        fixed = 27 + 8 * who
+        steps = begun()
+        for number, length in enumerate((fixed - 1, fixed, fixed + 7)):
+            steps.append(step("PATCH", who=1, place=0, value=9))
+            steps.append(step("CRAFT_DATAGRAM", who=who * 3, how=CUT | length, value=AFTER | 31))
+            steps.append(step(code, who=who + 8 * number, how=MUCH_MORE))
+        yield steps
+        yield begun() + [
+            *(step("CRAFT_DATAGRAM", who=who * 3, place=place) for place in (0, 0, 1)),
+            *(step(code, who=who + 8 * slot) for slot in (0, 1, 2)),
+            *(step(code, fault("INPUT", FLIPPED), who=who, place=n) for n in (0, 15, 16, 23, 24, 31)),
+            *(step("DATAGRAM_SEAL", who=who, how=how) for how in (ONE_SHORT, ONE_MORE)),
+            step(code, who=who + 24),
         ]
 
 
@@ -366,6 +398,13 @@ def chunks():
                 step("SET_WORD", who=12, place=0, value=3),
             )
         ),
+    ]
+    yield [
+        step("SEAL_RESPONSE", length=3),
+        step("OPEN_RESPONSE"),
+        step("OPEN_CHUNK"),
+        step("CRAFT_CHUNK", how=1, length=8, place=0),
+        *[step("OPEN_CHUNK")] * 2,
     ]
     yield [
         step("SEAL_RESPONSE", length=3),
@@ -597,6 +636,7 @@ GROUPS = (
     settings,
     sealed_datagrams,
     refused_datagrams,
+    inner_datagrams,
     windows,
     several,
     repeats,
@@ -625,21 +665,35 @@ def at_starts(each: bytes) -> bytes:
     return bytes([code, fault, who, how | 0xF8 if code < len(FUNCTIONS) else how]) + each[4:]
 
 
-def with_methods(groups, *methods):
-    """Each list of the groups by each of these methods: its number, and the code and who of the
-    first step that set it."""
+def seed(name: str, steps: list[bytes], method: int, code: int, who: int):
+    """A list of steps by a method: its number, and the code and who of the first step that set it."""
+    first = struct.pack("<BBBBHHQ", code, 0, who, 0, 0, 0, CLOCK)
+    yield f"{name}-{method}", first + b"".join(steps)
+    yield f"{name}-{method}-starts", first + b"".join(map(at_starts, steps))
+
+
+def with_methods(groups, methods):
+    """Each list of the groups by each of the methods that there are for its number."""
     for group in groups:
         for number, steps in enumerate(group()):
-            for method, code, who in methods:
-                name = f"{group.__name__}-{number}-{method}"
-                first = struct.pack("<BBBBHHQ", code, 0, who, 0, 0, 0, CLOCK)
-                yield name, first + b"".join(steps)
-                yield f"{name}-starts", first + b"".join(map(at_starts, steps))
+            for method in methods(group, number):
+                yield from seed(f"{group.__name__}-{number}", steps, *method)
+
+
+def sip022_methods(group, number: int):
+    """Both of AES, and one of ChaCha in turn; of what differs by the cipher all three."""
+    ciphers = (inner_datagrams, sealed_datagrams, requests, responses)
+    numbers = (1, 2, 3, 4, 5) if group in ciphers else (1, 2, 3 + number % 3)
+    return [(method, method - 1, 0) for method in numbers]
+
+
+def sip004_methods(group, number: int):
+    return (11, 0, 0), (12, 1, 1), (13, 0, 2)
 
 
 def all_seeds():
-    yield from with_methods(GROUPS, (1, 0, 0), (2, 1, 0))
-    yield from with_methods(SIP004_GROUPS, (11, 0, 0), (12, 1, 1), (13, 0, 2))
+    yield from with_methods(GROUPS, sip022_methods)
+    yield from with_methods(SIP004_GROUPS, sip004_methods)
 
 
 def main() -> None:

@@ -79,7 +79,7 @@ int LLVMFuzzerTestOneInput(const uint8_t *data, size_t size)
     if (size < sizeof step)
         return 0;
     memcpy(&step, data, sizeof step);
-    host_begin(1 + (step.code & 1), 11 + step.who % 3, step.value);
+    host_begin(1 + step.code % 5, 11 + step.who % 3, step.value);
     for (size_t at = sizeof step; at + sizeof step <= size; at += sizeof step) {
         memcpy(&step, data + at, sizeof step);
         does[step.code % STEP_CODES](&step);

@@ -1,2 +1,3 @@
 pub mod HashLaws
 pub mod SubkeyLaws
+pub mod TagLaws

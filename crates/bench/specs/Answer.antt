@@ -1,12 +1,14 @@
 -- The numbers that the exported functions answer.
 use mathlib.Core.Bool.{Bool, true, false, cond, _&&_}
 use mathlib.Core.List.{List}
-use Prim.Native.Nat.{ℕ}
+use Prim.Native.Nat.{ℕ, _-_}
 use lib.Dec.{eqb, leb}
 use lib.ListN.{length}
 use Rattle.octets.specs.Buffers.{put}
 use Rattle.octets.specs.Numbers.{be, toBe}
 use Rattle.ghash.specs.Ghash.{blocks, ghash}
+use Rattle.chacha_poly.specs.Aead as aead
+use Rattle.protocol.specs.Method.{cipherOf}
 use Rattle.protocol.specs.Subkey.{subkey}
 use Rattle.session_record.specs.declared.Peer.{Peer}
 use Rattle.session_book.specs.Call.{Answer, refused, opened}
@@ -51,13 +53,33 @@ subkeyLawful key salt out = leb (length key) 32 && (leb (length salt) 32 && leb 
 unfoldable pub subkeyOut : List ℕ → List ℕ → List ℕ → List ℕ
 subkeyOut key salt out = cond (subkeyLawful key salt out) (put out 0 (subkey key salt)) out
 
--- what is answered to a client's first datagram, without padding, and what is written
-abbrev pub firstDatagram : (method : ℕ) → List ℕ → (id : ℕ) → (address payload out : List ℕ) → Sealed
-firstDatagram method key id address payload out = sealAnswer method (length key) (clientSender id) address 0 (length payload) (length out)
+-- ChaCha and Poly1305: there is room for a tag, and what is written then
+unfoldable pub tagFits : List ℕ → Bool
+tagFits s = leb aead.tagLength (length s)
 
-abbrev pub firstDatagramOut : (method : ℕ) → List ℕ → (id clock : ℕ) → (address payload out : List ℕ) → List ℕ
-firstDatagramOut method key id clock address payload out =
-    sealOut (firstDatagram method key id address payload out) (datagram key (clientSender id) clock address 0 payload) out
+unfoldable pub whereTagFits : (s written : List ℕ) → List ℕ
+whereTagFits s written = cond (tagFits s) written s
+
+-- a sealed text has a tag, and its text has room
+unfoldable pub textFits : (s out : List ℕ) → Bool
+textFits s out = tagFits s && leb (length s - aead.tagLength) (length out)
+
+-- what is answered by that and by the verdict on the tag, and what is written
+unfoldable pub verdictNumber : (fits good : Bool) → ℕ
+verdictNumber fits good = cond fits (cond good 0 2) 1
+
+unfoldable pub verdictOut : (fits good : Bool) → (text out : List ℕ) → List ℕ
+verdictOut fits good text out = cond (fits && good) (put out 0 text) out
+
+-- what is answered to a client's first datagram, without padding, and what is written
+abbrev pub firstDatagram : (method : ℕ) → (key nonce : List ℕ) → (id : ℕ) → (address payload out : List ℕ) → Sealed
+firstDatagram method key nonce id address payload out =
+    sealAnswer method (length key) (length nonce) (clientSender id) address 0 (length payload) (length out)
+
+abbrev pub firstDatagramOut : (method : ℕ) → (key nonce : List ℕ) → (id clock : ℕ) → (address payload out : List ℕ) → List ℕ
+firstDatagramOut method key nonce id clock address payload out =
+    sealOut (firstDatagram method key nonce id address payload out)
+    (datagram (cipherOf method) key nonce (clientSender id) clock address 0 payload) out
 
 -- the length of a sealed datagram, and 0 for a refusal
 abbrev pub sealedNumber : Sealed → ℕ

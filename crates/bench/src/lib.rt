@@ -12,6 +12,7 @@ ghost use mathlib.Core.Path.{_≡_};
 ghost use mathlib.Core.Option.{none};
 ghost use lib.ListN.{length};
 ghost use Rattle.bench.specs.Answer.{answer, number, hashLawful, hashOut, subkeyLawful, subkeyOut};
+ghost use Rattle.bench.specs.Answer.{tagFits, whereTagFits, textFits, verdictNumber, verdictOut};
 ghost use Rattle.bench.specs.Answer.{firstDatagram, firstDatagramOut, sealedNumber, openedNumber, nobody};
 ghost use Rattle.bench.specs.Answer.{subkeyIn, firstChunk, firstChunkOut, chunkNumber, payloadReceiver, steppedNumber};
 ghost use Rattle.datagram_open.specs.Deciding as deciding;
@@ -19,6 +20,11 @@ ghost use Rattle.stream_open.specs.Chunks as chunks;
 ghost use Rattle.gcm.specs.Keyed.{sealLawful, sealed, openAnswer, openOut};
 ghost use Rattle.aes.specs.Keyed.{lawful};
 ghost use Rattle.ctr.specs.Gctr.{aesCtr};
+ghost use Rattle.octets.specs.Buffers.{put};
+ghost use Rattle.chacha.specs.ChaCha.{stream};
+ghost use Rattle.poly1305.specs.Poly1305.{mac};
+ghost use Rattle.chacha_poly.specs.Aead as aead;
+ghost use Rattle.chacha_poly.specs.Extended as extended;
 
 // AES in counter mode, in place: 0, or 1 and nothing written where the key is not of 16, 24 or 32 bytes or the nonce not of
 // 12. Tables are copied and the key is expanded at each call, as for a datagram.
@@ -84,6 +90,120 @@ pub extern "C" fn bench_ghash(h: &[u8], text: &[u8], out: &mut [u8]) -> u32
     0
 }
 
+// The key stream of ChaCha with n double rounds, from a block on, added to a text in place.
+#[no_mangle]
+pub extern "C" fn bench_chacha(n: usize, key: &[u8], counter: u32, nonce: &[u8], text: &mut [u8])
+    ensures { λ _. ⌜ now (text .exit) ≡ stream n (now (key .entry)) counter (now (nonce .entry)) (now (text .entry)) ⌝ }
+{
+    chacha::xor_stream(n, key, counter, nonce, text);
+}
+
+// Poly1305 of a text under a one-time key: 0, or 1 and nothing written where there is no room for 16 bytes.
+#[no_mangle]
+pub extern "C" fn bench_poly1305(key: &[u8], text: &[u8], out: &mut [u8]) -> u32
+    ensures { λ r. ⌜ r ≡ answer (tagFits (now (out .entry))) ⌝ }
+    ensures { λ r. ⌜ now (out .exit)
+        ≡ whereTagFits (now (out .entry)) (put (now (out .entry)) 0 (mac (now (key .entry)) (now (text .entry)))) ⌝ }
+{
+    if out.len() < 16 {
+        return 1;
+    }
+    let tag = poly1305::mac(key, text);
+    octets::copy(out, 0, &tag);
+    0
+}
+
+// ChaCha's sealing in place, with n double rounds and Poly1305; the last 16 bytes are for the tag: 0, or 1 and nothing written
+// where there are fewer.
+#[no_mangle]
+pub extern "C" fn bench_chacha_poly_seal(n: usize, key: &[u8], nonce: &[u8], body: &mut [u8]) -> u32
+    ensures { λ r. ⌜ r ≡ answer (tagFits (now (body .entry))) ⌝ }
+    ensures { λ r. ⌜ now (body .exit) ≡ whereTagFits (now (body .entry))
+        (aead.seal n (now (key .entry)) (now (nonce .entry)) (aead.textOf (now (body .entry)))) ⌝ }
+{
+    if body.len() < 16 {
+        return 1;
+    }
+    chacha_poly::seal_in_place(n, key, nonce, body);
+    0
+}
+
+// The same with a nonce of 24 bytes.
+#[no_mangle]
+pub extern "C" fn bench_chacha_poly_extended_seal(
+    n: usize,
+    key: &[u8],
+    nonce: &[u8],
+    body: &mut [u8],
+) -> u32
+    ensures { λ r. ⌜ r ≡ answer (tagFits (now (body .entry))) ⌝ }
+    ensures { λ r. ⌜ now (body .exit) ≡ whereTagFits (now (body .entry))
+        (extended.extendedSeal n (now (key .entry)) (now (nonce .entry)) (aead.textOf (now (body .entry)))) ⌝ }
+{
+    if body.len() < 16 {
+        return 1;
+    }
+    chacha_poly::seal_extended_in_place(n, key, nonce, body);
+    0
+}
+
+// ChaCha's opening, with n double rounds and Poly1305: 0; 1 where there is no tag or no room for the text, 2 where the tag is
+// wrong, and nothing written.
+#[no_mangle]
+pub extern "C" fn bench_chacha_poly_open(
+    n: usize,
+    key: &[u8],
+    nonce: &[u8],
+    s: &[u8],
+    out: &mut [u8],
+) -> u32
+    ensures { λ r. ⌜ r ≡ verdictNumber (textFits (now (s .entry)) (now (out .entry)))
+        (aead.authentic n (now (key .entry)) (now (nonce .entry)) (now (s .entry))) ⌝ }
+    ensures { λ r. ⌜ now (out .exit) ≡ verdictOut (textFits (now (s .entry)) (now (out .entry)))
+        (aead.authentic n (now (key .entry)) (now (nonce .entry)) (now (s .entry)))
+        (aead.opened n (now (key .entry)) (now (nonce .entry)) (now (s .entry))) (now (out .entry)) ⌝ }
+{
+    if s.len() < 16 {
+        return 1;
+    }
+    if out.len() < s.len() - 16 {
+        return 1;
+    }
+    if chacha_poly::open(n, key, nonce, s, out) {
+        0
+    } else {
+        2
+    }
+}
+
+// The same with a nonce of 24 bytes.
+#[no_mangle]
+pub extern "C" fn bench_chacha_poly_extended_open(
+    n: usize,
+    key: &[u8],
+    nonce: &[u8],
+    s: &[u8],
+    out: &mut [u8],
+) -> u32
+    ensures { λ r. ⌜ r ≡ verdictNumber (textFits (now (s .entry)) (now (out .entry)))
+        (extended.extendedAuthentic n (now (key .entry)) (now (nonce .entry)) (now (s .entry))) ⌝ }
+    ensures { λ r. ⌜ now (out .exit) ≡ verdictOut (textFits (now (s .entry)) (now (out .entry)))
+        (extended.extendedAuthentic n (now (key .entry)) (now (nonce .entry)) (now (s .entry)))
+        (extended.extendedOpened n (now (key .entry)) (now (nonce .entry)) (now (s .entry))) (now (out .entry)) ⌝ }
+{
+    if s.len() < 16 {
+        return 1;
+    }
+    if out.len() < s.len() - 16 {
+        return 1;
+    }
+    if chacha_poly::open_extended(n, key, nonce, s, out) {
+        0
+    } else {
+        2
+    }
+}
+
 // The subkey of a key and a salt, of 32 bytes at most each, to the front of the lent buffer: 0, or 1 and nothing written
 // where one is longer or there is no room for 32 bytes.
 #[no_mangle]
@@ -109,6 +229,7 @@ pub extern "C" fn bench_subkey(key: &[u8], salt: &[u8], out: &mut [u8]) -> u32
 pub extern "C" fn bench_datagram_seal(
     method: u64,
     key: &[u8],
+    nonce: &[u8],
     id: u64,
     clock: u64,
     address: &[u8],
@@ -116,14 +237,16 @@ pub extern "C" fn bench_datagram_seal(
     out: &mut [u8],
 ) -> usize
     ensures { λ r. ⌜ r ≡ sealedNumber
-        (firstDatagram method (now (key .entry)) id (now (address .entry)) (now (payload .entry)) (now (out .entry))) ⌝ }
+        (firstDatagram method (now (key .entry)) (now (nonce .entry)) id (now (address .entry)) (now (payload .entry))
+        (now (out .entry))) ⌝ }
     ensures { λ r. ⌜ now (out .exit)
-        ≡ firstDatagramOut method (now (key .entry)) id clock (now (address .entry)) (now (payload .entry))
+        ≡ firstDatagramOut method (now (key .entry)) (now (nonce .entry)) id clock (now (address .entry)) (now (payload .entry))
         (now (out .entry)) ⌝ }
 {
     let done = datagram_seal::seal(
         method,
         key,
+        nonce,
         Sender::client(id),
         clock,
         address,

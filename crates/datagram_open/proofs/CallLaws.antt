@@ -14,16 +14,19 @@ use Rattle.session_table.specs.declared.Admitted.{Admitted}
 use Rattle.session_table.specs.Table.{lawful, Entry, stores, replay, full, meet, keep, admitted}
 use Rattle.session_book.specs.Call.{Call, Decision, early, reaches, refused, onto}
 use Rattle.session_book.specs.Runs.{report, tableOutcomeBy, tableNextBy}
+use Rattle.protocol.specs.Method.{cipherOf}
 use Rattle.protocol.specs.declared.Refusal.{Refusal}
 use Rattle.protocol.specs.Refusal.{refusalNumber}
 use Rattle.datagram_parts.specs.declared.Side.{Side}
 use Rattle.datagram_parts.specs.declared.Side.the-variants.{Client, Server}
+use Rattle.datagram_parts.specs.Parts.{overhead}
 use Rattle.datagram_read.specs.declared.Header.{Header}
 use Rattle.datagram_read.specs.declared.Opened.{Opened}
 use Rattle.datagram_read.specs.declared.Opened.the-variants.{Datagram, Refused}
-use Rattle.datagram_read.specs.Opening.{readAnswer, settled, readOut}
-use Rattle.datagram_open.specs.Deciding.{expected, openerOf, plainOf, decidedBy, decide, answerOf, callOf, admittedAs, entered, openAnswer, openOut, openTable}
-use Rattle.datagram_read.proofs.ReadLaws.{answer-tells, opens-room, opened-out, length-plain}
+use Rattle.datagram_read.specs.Opening.{plainOf, readAnswer, settled, readOut}
+use Rattle.datagram_open.specs.Deciding.{expected, openerOf, decidedBy, decide, answerOf, callOf, admittedAs, entered, openAnswer, openOut, openTable}
+use Rattle.datagram_read.proofs.OpeningLaws.{length-plain}
+use Rattle.datagram_read.proofs.ReadLaws.{answer-tells, opens-room, opened-out}
 
 -- what was found
 pub as-law : (h : Header) (m n : Admitted) → m ≡ n → admittedAs h n ≡ admittedAs h m
@@ -65,10 +68,13 @@ module _ (method : ℕ) (key : List ℕ) (side : Side) (clock : ℕ) (peer : Pee
   abbrev answer : Opened
   answer = readAnswer method key side clock s out
 
-  decided : decide method key call ≡ decidedBy answer (readOut method key side clock s out) (plainOf key s)
+  abbrev plain : List ℕ
+  plain = plainOf (cipherOf method) key s
+
+  decided : decide method key call ≡ decidedBy answer (readOut method key side clock s out) plain
   unfolding decide
   decided =
-      ap (λ (x : Side). decidedBy (readAnswer method key x clock s out) (readOut method key x clock s out) (plainOf key s)) (expected-opener side)
+      ap (λ (x : Side). decidedBy (readAnswer method key x clock s out) (readOut method key x clock s out) plain) (expected-opener side)
 
   -- a call on a lawful table
   step : lawful t ≡ true → (d : Decision Header) → decide method key call ≡ d
@@ -104,23 +110,25 @@ module _ (method : ℕ) (key : List ℕ) (side : Side) (clock : ℕ) (peer : Pee
     refused-call a ea r er =
         let q =
         step l (early (refusalNumber r) (readOut method key side clock s out))
-        (decided ∙ ap (λ (x : Opened). decidedBy x (readOut method key side clock s out) (plainOf key s)) (sym ea ∙ er)) in
+        (decided ∙ ap (λ (x : Opened). decidedBy x (readOut method key side clock s out) plain) (sym ea ∙ er)) in
         (ap answerOf er ∙ q .0, (eo ∙ q .1 .0, q .1 .1))
 
     -- taken to its session
-    pub entered-call : (h : Header) → answer ≡ Datagram h → (u w : List ℕ) → u ≡ settled (entered h t clock peer) (length s - 32) o
+    pub entered-call : (h : Header) → answer ≡ Datagram h → (f : ℕ) → f ≡ overhead (cipherOf method) → (u w : List ℕ)
+        → u ≡ settled (entered h t clock peer) (length s - f) o
         → w ≡ keep (meet t clock peer (h .session) (h .packet)) t
         → (answerOf (entered h t clock peer) ≡ openAnswer method key (openerOf side) clock peer s t out)
         × ((u ≡ openOut method key (openerOf side) clock peer s t out) × (w ≡ openTable method key (openerOf side) clock peer s t out))
     unfolding entered
-    entered-call h eh u w eu ew =
+    entered-call h eh f ef u w eu ew =
         let d = answer-tells method key side clock s out h eh in
-        let plain = plainOf key s in
-        let lp = length-plain method key side clock s out in
+        let due = length s - overhead (cipherOf method) in
+        let lp = length-plain (cipherOf method) key s in
+        let eu = eu ∙ ap (λ (n : ℕ). settled (entered h t clock peer) (length s - n) o) ef in
         let room = opens-room method key side clock s out h d in
         let written : o ≡ put out 0 plain = eo ∙ opened-out method key side clock s out h d in
         let q =
         step l (reaches (h .session) (h .packet) h plain)
         (decided ∙ ap (λ (x : Opened). decidedBy x (readOut method key side clock s out) plain) eh) in
-        let m = met h call (length s - 32) plain lp room (meet t clock peer (h .session) (h .packet)) in
-        (m .0 ∙ q .0, (eu ∙ ap (settled (entered h t clock peer) (length s - 32)) written ∙ m .1 ∙ q .1 .0, ew ∙ q .1 .1))
+        let m = met h call due plain lp room (meet t clock peer (h .session) (h .packet)) in
+        (m .0 ∙ q .0, (eu ∙ ap (settled (entered h t clock peer) due) written ∙ m .1 ∙ q .1 .0, ew ∙ q .1 .1))

@@ -1,36 +1,35 @@
 -- Opening as a call on the session table: what the arguments of a call decide for a method and a key, which session a datagram
 -- names, and the answer, the buffer and the table that a call leaves.
-use mathlib.Core.Bool.{cond, _&&_}
+use mathlib.Core.Bool.{Bool, cond, _&&_}
 use mathlib.Core.List.{List}
 use mathlib.Core.Option.{Option, none, some}
-use Prim.Native.Nat.{ℕ}
+use Prim.Native.Nat.{ℕ, _+_}
 use lib.Dec.{leb}
-use lib.ListN.{length, drop}
+use lib.ListN.{length}
 use Rattle.session_record.specs.declared.Peer.{Peer}
 use Rattle.session_table.specs.declared.Admitted.{Admitted}
 use Rattle.session_table.specs.declared.Admitted.the-variants.{Accepted, Replay, Full}
 use Rattle.session_table.specs.Table.{meet, admitted}
 use Rattle.session_book.specs.Call.{Call, Answer, refused, opened, Decision, early, reaches}
 use Rattle.session_book.specs.Runs.{tableOutcome, tableNext}
-use Rattle.protocol.specs.Method.{keyFits}
+use Rattle.protocol.specs.declared.Cipher.{Cipher}
+use Rattle.protocol.specs.declared.Cipher.the-variants.{AesGcm, ChaChaPoly}
+use Rattle.protocol.specs.Method.{keyFits, cipherOf}
 use Rattle.protocol.specs.declared.Refusal.the-variants.{Replay as RefusedReplay, Full as RefusedFull}
 use Rattle.protocol.specs.Refusal.{refusalNumber}
 use Rattle.datagram_parts.specs.declared.Side.{Side}
 use Rattle.datagram_parts.specs.declared.Side.the-variants.{Client, Server}
 use Rattle.datagram_parts.specs.Headers.{separateLength}
+use Rattle.datagram_parts.specs.Parts.{overhead}
 use Rattle.datagram_read.specs.declared.Header.{Header}
 use Rattle.datagram_read.specs.declared.Opened.{Opened}
 use Rattle.datagram_read.specs.declared.Opened.the-variants.{Datagram, Refused}
-use Rattle.datagram_read.specs.Opening.{sessionOf, packetOf, bodyText, readAnswer, readOut}
+use Rattle.datagram_read.specs.Opening.{datagramAuthentic, plainOf, sessionOf, readAnswer, readOut}
 
 -- whose datagram a call expects: a server's call has no client session ID, and opens clients' datagrams
 abbrev pub expected : Option ℕ → Side
 expected none = Client
 expected (some client) = Server client
-
--- the plaintext of a datagram
-abbrev pub plainOf : List ℕ → List ℕ → List ℕ
-plainOf key s = bodyText key (sessionOf key s) (packetOf key s) (drop separateLength s)
 
 -- the client session ID that the opener of a side's datagrams brings
 abbrev pub openerOf : Side → Option ℕ
@@ -41,15 +40,23 @@ abbrev pub decidedBy : Opened → List ℕ → List ℕ → Decision Header
 decidedBy (Datagram h) out plain = reaches (h .session) (h .packet) h plain
 decidedBy (Refused r) out plain = early (refusalNumber r) out
 
+-- whether a datagram names a session: with AES by its first 16 bytes, whatever stands behind them; with ChaCha the ID is sealed, so
+-- that the datagram has to be authentic, with a plaintext of 8 bytes or more
+abbrev pub names : Cipher → List ℕ → List ℕ → Bool
+names AesGcm key s = leb separateLength (length s)
+names (ChaChaPoly n) key s = leb (overhead (ChaChaPoly n) + 8) (length s) && datagramAuthentic (ChaChaPoly n) key s
+
 module _ (method : ℕ) (key : List ℕ) where
   unfoldable pub decide : Call → Decision Header
   decide c =
       decidedBy (readAnswer method key (expected (c .client)) (c .clock) (c .datagram) (c .output))
-      (readOut method key (expected (c .client)) (c .clock) (c .datagram) (c .output)) (plainOf key (c .datagram))
+      (readOut method key (expected (c .client)) (c .clock) (c .datagram) (c .output)) (plainOf (cipherOf method) key (c .datagram))
 
-  -- the session that a datagram of 16 bytes or more names; none where the method or the key gives refusal 1
+  -- the session that a datagram names, whether it is accepted or not; none where the method or the key gives refusal 1
   unfoldable pub belongs : Call → Option ℕ
-  belongs c = cond (keyFits method (length key) && leb separateLength (length (c .datagram))) (some (sessionOf key (c .datagram))) none
+  belongs c =
+      cond (keyFits method (length key) && names (cipherOf method) key (c .datagram)) (some (sessionOf (cipherOf method) key (c .datagram)))
+      none
 
 -- ---- a call of the code
 

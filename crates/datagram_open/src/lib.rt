@@ -1,6 +1,6 @@
-// Opening datagrams of SIP022, section 3.2: takes what was read to its session.
-use datagram_parts::OVERHEAD;
+// Opening datagrams of SIP022, sections 3.2 and 4: takes what was read to its session.
 use datagram_parts::Side;
+use datagram_parts::overhead;
 pub use datagram_read::Header;
 pub use datagram_read::Opened;
 use datagram_read::clear_refused;
@@ -73,14 +73,10 @@ fn open(
         let read = read_datagram(method, key, side, clock, s, out);
         return match read {
             Opened::Refused(_) => read,
-            Opened::Datagram(header) => take_to_session(
-                header,
-                clock,
-                peer,
-                s.len() - OVERHEAD,
-                table,
-                out,
-            ),
+            Opened::Datagram(header) => {
+                let due = s.len() - overhead(protocol::cipher_of(method));
+                take_to_session(header, clock, peer, due, table, out)
+            }
         };
     }
     Opened::Refused(Refusal::Settings)

@@ -1,45 +1,66 @@
--- What a datagram has besides main header, padding, address and payload, by its method.
+-- What a datagram has besides main header, padding, address and payload, by its cipher and its method.
 -- Assumes nothing.
-use mathlib.Core.Path.{_≡_, refl, sym}
+use mathlib.Core.Path.{_≡_, refl, sym, ap, _∙_, subst}
 use mathlib.Core.Bool.{Bool, true, false, cond}
-use Prim.Native.Nat.{ℕ, _+_, _≤_, _<_}
+use Prim.Native.Nat.{ℕ, _≤_}
 use native.Mathlib.Omega.{arith}
-use lib.Dec.{eqb, leb}
-use borrow.Author.Tests.{eq-eqb, ne-eqb, le-leb, lt-leb, eqb-true, eqb-false, leb-true, leb-false}
-use Rattle.datagram_parts.specs.Parts.{overhead, nonceLength, overheadOf}
+use lib.Dec.{eqb}
+use borrow.Author.Tests.{eqb-true, eqb-false}
+use Rattle.protocol.specs.declared.Cipher.{Cipher}
+use Rattle.protocol.specs.declared.Cipher.the-variants.{AesGcm, ChaChaPoly}
+use Rattle.protocol.specs.declared.Numbered.{Numbered}
+use Rattle.protocol.specs.declared.Numbered.the-variants.{Known, Unknown}
+use Rattle.protocol.specs.Method.{aes128, aes256, chacha20, chacha12, chacha8, methodOf, cipherIn, cipherOf}
+use Rattle.datagram_parts.specs.Headers.{mainStart}
+use Rattle.datagram_parts.specs.Parts.{leadLength, packetOverhead, overheadIn, overheadOf}
 
-module _ (method : ℕ) where
-  decided : (a b c : Bool) → eqb method 0 ≡ a → leb method 2 ≡ b → leb method 5 ≡ c
-      → cond a 0 (cond b overhead (cond c (nonceLength + overhead) 0)) ≡ overheadOf method
-  unfolding overheadOf
-  decided a b c ea eb ec = λ i. cond (sym ea i) 0 (cond (sym eb i) overhead (cond (sym ec i) (nonceLength + overhead) 0))
+-- ---- by the cipher
 
-  pub overhead-none : method ≡ 0 → 0 ≡ overheadOf method
-  overhead-none e = decided true (leb method 2) (leb method 5) (eq-eqb method 0 e) refl refl
+pub lead-least : (c : Cipher) → 16 ≤ leadLength c
+lead-least AesGcm = omega arith
+lead-least (ChaChaPoly n) = omega arith
 
-  pub overhead-plain : (method ≡ 0 → ⊥) → method ≤ 2 → overhead ≡ overheadOf method
-  overhead-plain f l = decided false true (leb method 5) (ne-eqb method 0 f) (le-leb method 2 l) refl
+pub lead-most : (c : Cipher) → leadLength c ≤ 24
+lead-most AesGcm = omega arith
+lead-most (ChaChaPoly n) = omega arith
 
-  pub overhead-extended : 2 < method → method ≤ 5 → nonceLength + overhead ≡ overheadOf method
-  overhead-extended l m = decided false false true (ne-eqb method 0 (λ e. omega arith)) (lt-leb method 2 l) (le-leb method 5 m)
+pub start-most : (c : Cipher) → mainStart c ≤ 16
+start-most AesGcm = omega arith
+start-most (ChaChaPoly n) = omega arith
 
-  pub overhead-beyond : 5 < method → 0 ≡ overheadOf method
-  overhead-beyond l = decided false false false (ne-eqb method 0 (λ e. omega arith)) (lt-leb method 2 (omega arith)) (lt-leb method 5 l)
+-- ---- by the method
 
-  -- ---- what it tells of the method
+-- the method that was found, and what it is
+pub overhead-law : (method : ℕ) (p q : Numbered) → p ≡ methodOf method → p ≡ q → overheadIn q ≡ overheadOf method
+unfolding overheadOf
+overhead-law method p q e f = ap overheadIn (sym f ∙ e)
 
-  -- every method has what methods 1 and 2 have
-  pub overhead-some : 1 ≤ method → method ≤ 5 → overhead ≤ overheadOf method
-  overhead-some l m = go (leb method 2) refl
+-- where there is a method, it is what its cipher has
+pub overhead-cipher : (method : ℕ) → (overheadOf method ≡ 0 → ⊥) → overheadOf method ≡ packetOverhead (cipherOf method)
+unfolding overheadOf cipherOf
+overhead-cipher method = go (methodOf method)
+  where
+    go : (n : Numbered) → (overheadIn n ≡ 0 → ⊥) → overheadIn n ≡ packetOverhead (cipherIn n)
+    go (Known m) f = refl
+    go Unknown f = absurd (f refl)
+
+-- what holds of the five methods with their numbers, and of every other number with none
+module _ (P : ℕ → Numbered → Type 0) (one : P 1 (Known aes128)) (two : P 2 (Known aes256)) (three : P 3 (Known chacha20))
+    (four : P 4 (Known chacha12)) (five : P 5 (Known chacha8)) (none : (n : ℕ) → (1 ≤ n → n ≤ 5 → ⊥) → P n Unknown) where
+  pub by-number : (n : ℕ) → P n (methodOf n)
+  unfolding methodOf
+  by-number n = go (eqb n 1) (eqb n 2) (eqb n 3) (eqb n 4) (eqb n 5) refl refl refl refl refl
     where
-      go : (b : Bool) → leb method 2 ≡ b → overhead ≤ overheadOf method
-      go true e = let o = overhead-plain (λ z. omega arith) (leb-true method 2 e) in omega arith
-      go false e = let o = overhead-extended (leb-false method 2 e) m in omega arith
+      found : (k : ℕ) → eqb n k ≡ true → (m : Numbered) → P k m → P n m
+      found k e m p = subst (λ (x : ℕ). P x m) (sym (eqb-true n k e)) p
 
-  pub overhead-tells : (overheadOf method ≡ 0 → ⊥) → (1 ≤ method) × (method ≤ 5)
-  overhead-tells f = go (eqb method 0) (leb method 5) refl refl
-    where
-      go : (a b : Bool) → eqb method 0 ≡ a → leb method 5 ≡ b → (1 ≤ method) × (method ≤ 5)
-      go true b ea eb = absurd (f (sym (overhead-none (eqb-true method 0 ea))))
-      go false true ea eb = let n = eqb-false method 0 ea in (omega arith, leb-true method 5 eb)
-      go false false ea eb = absurd (f (sym (overhead-beyond (leb-false method 5 eb))))
+      go : (a b c d f : Bool) → eqb n 1 ≡ a → eqb n 2 ≡ b → eqb n 3 ≡ c → eqb n 4 ≡ d → eqb n 5 ≡ f
+          → P n
+          (cond a (Known aes128) (cond b (Known aes256) (cond c (Known chacha20) (cond d (Known chacha12) (cond f (Known chacha8) Unknown)))))
+      go true b c d f ea eb ec ed ef = found 1 ea _ one
+      go false true c d f ea eb ec ed ef = found 2 eb _ two
+      go false false true d f ea eb ec ed ef = found 3 ec _ three
+      go false false false true f ea eb ec ed ef = found 4 ed _ four
+      go false false false false true ea eb ec ed ef = found 5 ef _ five
+      go false false false false false ea eb ec ed ef =
+          none n (λ l u. absurd (omega (arith, eqb-false n 1 ea, eqb-false n 2 eb, eqb-false n 3 ec, eqb-false n 4 ed, eqb-false n 5 ef)))

@@ -1,13 +1,13 @@
 -- What the writers leave, step by step, is the part of a datagram that they write.
 -- Assumes nothing.
 use mathlib.Core.Path.{_≡_, refl, sym, ap, ap₂, _∙_}
-use mathlib.Core.List.{List, [], _∷_, _++_, append-assoc}
+use mathlib.Core.List.{List, [], _∷_, _++_, append-assoc, append-nil}
 use Prim.Native.Nat.{ℕ, _+_, _-_, _≤_, _<_}
 use native.Mathlib.Omega.{arith}
-use lib.ListN.{length, set, replicate, length-append, length-replicate, take, drop, length-drop}
+use lib.ListN.{length, set, replicate, length-append, length-replicate, take, drop, length-drop, drop-of-length-le}
 use Rattle.octets.specs.Buffers.{put}
 use Rattle.octets.specs.Numbers.{toBe}
-use Rattle.octets.proofs.BufferLaws.{put-behind, put-one, put-whole, part-put, take-put, drop-put}
+use Rattle.octets.proofs.BufferLaws.{put-behind, put-one, put-whole, part-put, take-put, drop-put, rest}
 use Rattle.octets.proofs.NumberLaws.{length-toBe}
 use Rattle.aes.specs.KeyExpansion.{aes}
 use Rattle.aes.specs.Keyed.{nkOf, inPlace}
@@ -15,27 +15,63 @@ use Rattle.aes.proofs.BlockLaws.{length-aes}
 use Rattle.aes.proofs.KeyedLaws.{in-place-lawful}
 use Rattle.gcm.specs.Gcm.{textOf}
 use Rattle.gcm.specs.Keyed.{maxText, sealedInPlace}
-use Rattle.gcm.proofs.GcmLaws.{text-put}
 use Rattle.gcm.proofs.KeyedLaws.{in-place-seals}
+use Rattle.chacha_poly.specs.Aead.{textOf as chachaText}
+use Rattle.chacha_poly.specs.Extended.{extendedSeal}
+use Rattle.protocol.specs.declared.Cipher.{Cipher}
+use Rattle.protocol.specs.declared.Cipher.the-variants.{AesGcm, ChaChaPoly}
 use Rattle.protocol.specs.Subkey.{subkey}
 use Rattle.datagram_parts.specs.declared.Side.{Side}
 use Rattle.datagram_parts.specs.declared.Side.the-variants.{Client, Server}
-use Rattle.datagram_parts.specs.Headers.{separateHeader, fixedPart, fixedLength, plaintext}
-use Rattle.datagram_parts.specs.Parts.{maxDatagram, sealUnder}
-use Rattle.datagram_parts.proofs.LengthLaws.{length-fixedPart}
-use Rattle.datagram_parts.proofs.SubkeyLaws.{length-subkey}
+use Rattle.datagram_parts.specs.Headers.{separateHeader, fixedPart, fixedLength, plaintext, innerIds, mainStart, sealedText}
+use Rattle.datagram_parts.specs.Parts.{maxDatagram, nonceLength, leadLength, separateBlock, sealUnder, sealBody, datagramBy}
+use Rattle.datagram_parts.proofs.LengthLaws.{length-separateHeader, length-separateBlock, length-fixedPart, length-innerIds}
+use Rattle.datagram_parts.proofs.SubkeyLaws.{length-subkey, under-header}
 
--- ---- the separate header
+-- ---- a string at the front of a buffer, and what becomes of the part behind it that is lent
 
-pub header-law : (d v w : List ℕ) (id packet : ℕ) → length d ≡ 16 → v ≡ put d 0 (toBe 8 id) → w ≡ put v 8 (toBe 8 packet)
-    → w ≡ separateHeader id packet
+module _ (d s v : List ℕ) (k : ℕ) (size : length s ≡ k) (fits : k ≤ length d) (ev : v ≡ put d 0 s) where
+  ends : k ≡ 0 + length s
+  ends = omega arith
+
+  inside : 0 + length s ≤ length d
+  inside = omega arith
+
+  -- nothing is behind the part
+  whole-part : (b : List ℕ) → take k v ++ (b ++ drop (length v - k) (drop k v)) ≡ take k v ++ b
+  whole-part b =
+      let e : length (drop k v) ≤ length v - k = omega (arith, length-drop k v) in
+      ap (λ (x : List ℕ). take k v ++ (b ++ x)) (drop-of-length-le (drop k v) e) ∙ ap (λ (x : List ℕ). take k v ++ x) (append-nil b)
+
+  pub lent-part : take (length v - k) (drop k v) ≡ drop k d
+  lent-part = rest v k ∙ (λ i. drop (ends i) (ev i)) ∙ drop-put d 0 s inside ∙ ap (λ (n : ℕ). drop n d) (sym ends)
+
+  -- it is filled
+  pub filled-behind : (b : List ℕ) → take k v ++ (b ++ drop (length v - k) (drop k v)) ≡ s ++ b
+  filled-behind b = whole-part b ∙ ap (λ (x : List ℕ). x ++ b) ((λ i. take (ends i) (ev i)) ∙ take-put d 0 s inside)
+
+  -- or a string is put to its front
+  pub front-behind : (t b : List ℕ) → b ≡ put (take (length v - k) (drop k v)) 0 t
+      → take k v ++ (b ++ drop (length v - k) (drop k v)) ≡ put d 0 (s ++ t)
+  unfolding put
+  front-behind t b eb =
+      let n : length t ≡ 0 + length t = omega arith in
+      whole-part b ∙ ap (λ (x : List ℕ). take k v ++ x) (eb ∙ ap (λ (x : List ℕ). t ++ drop (0 + length t) x) (rest v k))
+      ∙ part-put v t k (0 + length t) n ∙ put-behind d s t v (put v k t) 0 k ends inside ev refl
+
+-- ---- session ID and packet ID
+
+pub ids-law : (d v w : List ℕ) (id packet : ℕ) → 16 ≤ length d → v ≡ put d 0 (toBe 8 id) → w ≡ put v 8 (toBe 8 packet)
+    → w ≡ put d 0 (separateHeader id packet)
 unfolding separateHeader
-header-law d v w id packet l ev ew =
+ids-law d v w id packet l ev ew =
     let i = length-toBe 8 id in
     let n : 8 ≡ 0 + length (toBe 8 id) = omega (arith, i) in
-    let whole : length d ≤ length (toBe 8 id ++ toBe 8 packet) =
-    omega (arith, l, length-append (toBe 8 id) (toBe 8 packet), i, length-toBe 8 packet) in
-    put-behind d (toBe 8 id) (toBe 8 packet) v w 0 8 n (omega (arith, l, i)) ev ew ∙ put-whole d (toBe 8 id ++ toBe 8 packet) whole
+    put-behind d (toBe 8 id) (toBe 8 packet) v w 0 8 n (omega (arith, l, i)) ev ew
+
+-- in a buffer that they fill
+pub header-law : (d w : List ℕ) (id packet : ℕ) → length d ≡ 16 → w ≡ put d 0 (separateHeader id packet) → w ≡ separateHeader id packet
+header-law d w id packet l ew = ew ∙ put-whole d (separateHeader id packet) (omega (arith, l, length-separateHeader id packet))
 
 -- copied to the front of a buffer and encrypted there
 pub block-law : (key d h v b : List ℕ) → 0 < nkOf (length key) → 16 ≤ length d → length h ≡ 16 → v ≡ put d 0 h → b ≡ inPlace aes key (take 16 v)
@@ -101,6 +137,16 @@ module _ (d : List ℕ) (side : Side) (clock padding : ℕ) (address payload : L
       ew
       ∙ ap (put d 0) (append-assoc (f ++ z) address payload ∙ append-assoc f z (address ++ payload))
 
+-- all that is sealed
+pub text-law : (cipher : Cipher) (id packet : ℕ) (side : Side) (clock padding : ℕ) (address payload d v b : List ℕ) (k : ℕ) → k ≡ mainStart cipher
+    → mainStart cipher ≤ length d → v ≡ put d 0 (innerIds cipher id packet)
+    → b ≡ put (take (length v - k) (drop k v)) 0 (plaintext side clock padding address payload)
+    → take k v ++ (b ++ drop (length v - k) (drop k v)) ≡ put d 0 (sealedText cipher id packet side clock padding address payload)
+unfolding sealedText
+text-law cipher id packet side clock padding address payload d v b k ek h ev eb =
+    front-behind d (innerIds cipher id packet) v k (length-innerIds cipher id packet ∙ sym ek) (omega arith) ev
+    (plaintext side clock padding address payload) b eb
+
 -- ---- the body
 
 pub body-law : (key body h sub n r : List ℕ) → 0 < nkOf (length key) → 16 ≤ length body → length body ≤ maxDatagram → length h ≡ 16
@@ -112,6 +158,42 @@ body-law key body h sub n r k least most lh es en er =
     let m : length (drop 4 h) ≡ 12 = omega (arith, length-drop 4 h, lh) in
     er ∙ ap₂ (λ (x y : List ℕ). sealedInPlace x y body) es en ∙ in-place-seals (subkey key (take 8 h)) (drop 4 h) body l m least long
 
-pub sealed-law : (key h body o r p : List ℕ) → length body ≡ length p + 16 → o ≡ put body 0 p → r ≡ sealUnder key h (textOf o)
-    → r ≡ sealUnder key h p
-sealed-law key h body o r p l eo er = er ∙ ap (sealUnder key h) (text-put body p o l eo)
+-- ---- the datagram
+
+pub aes-law : (key d h v b : List ℕ) (id packet : ℕ) → 16 ≤ length d → h ≡ separateHeader id packet → v ≡ put d 0 (aes (nkOf (length key)) key h)
+    → b ≡ sealUnder key h (textOf (take (length v - 16) (drop 16 v)))
+    → take 16 v ++ (b ++ drop (length v - 16) (drop 16 v)) ≡ separateBlock key id packet ++ sealBody key id packet (textOf (drop 16 d))
+unfolding separateBlock
+aes-law key d h v b id packet l eh ev eb =
+    let s = separateBlock key id packet in
+    let n = length-separateBlock key id packet in
+    let e : v ≡ put d 0 s = ev ∙ ap (λ (x : List ℕ). put d 0 (aes (nkOf (length key)) key x)) eh in
+    filled-behind d s v 16 n l e b
+    ∙ ap (λ (x : List ℕ). s ++ x)
+    (eb ∙ ap (λ (x : List ℕ). sealUnder key h (textOf x)) (lent-part d s v 16 n l e) ∙ under-header h id packet eh key (textOf (drop 16 d)))
+
+-- the two ciphers' texts before a tag are one
+same-text : (s : List ℕ) → chachaText s ≡ textOf s
+unfolding chachaText textOf
+same-text s = refl
+
+pub chacha-law : (n : ℕ) (key nonce d v b : List ℕ) → nonceLength ≤ length d → length nonce ≡ nonceLength → v ≡ put d 0 nonce
+    → b ≡ extendedSeal n key nonce (chachaText (take (length v - nonceLength) (drop nonceLength v)))
+    → take nonceLength v ++ (b ++ drop (length v - nonceLength) (drop nonceLength v)) ≡ nonce ++ extendedSeal n key nonce (textOf (drop nonceLength d))
+chacha-law n key nonce d v b l size ev eb =
+    filled-behind d nonce v nonceLength size l ev b
+    ∙ ap (λ (x : List ℕ). nonce ++ x)
+    (eb ∙ ap (extendedSeal n key nonce) (ap chachaText (lent-part d nonce v nonceLength size l ev) ∙ same-text (drop nonceLength d)))
+
+-- the cipher that was found
+module _ (key nonce : List ℕ) (id packet : ℕ) (d r : List ℕ) (cipher : Cipher) where
+  abbrev made : Cipher → List ℕ
+  made c = datagramBy c key nonce id packet (textOf (drop (leadLength c) d))
+
+  pub with-aes : cipher ≡ AesGcm → r ≡ separateBlock key id packet ++ sealBody key id packet (textOf (drop 16 d)) → r ≡ made cipher
+  unfolding datagramBy
+  with-aes e er = er ∙ ap made (sym e)
+
+  pub with-chacha : (n : ℕ) → cipher ≡ ChaChaPoly n → r ≡ nonce ++ extendedSeal n key nonce (textOf (drop nonceLength d)) → r ≡ made cipher
+  unfolding datagramBy
+  with-chacha n e er = er ∙ ap made (sym e)

@@ -1,8 +1,10 @@
--- SIP022, section 3.2: the two headers of a datagram in the clear. An ID is the number of its 8 bytes, big-endian.
+-- SIP022, sections 3.2 and 4: the headers of a datagram in the clear. An ID is the number of its 8 bytes, big-endian.
 use mathlib.Core.List.{List, [], _∷_, _++_}
 use Prim.Native.Nat.{ℕ, _+_}
-use lib.ListN.{length, drop, replicate}
+use lib.ListN.{drop, replicate}
 use Rattle.octets.specs.Numbers.{toBe}
+use Rattle.protocol.specs.declared.Cipher.{Cipher}
+use Rattle.protocol.specs.declared.Cipher.the-variants.{AesGcm, ChaChaPoly}
 use Rattle.datagram_parts.specs.declared.Side.{Side}
 use Rattle.datagram_parts.specs.declared.Side.the-variants.{Client, Server}
 
@@ -42,6 +44,20 @@ abbrev pub fixedLength : Side → ℕ
 fixedLength Client = clientFixed
 fixedLength (Server client) = serverFixed
 
--- the body: the main header with its padding of zeros and its address, and the payload
+-- the main header with its padding of zeros and its address, and the payload
 unfoldable pub plaintext : Side → ℕ → ℕ → List ℕ → List ℕ → List ℕ
 plaintext side time padding address payload = fixedPart side time padding ++ (replicate padding 0 ++ (address ++ payload))
+
+-- with ChaCha there is no separate header: session ID and packet ID stand in front of the main header
+abbrev pub innerIds : Cipher → ℕ → ℕ → List ℕ
+innerIds AesGcm id packet = []
+innerIds (ChaChaPoly n) id packet = separateHeader id packet
+
+-- so the main header starts there
+abbrev pub mainStart : Cipher → ℕ
+mainStart AesGcm = 0
+mainStart (ChaChaPoly n) = separateLength
+
+-- all that is sealed
+unfoldable pub sealedText : Cipher → ℕ → ℕ → Side → ℕ → ℕ → List ℕ → List ℕ → List ℕ
+sealedText cipher id packet side time padding address payload = innerIds cipher id packet ++ plaintext side time padding address payload

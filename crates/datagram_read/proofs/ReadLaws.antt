@@ -6,26 +6,26 @@ use mathlib.Core.List.{List}
 use Prim.Native.Nat.{ℕ, _+_, _-_, _≤_}
 use native.Mathlib.Omega.{arith}
 use lib.Dec.{eqb, leb}
-use lib.ListN.{length, getD, drop, replicate, length-drop, length-replicate}
+use lib.ListN.{length, getD, replicate, length-replicate}
 use borrow.Author.Tests.{leb-true}
 use Rattle.octets.specs.Buffers.{put}
 use Rattle.octets.proofs.BufferLaws.{put-again}
-use Rattle.gcm.specs.Keyed.{ciphOf}
-use Rattle.gcm.proofs.GcmLaws.{length-opened}
-use Rattle.protocol.specs.Method.{keyFits}
+use Rattle.protocol.specs.declared.Cipher.{Cipher}
+use Rattle.protocol.specs.Method.{keyFits, cipherOf}
 use Rattle.protocol.specs.declared.Refusal.{Refusal}
 use Rattle.protocol.specs.declared.Refusal.the-variants.{Settings, Length, Room, NotAuthentic, Malformed, WrongType, WrongTime, Binding}
-use Rattle.protocol.specs.Subkey.{sessionSubkey}
 use Rattle.protocol.specs.Time.{timeValid}
 use Rattle.socks5.specs.declared.Parsed.{Parsed}
 use Rattle.socks5.specs.declared.Parsed.the-variants.{Found, Malformed as NoAddress}
 use Rattle.socks5.specs.Address.{parseAt}
 use Rattle.datagram_parts.specs.declared.Side.{Side}
-use Rattle.datagram_parts.specs.Headers.{nonce, typeOf, fixedLength}
+use Rattle.datagram_parts.specs.Headers.{typeOf, fixedLength, mainStart}
+use Rattle.datagram_parts.specs.Parts.{overhead}
 use Rattle.datagram_read.specs.declared.Header.{Header}
 use Rattle.datagram_read.specs.declared.Opened.{Opened}
 use Rattle.datagram_read.specs.declared.Opened.the-variants.{Datagram, Refused}
-use Rattle.datagram_read.specs.Opening.{sessionOf, packetOf, bodyAuthentic, bodyText, timeOf, paddingOf, meant, headerWith, readAddress, readMain, lengthLawful, readBody, readAnswer, settled, bodyOut, readOut}
+use Rattle.datagram_read.specs.Opening.{datagramAuthentic, plainOf, sessionOf, packetOf, timeOf, paddingOf, meant, headerWith, readAddress, readMain, lengthLawful, mainOf, readText, readAnswer, settled, textOut, readOut}
+use Rattle.datagram_read.proofs.OpeningLaws.{length-plain}
 
 -- ---- answers
 
@@ -47,40 +47,41 @@ passed false x r h e = absurd (not-refused r h e)
 
 -- ---- a header, exactly when
 
--- the main header of a plaintext
-pub record Reads (side : Side) (clock id packet : ℕ) (plain : List ℕ) (h : Header) : Type 0 where
-  pub long : leb (fixedLength side) (length plain) ≡ true
-  pub kind : eqb (getD plain 0 0) (typeOf side) ≡ true
-  pub timely : timeValid (timeOf plain) clock ≡ true
-  pub ours : meant side plain ≡ true
-  pub address : readAddress side id packet plain ≡ Datagram h
+-- the main header of a plaintext, from its start
+pub record Reads (start : ℕ) (side : Side) (clock id packet : ℕ) (plain : List ℕ) (h : Header) : Type 0 where
+  pub long : leb (start + fixedLength side) (length plain) ≡ true
+  pub kind : eqb (getD plain start 0) (typeOf side) ≡ true
+  pub timely : timeValid (timeOf start plain) clock ≡ true
+  pub ours : meant start side plain ≡ true
+  pub address : readAddress start side id packet plain ≡ Datagram h
 
-module _ (side : Side) (clock id packet : ℕ) (plain : List ℕ) (h : Header) where
-  pub main-tells : readMain side clock id packet plain ≡ Datagram h → Reads side clock id packet plain h
+module _ (start : ℕ) (side : Side) (clock id packet : ℕ) (plain : List ℕ) (h : Header) where
+  pub main-tells : readMain start side clock id packet plain ≡ Datagram h → Reads start side clock id packet plain h
   unfolding readMain
   main-tells e =
-      let e₁ = passed (leb (fixedLength side) (length plain)) _ _ h e in
-      let e₂ = passed (eqb (getD plain 0 0) (typeOf side)) _ _ h (e₁ .then) in
-      let e₃ = passed (timeValid (timeOf plain) clock) _ _ h (e₂ .then) in
-      let e₄ = passed (meant side plain) _ _ h (e₃ .then) in
+      let e₁ = passed (leb (start + fixedLength side) (length plain)) _ _ h e in
+      let e₂ = passed (eqb (getD plain start 0) (typeOf side)) _ _ h (e₁ .then) in
+      let e₃ = passed (timeValid (timeOf start plain) clock) _ _ h (e₂ .then) in
+      let e₄ = passed (meant start side plain) _ _ h (e₃ .then) in
       record { long = e₁ .test; kind = e₂ .test; timely = e₃ .test; ours = e₄ .test; address = e₄ .then }
 
-  pub main-given : Reads side clock id packet plain h → readMain side clock id packet plain ≡ Datagram h
+  pub main-given : Reads start side clock id packet plain h → readMain start side clock id packet plain ≡ Datagram h
   unfolding readMain
   main-given d =
       (λ i. cond (d .long i)
       (cond (d .kind i)
-      (cond (d .timely i) (cond (d .ours i) (readAddress side id packet plain) (Refused Binding)) (Refused WrongTime))
+      (cond (d .timely i) (cond (d .ours i) (readAddress start side id packet plain) (Refused Binding)) (Refused WrongTime))
       (Refused WrongType)) (Refused Malformed))
       ∙ d .address
 
 -- the whole datagram, with lawful settings, length and room
 pub record Opens (method : ℕ) (key : List ℕ) (side : Side) (clock : ℕ) (s out : List ℕ) (h : Header) : Type 0 where
   pub fits : keyFits method (length key) ≡ true
-  pub size : lengthLawful s ≡ true
-  pub room : leb (length s - 32) (length out) ≡ true
-  pub authentic : bodyAuthentic key (sessionOf key s) (packetOf key s) (drop 16 s) ≡ true
-  pub main : Reads side clock (sessionOf key s) (packetOf key s) (bodyText key (sessionOf key s) (packetOf key s) (drop 16 s)) h
+  pub size : lengthLawful (cipherOf method) s ≡ true
+  pub room : leb (length s - overhead (cipherOf method)) (length out) ≡ true
+  pub authentic : datagramAuthentic (cipherOf method) key s ≡ true
+  pub main : Reads (mainStart (cipherOf method)) side clock (sessionOf (cipherOf method) key s) (packetOf (cipherOf method) key s)
+      (plainOf (cipherOf method) key s) h
 
 -- what a header that was read says of its session and its packet ID
 abbrev sessionIn : Opened → ℕ → ℕ
@@ -101,85 +102,92 @@ module _ (id packet time padding : ℕ) (h : Header) where
   with-packet NoAddress e = absurd (not-refused Malformed h e)
 
 module _ (method : ℕ) (key : List ℕ) (side : Side) (clock : ℕ) (s out : List ℕ) where
+  abbrev cipher : Cipher
+  cipher = cipherOf method
+
+  abbrev start : ℕ
+  start = mainStart cipher
+
   abbrev id : ℕ
-  id = sessionOf key s
+  id = sessionOf cipher key s
 
   abbrev packet : ℕ
-  packet = packetOf key s
+  packet = packetOf cipher key s
 
   abbrev plain : List ℕ
-  plain = bodyText key id packet (drop 16 s)
+  plain = plainOf cipher key s
 
-  -- as long as is due
-  pub length-plain : length plain ≡ length s - 32
-  unfolding bodyText
-  length-plain =
-      omega (arith, length-opened (ciphOf (sessionSubkey key id)) (nonce id packet) (drop 16 s), length-drop 16 s)
+  abbrev due : ℕ
+  due = length s - overhead cipher
 
   abbrev settings : Bool
-  settings = keyFits method (length key) && (lengthLawful s && leb (length s - 32) (length out))
+  settings = keyFits method (length key) && (lengthLawful cipher s && leb due (length out))
 
   module _ (h : Header) where
     pub answer-tells : readAnswer method key side clock s out ≡ Datagram h → Opens method key side clock s out h
-    unfolding readAnswer readBody
+    unfolding readAnswer readText
     answer-tells e =
         let e₁ = passed (keyFits method (length key)) _ _ h e in
-        let e₂ = passed (lengthLawful s) _ _ h (e₁ .then) in
-        let e₃ = passed (leb (length s - 32) (length out)) _ _ h (e₂ .then) in
-        let e₄ = passed (bodyAuthentic key id packet (drop 16 s)) _ _ h (e₃ .then) in
+        let e₂ = passed (lengthLawful cipher s) _ _ h (e₁ .then) in
+        let e₃ = passed (leb due (length out)) _ _ h (e₂ .then) in
+        let e₄ = passed (datagramAuthentic cipher key s) _ _ h (e₃ .then) in
         record {
           fits = e₁ .test;
           size = e₂ .test;
           room = e₃ .test;
           authentic = e₄ .test;
-          main = main-tells side clock id packet plain h (e₄ .then);
+          main = main-tells start side clock id packet plain h (e₄ .then);
         }
 
     pub answer-given : Opens method key side clock s out h → readAnswer method key side clock s out ≡ Datagram h
-    unfolding readAnswer readBody
+    unfolding readAnswer readText
     answer-given d =
         (λ i. cond (d .fits i)
         (cond (d .size i)
-        (cond (d .room i) (cond (d .authentic i) (readMain side clock id packet plain) (Refused NotAuthentic)) (Refused Room))
+        (cond (d .room i) (cond (d .authentic i) (mainOf cipher side clock key s) (Refused NotAuthentic)) (Refused Room))
         (Refused Length)) (Refused Settings))
-        ∙ main-given side clock id packet plain h (d .main)
+        ∙ main-given start side clock id packet plain h (d .main)
 
     module _ (d : Opens method key side clock s out h) where
-      pub opens-long : 32 ≤ length s
+      pub opens-long : overhead cipher ≤ length s
       unfolding lengthLawful
-      opens-long = leb-true 32 (length s) (and-eq-true-iff _ _ .0 (d .size) .0)
+      opens-long = leb-true (overhead cipher) (length s) (and-eq-true-iff _ _ .0 (d .size) .0)
 
-      pub opens-room : length s - 32 ≤ length out
-      opens-room = leb-true (length s - 32) (length out) (d .room)
+      pub opens-room : due ≤ length out
+      opens-room = leb-true due (length out) (d .room)
 
       pub header-session : h .session ≡ id
       unfolding readAddress
-      header-session = with-session id packet (timeOf plain) (paddingOf side plain) h (parseAt plain (fixedLength side + paddingOf side plain)) (d .main .address)
+      header-session =
+          with-session id packet (timeOf start plain) (paddingOf start side plain) h
+          (parseAt plain (start + fixedLength side + paddingOf start side plain)) (d .main .address)
 
       pub header-packet : h .packet ≡ packet
       unfolding readAddress
-      header-packet = with-packet id packet (timeOf plain) (paddingOf side plain) h (parseAt plain (fixedLength side + paddingOf side plain)) (d .main .address)
+      header-packet =
+          with-packet id packet (timeOf start plain) (paddingOf start side plain) h
+          (parseAt plain (start + fixedLength side + paddingOf start side plain)) (d .main .address)
 
       -- the plaintext is in the buffer
       pub opened-out : readOut method key side clock s out ≡ put out 0 plain
-      unfolding readOut bodyOut
+      unfolding readOut textOut
       opened-out =
-          let m = main-given side clock id packet plain h (d .main) in
+          let m = main-given start side clock id packet plain h (d .main) in
           (λ i. cond (d .fits i && (d .size i && d .room i))
-          (cond (d .authentic i) (settled (m i) (length (drop 16 s) - 16) (put out 0 plain)) out) out)
+          (cond (d .authentic i) (settled (m i) due (put out 0 plain)) out) out)
 
   -- ---- what a refusal leaves
 
   -- with unlawful settings, length or room, or a wrong tag: the buffer as it was
   pub unlawful-out : settings ≡ false → readOut method key side clock s out ≡ out
   unfolding readOut
-  unlawful-out e = ap (λ (b : Bool). cond b (bodyOut side clock key id packet (drop 16 s) out) out) e
+  unlawful-out e = ap (λ (b : Bool). cond b (textOut cipher side clock key s out) out) e
 
-  pub forged-out : bodyAuthentic key id packet (drop 16 s) ≡ false → readOut method key side clock s out ≡ out
-  unfolding readOut bodyOut
+  pub forged-out : datagramAuthentic cipher key s ≡ false → readOut method key side clock s out ≡ out
+  unfolding readOut textOut
   forged-out e =
       ap
-      (λ (b : Bool). cond settings (cond b (settled (readMain side clock id packet plain) (length (drop 16 s) - 16) (put out 0 plain)) out) out)
+      (λ (b : Bool). cond settings (cond b (settled (mainOf cipher side clock key s) due (put out 0 plain)) out) out)
       e
       ∙ same settings
     where
@@ -188,24 +196,23 @@ module _ (method : ℕ) (key : List ℕ) (side : Side) (clock : ℕ) (s out : Li
       same false = refl
 
   -- after a good tag: zeros where the plaintext was, as many as are due
-  pub cleared-out : settings ≡ true → bodyAuthentic key id packet (drop 16 s) ≡ true → (r : Refusal)
-      → readAnswer method key side clock s out ≡ Refused r → length s - 32 ≤ length out
-      → readOut method key side clock s out ≡ put out 0 (replicate (length s - 32) 0)
-  unfolding readAnswer readBody readOut bodyOut
+  pub cleared-out : settings ≡ true → datagramAuthentic cipher key s ≡ true → (r : Refusal)
+      → readAnswer method key side clock s out ≡ Refused r → due ≤ length out
+      → readOut method key side clock s out ≡ put out 0 (replicate due 0)
+  unfolding readAnswer readText readOut textOut
   cleared-out e a r ea room =
-      let due : length (drop 16 s) - 16 ≡ length s - 32 = omega (arith, length-drop 16 s) in
-      let lp : length plain ≡ length s - 32 = length-plain in
-      let lz : length (replicate {A = ℕ} (length s - 32) 0) ≡ length s - 32 = length-replicate (length s - 32) 0 in
-      let fits = parts (keyFits method (length key)) (lengthLawful s) (leb (length s - 32) (length out)) e in
-      let main : readMain side clock id packet plain ≡ Refused r =
+      let lp : length plain ≡ due = length-plain cipher key s in
+      let lz : length (replicate {A = ℕ} due 0) ≡ due = length-replicate due 0 in
+      let fits = parts (keyFits method (length key)) (lengthLawful cipher s) (leb due (length out)) e in
+      let main : mainOf cipher side clock key s ≡ Refused r =
       sym
       (λ i. cond (fits .0 i)
       (cond (fits .1 .0 i)
-      (cond (fits .1 .1 i) (cond (a i) (readMain side clock id packet plain) (Refused NotAuthentic)) (Refused Room)) (Refused Length))
+      (cond (fits .1 .1 i) (cond (a i) (mainOf cipher side clock key s) (Refused NotAuthentic)) (Refused Room)) (Refused Length))
       (Refused Settings))
       ∙ ea in
-      (λ i. cond (e i) (cond (a i) (settled (main i) (due i) (put out 0 plain)) out) out)
-      ∙ put-again out plain (replicate (length s - 32) 0) (omega (arith, lp)) (lz ∙ sym lp)
+      (λ i. cond (e i) (cond (a i) (settled (main i) due (put out 0 plain)) out) out)
+      ∙ put-again out plain (replicate due 0) (omega (arith, lp)) (lz ∙ sym lp)
     where
       parts : (x y z : Bool) → (x && (y && z)) ≡ true → (x ≡ true) × ((y ≡ true) × (z ≡ true))
       parts true true true e = (refl, (refl, refl))

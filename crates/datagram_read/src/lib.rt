@@ -1,17 +1,20 @@
-// Opening datagrams of SIP022, section 3.2, as far as their own bytes decide it. What is read here has still to be fresh in a
+// Opening datagrams of SIP022, sections 3.2 and 4, as far as their own bytes decide it. What is read here has still to be fresh in a
 // session.
+use chacha_poly::TAG;
 use datagram_parts::MAX_DATAGRAM;
-use datagram_parts::OVERHEAD;
+use datagram_parts::NONCE;
 use datagram_parts::SEPARATE;
 use datagram_parts::Side;
 use datagram_parts::fixed_length;
-use gcm::TAG;
+use datagram_parts::main_start;
+use datagram_parts::overhead;
+use protocol::Cipher;
 use protocol::MAX_KEY;
 use protocol::Refusal;
 use socks5::Parsed;
 use socks5::Target;
 ghost use mathlib.Core.Path.{_≡_};
-ghost use Prim.Native.Nat.{_-_, _<_, _≤_};
+ghost use Prim.Native.Nat.{_+_, _-_, _<_, _≤_};
 ghost use lib.ListN.{length, drop};
 ghost use Rattle.octets.specs.Buffers.{put};
 ghost use Rattle.octets.specs.Numbers.{be};
@@ -21,7 +24,9 @@ ghost use Rattle.aes_tables.specs.Tables.{IsTable};
 ghost use Rattle.aes.specs.Keyed.{nkOf};
 ghost use Rattle.datagram_parts.specs.Headers.{separateLength, typeOf};
 ghost use Rattle.datagram_parts.specs.Parts.{tagLength, maxDatagram};
-ghost use Rattle.datagram_read.specs.Opening.{separateOf, bodyAuthentic, bodyText, meant, readAddress, readMain, settled, readBody, bodyOut, readAnswer, readOut};
+ghost use Rattle.datagram_parts.specs.Parts as parts;
+ghost use Rattle.protocol.specs.declared.Cipher.the-variants.{AesGcm, ChaChaPoly};
+ghost use Rattle.datagram_read.specs.Opening.{separateOf, bodyAuthentic, bodyText, unsealed, unsealedOut, meant, readAddress, readMain, settled, readText, textOut, readAnswer, readOut};
 
 // What an opened datagram says. A name's place and the payload's are places in the plaintext.
 pub struct Header {
@@ -39,6 +44,14 @@ pub enum Opened {
     Datagram(Header),
     Refused(Refusal),
 }
+
+// What a datagram's tag lets in: its session ID and packet ID. Its plaintext is then at the front of the buffer.
+enum Unsealed {
+    Text(u64, u64),
+    Forged,
+}
+
+// ---- with AES
 
 // The separate header of a datagram, in the clear.
 fn open_separate(sbox: &[u8; 256], key: &[u8], s: &[u8]) -> [u8; SEPARATE]
@@ -82,7 +95,59 @@ fn open_body(sbox: &[u8; 256], key: &[u8], header: &[u8], body: &[u8], out: &mut
     }
 }
 
-// ---- the main header
+// By the separate header.
+fn open_aes(key: &[u8], s: &[u8], out: &mut [u8]) -> Unsealed
+    requires { ⌜ 0 < nkOf (length (now key)) ⌝ }
+    requires { ⌜ parts.overhead AesGcm ≤ length (now s) ⌝ }
+    requires { ⌜ length (now s) ≤ maxDatagram ⌝ }
+    requires { ⌜ length (now s) - parts.overhead AesGcm ≤ length (now out) ⌝ }
+    ensures { λ r. ⌜ r ≡ unsealed AesGcm (now (key .entry)) (now (s .entry)) ⌝ }
+    ensures { λ r. ⌜ now (out .exit) ≡ unsealedOut AesGcm (now (key .entry)) (now (s .entry)) (now (out .entry)) ⌝ }
+{
+    let sbox = aes_tables::sbox();
+    let header = open_separate(&sbox, key, s);
+    if open_body(&sbox, key, &header, &s[SEPARATE..], out) {
+        let id = octets::read_u64_be(&header, 0);
+        let packet = octets::read_u64_be(&header, 8);
+        return Unsealed::Text(id, packet);
+    }
+    Unsealed::Forged
+}
+
+// ---- with ChaCha
+
+// The IDs are the plaintext's first bytes.
+fn open_chacha(n: usize, key: &[u8], s: &[u8], out: &mut [u8]) -> Unsealed
+    requires { ⌜ parts.overhead (ChaChaPoly n) ≤ length (now s) ⌝ }
+    requires { ⌜ length (now s) - parts.overhead (ChaChaPoly n) ≤ length (now out) ⌝ }
+    ensures { λ r. ⌜ r ≡ unsealed (ChaChaPoly n) (now (key .entry)) (now (s .entry)) ⌝ }
+    ensures { λ r. ⌜ now (out .exit) ≡ unsealedOut (ChaChaPoly n) (now (key .entry)) (now (s .entry)) (now (out .entry)) ⌝ }
+{
+    if chacha_poly::open_extended(n, key, &s[..NONCE], &s[NONCE..], out) {
+        let due = s.len() - NONCE - TAG;
+        let id = octets::read_u64_be(&out[..due], 0);
+        let packet = octets::read_u64_be(&out[..due], 8);
+        return Unsealed::Text(id, packet);
+    }
+    Unsealed::Forged
+}
+
+// Opens what is sealed of a datagram to the front of a buffer, if its tag is good; if not, nothing is written.
+fn open_text(cipher: Cipher, key: &[u8], s: &[u8], out: &mut [u8]) -> Unsealed
+    requires { ⌜ 0 < nkOf (length (now key)) ⌝ }
+    requires { ⌜ parts.overhead cipher ≤ length (now s) ⌝ }
+    requires { ⌜ length (now s) ≤ maxDatagram ⌝ }
+    requires { ⌜ length (now s) - parts.overhead cipher ≤ length (now out) ⌝ }
+    ensures { λ r. ⌜ r ≡ unsealed cipher (now (key .entry)) (now (s .entry)) ⌝ }
+    ensures { λ r. ⌜ now (out .exit) ≡ unsealedOut cipher (now (key .entry)) (now (s .entry)) (now (out .entry)) ⌝ }
+{
+    match cipher {
+        Cipher::AesGcm => open_aes(key, s, out),
+        Cipher::ChaChaPoly(n) => open_chacha(n, key, s, out),
+    }
+}
+
+// ---- the main header, from its start in the plaintext
 
 fn type_of(side: Side) -> u8
     ensures { λ r. ⌜ r ≡ typeOf side ⌝ }
@@ -94,20 +159,22 @@ fn type_of(side: Side) -> u8
 }
 
 // Whether a server's datagram names our session; a client's names none.
-fn is_meant(side: Side, plain: &[u8]) -> bool
-    ensures { λ r. ⌜ r ≡ meant side (now (plain .entry)) ⌝ }
+fn is_meant(start: usize, side: Side, plain: &[u8]) -> bool
+    requires { ⌜ start ≤ separateLength ⌝ }
+    ensures { λ r. ⌜ r ≡ meant start side (now (plain .entry)) ⌝ }
 {
     match side {
         Side::Client => true,
-        Side::Server(client) => octets::read_u64_be(plain, 9) == client,
+        Side::Server(client) => octets::read_u64_be(plain, start + 9) == client,
     }
 }
 
 // Padding and address.
-fn read_address(side: Side, id: u64, packet: u64, plain: &[u8]) -> Opened
-    ensures { λ r. ⌜ r ≡ readAddress side id packet (now (plain .entry)) ⌝ }
+fn read_address(start: usize, side: Side, id: u64, packet: u64, plain: &[u8]) -> Opened
+    requires { ⌜ start ≤ separateLength ⌝ }
+    ensures { λ r. ⌜ r ≡ readAddress start side id packet (now (plain .entry)) ⌝ }
 {
-    let fixed = fixed_length(side);
+    let fixed = start + fixed_length(side);
     let padding = octets::read_u16_be(plain, fixed - 2);
     match socks5::parse(plain, fixed + padding as usize) {
         Parsed::Found(address) => {
@@ -117,7 +184,7 @@ fn read_address(side: Side, id: u64, packet: u64, plain: &[u8]) -> Opened
                 port: address.port,
                 session: id,
                 packet: packet,
-                time: octets::read_u64_be(plain, 1),
+                time: octets::read_u64_be(plain, start + 1),
                 padding: padding,
                 payload: address.end,
             })
@@ -127,18 +194,19 @@ fn read_address(side: Side, id: u64, packet: u64, plain: &[u8]) -> Opened
 }
 
 // Refusals 5, 6, 7, 13 and 5 again, in this order, or the header.
-fn read_main(side: Side, clock: u64, id: u64, packet: u64, plain: &[u8]) -> Opened
-    ensures { λ r. ⌜ r ≡ readMain side clock id packet (now (plain .entry)) ⌝ }
+fn read_main(start: usize, side: Side, clock: u64, id: u64, packet: u64, plain: &[u8]) -> Opened
+    requires { ⌜ start ≤ separateLength ⌝ }
+    ensures { λ r. ⌜ r ≡ readMain start side clock id packet (now (plain .entry)) ⌝ }
 {
-    if plain.len() < fixed_length(side) {
+    if plain.len() < start + fixed_length(side) {
         return Opened::Refused(Refusal::Malformed);
     }
-    if octets::byte_or_zero(plain, 0) != type_of(side) {
+    if octets::byte_or_zero(plain, start) != type_of(side) {
         return Opened::Refused(Refusal::WrongType);
     }
-    if protocol::time_valid(octets::read_u64_be(plain, 1), clock) {
-        if is_meant(side, plain) {
-            return read_address(side, id, packet, plain);
+    if protocol::time_valid(octets::read_u64_be(plain, start + 1), clock) {
+        if is_meant(start, side, plain) {
+            return read_address(start, side, id, packet, plain);
         }
         return Opened::Refused(Refusal::Binding);
     }
@@ -157,37 +225,24 @@ pub fn clear_refused(answer: Opened, due: usize, out: &mut [u8])
     }
 }
 
-// The body, by the separate header in the clear.
-fn read_body(
-    sbox: &[u8; 256],
-    side: Side,
-    clock: u64,
-    key: &[u8],
-    header: &[u8],
-    body: &[u8],
-    out: &mut [u8],
-) -> Opened
+// A datagram of a lawful length, with room for its plaintext.
+fn read_text(cipher: Cipher, side: Side, clock: u64, key: &[u8], s: &[u8], out: &mut [u8]) -> Opened
     requires { ⌜ 0 < nkOf (length (now key)) ⌝ }
-    requires { ⌜ tagLength ≤ length (now body) ⌝ }
-    requires { ⌜ length (now body) ≤ maxDatagram ⌝ }
-    requires { ⌜ length (now body) - tagLength ≤ length (now out) ⌝ }
-    requires { ⌜ IsTable sBox (now sbox) ⌝ }
-    requires { ⌜ length (now header) ≡ separateLength ⌝ }
-    ensures { λ r. ⌜ r
-        ≡ readBody side clock (now (key .entry)) (be 8 (now (header .entry))) (be 8 (drop 8 (now (header .entry)))) (now (body .entry)) ⌝ }
-    ensures { λ r. ⌜ now (out .exit)
-        ≡ bodyOut side clock (now (key .entry)) (be 8 (now (header .entry))) (be 8 (drop 8 (now (header .entry)))) (now (body .entry))
-        (now (out .entry)) ⌝ }
+    requires { ⌜ parts.overhead cipher ≤ length (now s) ⌝ }
+    requires { ⌜ length (now s) ≤ maxDatagram ⌝ }
+    requires { ⌜ length (now s) - parts.overhead cipher ≤ length (now out) ⌝ }
+    ensures { λ r. ⌜ r ≡ readText cipher side clock (now (key .entry)) (now (s .entry)) ⌝ }
+    ensures { λ r. ⌜ now (out .exit) ≡ textOut cipher side clock (now (key .entry)) (now (s .entry)) (now (out .entry)) ⌝ }
 {
-    if open_body(sbox, key, header, body, out) {
-        let due = body.len() - TAG;
-        let id = octets::read_u64_be(header, 0);
-        let packet = octets::read_u64_be(header, 8);
-        let answer = read_main(side, clock, id, packet, &out[..due]);
-        clear_refused(answer, due, out);
-        return answer;
+    match open_text(cipher, key, s, out) {
+        Unsealed::Text(id, packet) => {
+            let due = s.len() - overhead(cipher);
+            let answer = read_main(main_start(cipher), side, clock, id, packet, &out[..due]);
+            clear_refused(answer, due, out);
+            answer
+        }
+        Unsealed::Forged => Opened::Refused(Refusal::NotAuthentic),
     }
-    Opened::Refused(Refusal::NotAuthentic)
 }
 
 // Refusals 1, 2, 3, 4, 5, 6, 7, 13 and 5, in this order, or the header; its plaintext is then at the front of the buffer.
@@ -203,18 +258,18 @@ pub fn read_datagram(
     ensures { λ r. ⌜ now (out .exit) ≡ readOut method (now (key .entry)) side clock (now (s .entry)) (now (out .entry)) ⌝ }
 {
     if protocol::key_fits(method, key.len()) {
-        if s.len() < OVERHEAD {
+        let cipher = protocol::cipher_of(method);
+        let least = overhead(cipher);
+        if s.len() < least {
             return Opened::Refused(Refusal::Length);
         }
         if MAX_DATAGRAM < s.len() {
             return Opened::Refused(Refusal::Length);
         }
-        if out.len() < s.len() - OVERHEAD {
+        if out.len() < s.len() - least {
             return Opened::Refused(Refusal::Room);
         }
-        let sbox = aes_tables::sbox();
-        let header = open_separate(&sbox, key, s);
-        return read_body(&sbox, side, clock, key, &header, &s[SEPARATE..], out);
+        return read_text(cipher, side, clock, key, s, out);
     }
     Opened::Refused(Refusal::Settings)
 }

@@ -13,7 +13,8 @@ use Rattle.aes.specs.Keyed.{nkOf}
 use Rattle.aes.proofs.KeyedLaws.{key-of-size}
 use Rattle.protocol.specs.declared.Refusal.{Refusal}
 use Rattle.protocol.specs.declared.Refusal.the-variants.{Settings, Length, Room, Counter, Argument}
-use Rattle.protocol.specs.Method.{keyFits}
+use Rattle.protocol.specs.declared.Cipher.{Cipher}
+use Rattle.protocol.specs.Method.{keyFits, cipherOf}
 use Rattle.protocol.proofs.MethodLaws.{fits-sizes}
 use Rattle.socks5.specs.Address.{isAddress}
 use Rattle.datagram_parts.specs.declared.Side.{Side}
@@ -21,8 +22,8 @@ use Rattle.datagram_seal.specs.declared.Sender.{Sender}
 use Rattle.datagram_seal.specs.declared.Sealed.{Sealed}
 use Rattle.datagram_seal.specs.declared.Sealed.the-variants.{Datagram, Refused}
 use Rattle.datagram_parts.specs.Headers.{fixedLength}
-use Rattle.datagram_parts.specs.Parts.{maxDatagram}
-use Rattle.datagram_seal.specs.Sealing.{differs, sealedLength, capped, lengthAnswer, argumentAnswer, sealAnswer, idsDiffer, packetsOf}
+use Rattle.datagram_parts.specs.Parts.{packetOverhead, maxDatagram}
+use Rattle.datagram_seal.specs.Sealing.{differs, nonceFits, sealedLength, capped, lengthAnswer, argumentAnswer, sealAnswer, idsDiffer, packetsOf}
 
 -- the side that was found
 pub differs-law : (id : ℕ) (p q : Side) → p ≡ q → differs q id ≡ differs p id
@@ -38,21 +39,21 @@ pub capped-within : (n : ℕ) → n ≤ maxDatagram → n ≡ capped n
 unfolding capped
 capped-within n h = sym (ap (λ (b : Bool). cond b n 0) (le-leb n maxDatagram h))
 
-module _ (side : Side) (address padding payload : ℕ) where
+module _ (cipher : Cipher) (side : Side) (address padding payload : ℕ) where
   -- a part that is too long by itself
-  pub part-over : (x : ℕ) → maxDatagram < x → x ≤ address + padding + payload → 0 ≡ capped (sealedLength side address padding payload)
+  pub part-over : (x : ℕ) → maxDatagram < x → x ≤ address + padding + payload → 0 ≡ capped (sealedLength cipher side address padding payload)
   unfolding sealedLength
   part-over x h l = capped-over _ x h (omega arith)
 
-  module _ (fixed : ℕ) (e : fixed ≡ fixedLength side) where
-    pub sum-over : maxDatagram < fixed + padding + address + payload + 32 → 0 ≡ capped (sealedLength side address padding payload)
+  module _ (fixed overhead : ℕ) (e : fixed ≡ fixedLength side) (f : overhead ≡ packetOverhead cipher) where
+    pub sum-over : maxDatagram < fixed + padding + address + payload + overhead → 0 ≡ capped (sealedLength cipher side address padding payload)
     unfolding sealedLength
-    sum-over h = capped-over _ _ h (omega (arith, e))
+    sum-over h = capped-over _ _ h (omega (arith, e, f))
 
-    pub sum-within : fixed + padding + address + payload + 32 ≤ maxDatagram
-        → fixed + padding + address + payload + 32 ≡ capped (sealedLength side address padding payload)
+    pub sum-within : fixed + padding + address + payload + overhead ≤ maxDatagram
+        → fixed + padding + address + payload + overhead ≡ capped (sealedLength cipher side address padding payload)
     unfolding sealedLength
-    sum-within h = capped-within _ h ∙ ap (λ (n : ℕ). capped (n + padding + address + payload + 32)) e
+    sum-within h = capped-within _ h ∙ ap₂ (λ (n k : ℕ). capped (n + padding + address + payload + k)) e f
 
 -- one that is not 0 is the length itself
 capped-is : (n : ℕ) → (capped n ≡ 0 → ⊥) → (capped n ≡ n) × (n ≤ maxDatagram)
@@ -84,46 +85,58 @@ module _ (packet n room : ℕ) where
   pub fitting : (packet ≡ 2 ^ 64 - 1 → ⊥) → (n ≡ 0 → ⊥) → n ≤ room → Datagram n ≡ lengthAnswer packet n room
   fitting f z h = length-decided false false true (ne-eqb packet (2 ^ 64 - 1) f) (ne-eqb n 0 z) (le-leb n room h)
 
-module _ (sender : Sender) (address : List ℕ) (padding payload room : ℕ) where
+module _ (cipher : Cipher) (sender : Sender) (address : List ℕ) (padding payload room : ℕ) where
   argument-decided : (b : Bool) → (isAddress address && idsDiffer sender) ≡ b
-      → cond b (lengthAnswer (sender .packet) (capped (sealedLength (sender .side) (length address) padding payload)) room) (Refused Argument)
-      ≡ argumentAnswer sender address padding payload room
+      → cond b (lengthAnswer (sender .packet) (capped (sealedLength cipher (sender .side) (length address) padding payload)) room) (Refused Argument)
+      ≡ argumentAnswer cipher sender address padding payload room
   unfolding argumentAnswer
   argument-decided b e =
       ap
-      (λ (x : Bool). cond x (lengthAnswer (sender .packet) (capped (sealedLength (sender .side) (length address) padding payload)) room) (Refused Argument))
+      (λ (x : Bool). cond x (lengthAnswer (sender .packet) (capped (sealedLength cipher (sender .side) (length address) padding payload)) room) (Refused Argument))
       (sym e)
 
-  pub no-address : isAddress address ≡ false → Refused Argument ≡ argumentAnswer sender address padding payload room
+  pub no-address : isAddress address ≡ false → Refused Argument ≡ argumentAnswer cipher sender address padding payload room
   no-address e = argument-decided false (ap (λ (b : Bool). b && idsDiffer sender) e)
 
-  pub same-ids : isAddress address ≡ true → idsDiffer sender ≡ false → Refused Argument ≡ argumentAnswer sender address padding payload room
+  pub same-ids : isAddress address ≡ true → idsDiffer sender ≡ false → Refused Argument ≡ argumentAnswer cipher sender address padding payload room
   same-ids e f = argument-decided false (ap₂ _&&_ e f)
 
   pub good-argument : isAddress address ≡ true → idsDiffer sender ≡ true → (n : ℕ)
-      → n ≡ capped (sealedLength (sender .side) (length address) padding payload) → (r : Sealed) → r ≡ lengthAnswer (sender .packet) n room
-      → r ≡ argumentAnswer sender address padding payload room
+      → n ≡ capped (sealedLength cipher (sender .side) (length address) padding payload) → (r : Sealed) → r ≡ lengthAnswer (sender .packet) n room
+      → r ≡ argumentAnswer cipher sender address padding payload room
   good-argument e f n en r er =
       er ∙ ap (λ (m : ℕ). lengthAnswer (sender .packet) m room) en ∙ argument-decided true (ap₂ _&&_ e f)
 
-module _ (method k : ℕ) (sender : Sender) (address : List ℕ) (padding payload room : ℕ) where
-  pub unlawful : keyFits method k ≡ false → Refused Settings ≡ sealAnswer method k sender address padding payload room
+module _ (method k nonce : ℕ) (sender : Sender) (address : List ℕ) (padding payload room : ℕ) where
+  settings-decided : (a b : Bool) → keyFits method k ≡ a → nonceFits (cipherOf method) nonce ≡ b
+      → cond (a && b) (argumentAnswer (cipherOf method) sender address padding payload room) (Refused Settings)
+      ≡ sealAnswer method k nonce sender address padding payload room
   unfolding sealAnswer
-  unlawful e = ap (λ (b : Bool). cond b (argumentAnswer sender address padding payload room) (Refused Settings)) (sym e)
+  settings-decided a b ea eb =
+      λ i. cond (sym ea i && sym eb i) (argumentAnswer (cipherOf method) sender address padding payload room) (Refused Settings)
 
-  pub lawful : keyFits method k ≡ true → (r : Sealed) → r ≡ argumentAnswer sender address padding payload room
-      → r ≡ sealAnswer method k sender address padding payload room
-  unfolding sealAnswer
-  lawful e r er = er ∙ ap (λ (b : Bool). cond b (argumentAnswer sender address padding payload room) (Refused Settings)) (sym e)
+  pub unlawful-key : keyFits method k ≡ false → Refused Settings ≡ sealAnswer method k nonce sender address padding payload room
+  unlawful-key e = settings-decided false (nonceFits (cipherOf method) nonce) e refl
+
+  module _ (cipher : Cipher) (ec : cipher ≡ cipherOf method) (e : keyFits method k ≡ true) where
+    pub unlawful-nonce : nonceFits cipher nonce ≡ false → Refused Settings ≡ sealAnswer method k nonce sender address padding payload room
+    unlawful-nonce f = settings-decided true false e (ap (λ (c : Cipher). nonceFits c nonce) (sym ec) ∙ f)
+
+    pub lawful : nonceFits cipher nonce ≡ true → (r : Sealed) → r ≡ argumentAnswer cipher sender address padding payload room
+        → r ≡ sealAnswer method k nonce sender address padding payload room
+    lawful f r er =
+        er ∙ ap (λ (c : Cipher). argumentAnswer c sender address padding payload room) ec
+        ∙ settings-decided true true e (ap (λ (c : Cipher). nonceFits c nonce) (sym ec) ∙ f)
 
 -- ---- what a length that was answered tells
 
-pub record Sealable (method k : ℕ) (sender : Sender) (address : List ℕ) (padding payload room n : ℕ) : Type 0 where
+pub record Sealable (method k nonce : ℕ) (sender : Sender) (address : List ℕ) (padding payload room n : ℕ) : Type 0 where
   pub fits : keyFits method k ≡ true
   pub key : 0 < nkOf k
+  pub nonce-fits : nonceFits (cipherOf method) nonce ≡ true
   pub whole : isAddress address ≡ true
   pub counter : sender .packet ≡ 2 ^ 64 - 1 → ⊥
-  pub size : n ≡ sealedLength (sender .side) (length address) padding payload
+  pub size : n ≡ sealedLength (cipherOf method) (sender .side) (length address) padding payload
   pub most : n ≤ maxDatagram
   pub space : n ≤ room
 
@@ -142,12 +155,14 @@ escaped : (b : Bool) (x : Sealed) (r : Refusal) (n : ℕ) → cond b (Refused r)
 escaped true x r n e = absurd (not-refused r n e)
 escaped false x r n e = (refl, e)
 
-module _ (method k : ℕ) (sender : Sender) (address : List ℕ) (padding payload room n : ℕ) where
-  pub sealable : sealAnswer method k sender address padding payload room ≡ Datagram n → Sealable method k sender address padding payload room n
+module _ (method k nonce : ℕ) (sender : Sender) (address : List ℕ) (padding payload room n : ℕ) where
+  pub sealable : sealAnswer method k nonce sender address padding payload room ≡ Datagram n
+      → Sealable method k nonce sender address padding payload room n
   unfolding sealAnswer argumentAnswer lengthAnswer
   sealable e =
-      let s = sealedLength (sender .side) (length address) padding payload in
-      let e₁ = passed (keyFits method k) _ _ n e in
+      let s = sealedLength (cipherOf method) (sender .side) (length address) padding payload in
+      let e₁ = passed (keyFits method k && nonceFits (cipherOf method) nonce) _ _ n e in
+      let lawful-both = and-eq-true-iff (keyFits method k) (nonceFits (cipherOf method) nonce) .0 (e₁ .0) in
       let e₂ = passed (isAddress address && idsDiffer sender) _ _ n (e₁ .1) in
       let e₃ = escaped (eqb (sender .packet) (2 ^ 64 - 1)) _ _ n (e₂ .1) in
       let e₄ = escaped (eqb (capped s) 0) _ _ n (e₃ .1) in
@@ -156,8 +171,9 @@ module _ (method k : ℕ) (sender : Sender) (address : List ℕ) (padding payloa
       let is : capped s ≡ n = ap lengthOf (e₅ .1) in
       let within : capped s ≤ room = leb-true (capped s) room (e₅ .0) in
       record {
-        fits = e₁ .0;
-        key = key-of-size k (fits-sizes method k (e₁ .0) .either);
+        fits = lawful-both .0;
+        key = key-of-size k (fits-sizes method k (lawful-both .0) .either);
+        nonce-fits = lawful-both .1;
         whole = and-eq-true-iff (isAddress address) (idsDiffer sender) .0 (e₂ .0) .0;
         counter = eqb-false (sender .packet) (2 ^ 64 - 1) (e₃ .0);
         size = sym is ∙ c .0;

@@ -1,4 +1,4 @@
-// Datagrams of SIP022, section 3.2: sending sessions, and sealing (write.rt). What a datagram is made of is in the crate
+// Datagrams of SIP022, sections 3.2 and 4: sending sessions, and sealing (write.rt). What a datagram is made of is in the crate
 // datagram_parts; datagram_open opens.
 pub use datagram_parts::Side;
 use protocol::Refusal;

@@ -3,25 +3,23 @@ use super::Sealed;
 use super::Sealing;
 use super::Sender;
 use datagram_parts::MAX_DATAGRAM;
-use datagram_parts::OVERHEAD;
-use datagram_parts::SEPARATE;
 use datagram_parts::Side;
 use datagram_parts::fixed_length;
-use datagram_parts::seal_body;
-use datagram_parts::separate_header;
-use datagram_parts::write_plaintext;
-use datagram_parts::write_separate;
+use datagram_parts::lead_length;
+use datagram_parts::nonce_fits;
+use datagram_parts::packet_overhead;
+use datagram_parts::seal_in_place;
+use datagram_parts::write_text;
+use protocol::Cipher;
 use protocol::Refusal;
 ghost use mathlib.Core.Path.{_≡_};
-ghost use Prim.Native.Nat.{_+_, _-_, _<_, _≤_, _^_};
+ghost use mathlib.Core.Bool.{true};
+ghost use Prim.Native.Nat.{_-_, _<_, _≤_, _^_};
 ghost use lib.ListN.{length};
-ghost use Rattle.octets.specs.Buffers.{put};
-ghost use Rattle.aes_tables.specs.SBox.{sBox};
-ghost use Rattle.aes_tables.specs.Tables.{IsTable, mixEntry};
 ghost use Rattle.aes.specs.Keyed.{nkOf};
-ghost use Rattle.datagram_parts.specs.Headers.{separateLength, fixedLength, plaintext};
-ghost use Rattle.datagram_parts.specs.Parts.{tagLength, maxDatagram, sealUnder};
-ghost use Rattle.datagram_seal.specs.Sealing.{idsDiffer, sealedLength, capped, lengthAnswer, argumentAnswer, sealAnswer, packetsOf, sealNext, datagram, sealOut};
+ghost use Rattle.protocol.specs.Method.{cipherOf};
+ghost use Rattle.datagram_parts.specs.Parts.{maxDatagram};
+ghost use Rattle.datagram_seal.specs.Sealing.{idsDiffer, nonceFits, sealedLength, capped, lengthAnswer, argumentAnswer, sealAnswer, packetsOf, sealNext, datagram, sealOut};
 
 // ---- what is answered
 
@@ -36,10 +34,17 @@ fn ids_differ(sender: Sender) -> bool
 }
 
 // The length of the sealed datagram, and 0 where that is over the longest.
-fn sealed_length(side: Side, address: usize, padding: usize, payload: usize) -> usize
-    ensures { λ r. ⌜ r ≡ capped (sealedLength side address padding payload) ⌝ }
+fn sealed_length(
+    cipher: Cipher,
+    side: Side,
+    address: usize,
+    padding: usize,
+    payload: usize,
+) -> usize
+    ensures { λ r. ⌜ r ≡ capped (sealedLength cipher side address padding payload) ⌝ }
 {
     let fixed = fixed_length(side);
+    let overhead = packet_overhead(cipher);
     if MAX_DATAGRAM < address {
         return 0;
     }
@@ -49,7 +54,7 @@ fn sealed_length(side: Side, address: usize, padding: usize, payload: usize) -> 
     if MAX_DATAGRAM < payload {
         return 0;
     }
-    let n = fixed + padding + address + payload + OVERHEAD;
+    let n = fixed + padding + address + payload + overhead;
     if MAX_DATAGRAM < n {
         return 0;
     }
@@ -74,18 +79,19 @@ fn length_answer(packet: u64, n: usize, room: usize) -> Sealed
 
 // Refusal 12, and those behind it.
 fn argument_answer(
+    cipher: Cipher,
     sender: Sender,
     address: &[u8],
     padding: usize,
     payload: usize,
     room: usize,
 ) -> Sealed
-    ensures { λ r. ⌜ r ≡ argumentAnswer sender (now (address .entry)) padding payload room ⌝ }
+    ensures { λ r. ⌜ r ≡ argumentAnswer cipher sender (now (address .entry)) padding payload room ⌝ }
 {
     if socks5::is_address(address) {
         if ids_differ(sender) {
             let side = sender.side;
-            let n = sealed_length(side, address.len(), padding, payload);
+            let n = sealed_length(cipher, side, address.len(), padding, payload);
             return length_answer(sender.packet, n, room);
         }
     }
@@ -96,16 +102,20 @@ fn argument_answer(
 fn seal_answer(
     method: u64,
     key: usize,
+    nonce: usize,
     sender: Sender,
     address: &[u8],
     padding: usize,
     payload: usize,
     room: usize,
 ) -> Sealed
-    ensures { λ r. ⌜ r ≡ sealAnswer method key sender (now (address .entry)) padding payload room ⌝ }
+    ensures { λ r. ⌜ r ≡ sealAnswer method key nonce sender (now (address .entry)) padding payload room ⌝ }
 {
     if protocol::key_fits(method, key) {
-        return argument_answer(sender, address, padding, payload, room);
+        let cipher = protocol::cipher_of(method);
+        if nonce_fits(cipher, nonce) {
+            return argument_answer(cipher, sender, address, padding, payload, room);
+        }
     }
     Sealed::Refused(Refusal::Settings)
 }
@@ -139,40 +149,12 @@ fn sealing(sender: Sender, answer: Sealed) -> Sealing
 
 // ---- what is written
 
-// The body, into the buffer that it fills.
-fn write_body(
-    t: &[u32; 256],
-    sbox: &[u8; 256],
-    body: &mut [u8],
-    key: &[u8],
-    header: &[u8],
-    side: Side,
-    clock: u64,
-    address: &[u8],
-    padding: usize,
-    payload: &[u8],
-)
-    requires { ⌜ 0 < nkOf (length (now key)) ⌝ }
-    requires { ⌜ length (now body)
-        ≡ fixedLength side + padding + length (now address) + length (now payload) + tagLength ⌝ }
-    requires { ⌜ length (now body) ≤ maxDatagram ⌝ }
-    requires { ⌜ IsTable mixEntry (now t) ⌝ }
-    requires { ⌜ IsTable sBox (now sbox) ⌝ }
-    requires { ⌜ length (now header) ≡ separateLength ⌝ }
-    ensures { λ _. ⌜ now (body .exit)
-        ≡ sealUnder (now (key .entry)) (now (header .entry))
-        (plaintext side clock padding (now (address .entry)) (now (payload .entry))) ⌝ }
-{
-    write_plaintext(body, side, clock, address, padding, payload);
-    seal_body(t, sbox, body, key, header);
-}
-
-// A datagram of n bytes, to the front of a buffer. The body is sealed where it stands, behind the separate header, which is
-// made once: it is encrypted, and lends the nonce.
+// A datagram, into the buffer that it fills: the text is written to its place and sealed there.
 fn write_datagram(
-    out: &mut [u8],
-    n: usize,
+    s: &mut [u8],
+    cipher: Cipher,
     key: &[u8],
+    nonce: &[u8],
     sender: Sender,
     clock: u64,
     address: &[u8],
@@ -180,37 +162,36 @@ fn write_datagram(
     payload: &[u8],
 )
     requires { ⌜ 0 < nkOf (length (now key)) ⌝ }
-    requires { ⌜ n ≡ sealedLength (sender .side) (length (now address)) padding (length (now payload)) ⌝ }
-    requires { ⌜ n ≤ maxDatagram ⌝ }
-    requires { ⌜ n ≤ length (now out) ⌝ }
-    ensures { λ _. ⌜ now (out .exit)
-        ≡ put (now (out .entry)) 0
-        (datagram (now (key .entry)) sender clock (now (address .entry)) padding (now (payload .entry))) ⌝ }
+    requires { ⌜ nonceFits cipher (length (now nonce)) ≡ true ⌝ }
+    requires { ⌜ length (now s) ≡ sealedLength cipher (sender .side) (length (now address)) padding (length (now payload)) ⌝ }
+    requires { ⌜ length (now s) ≤ maxDatagram ⌝ }
+    ensures { λ _. ⌜ now (s .exit)
+        ≡ datagram cipher (now (key .entry)) (now (nonce .entry)) sender clock (now (address .entry)) padding
+        (now (payload .entry)) ⌝ }
 {
-    let sbox = aes_tables::sbox();
-    let t = aes_tables::mix_table();
+    let lead = lead_length(cipher);
     let side = sender.side;
-    let header = separate_header(sender.id, sender.packet);
-    write_separate(&t, &sbox, out, key, &header);
-    write_body(
-        &t,
-        &sbox,
-        &mut out[SEPARATE..n],
-        key,
-        &header,
+    write_text(
+        &mut s[lead..],
+        cipher,
+        sender.id,
+        sender.packet,
         side,
         clock,
         address,
         padding,
         payload,
     );
+    seal_in_place(cipher, s, key, nonce, sender.id, sender.packet);
 }
 
-// Seals a datagram to the front of the lent buffer. The address is given as its bytes (RFC 1928), exactly one; the time
-// written is the clock. A refusal writes nothing and leaves the sending session as it was.
+// Seals a datagram to the front of the lent buffer. With ChaCha the nonce is the host's, of 24 bytes; with AES it is not looked at.
+// The address is given as its bytes (RFC 1928), exactly one; the time written is the clock. A refusal writes nothing and leaves the
+// sending session as it was.
 pub fn seal(
     method: u64,
     key: &[u8],
+    nonce: &[u8],
     sender: Sender,
     clock: u64,
     address: &[u8],
@@ -219,16 +200,19 @@ pub fn seal(
     out: &mut [u8],
 ) -> Sealing
     ensures { λ r. ⌜ r .answer
-        ≡ sealAnswer method (length (now (key .entry))) sender (now (address .entry)) padding (length (now (payload .entry)))
-        (length (now (out .entry))) ⌝ }
+        ≡ sealAnswer method (length (now (key .entry))) (length (now (nonce .entry))) sender (now (address .entry)) padding
+        (length (now (payload .entry))) (length (now (out .entry))) ⌝ }
     ensures { λ r. ⌜ r .sender ≡ sealNext sender (r .answer) ⌝ }
     ensures { λ r. ⌜ now (out .exit)
-        ≡ sealOut (r .answer) (datagram (now (key .entry)) sender clock (now (address .entry)) padding (now (payload .entry)))
+        ≡ sealOut (r .answer)
+        (datagram (cipherOf method) (now (key .entry)) (now (nonce .entry)) sender clock (now (address .entry)) padding
+        (now (payload .entry)))
         (now (out .entry)) ⌝ }
 {
     let answer = seal_answer(
         method,
         key.len(),
+        nonce.len(),
         sender,
         address,
         padding,
@@ -237,7 +221,18 @@ pub fn seal(
     );
     match answer {
         Sealed::Datagram(n) => {
-            write_datagram(out, n, key, sender, clock, address, padding, payload);
+            let cipher = protocol::cipher_of(method);
+            write_datagram(
+                &mut out[..n],
+                cipher,
+                key,
+                nonce,
+                sender,
+                clock,
+                address,
+                padding,
+                payload,
+            );
             sealing(sender, answer)
         }
         Sealed::Refused(_) => sealing(sender, answer),

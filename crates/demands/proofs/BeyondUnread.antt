@@ -12,7 +12,7 @@ use Rattle.protocol.specs.Subkey.{subkey}
 use Rattle.protocol.specs.Method.{saltLength}
 use Rattle.salt_pool.specs.Pool.{store}
 use Rattle.salt_pool.specs.Runs.{Unkept}
-use Rattle.stream_pieces.specs.Pieces.{authenticAt, openAt, subkeyWords}
+use Rattle.stream_pieces.specs.Pieces.{authenticAt, openAt, subkeyWords, Keyed, saltedKey}
 use Rattle.stream_open.specs.declared.Turn.{Turn}
 use Rattle.stream_open.specs.declared.Turn.the-variants.{Variable, Length, Payload, Ended}
 use Rattle.stream_open.specs.declared.Receiver.{Receiver}
@@ -58,15 +58,15 @@ module _ (n : ℕ) (s t : List ℕ) (e : Begins n s t) where
 
 module _ (method : ℕ) (key : List ℕ) (clock : ℕ) (s t : List ℕ) where
   -- the same salt gives the same key
-  key-kept : saltOf method t ≡ saltOf method s → subkey key (saltOf method s) ≡ subkey key (saltOf method t)
-  key-kept e = ap (subkey key) (sym e)
+  key-kept : saltOf method t ≡ saltOf method s → saltedKey method key (saltOf method s) ≡ saltedKey method key (saltOf method t)
+  key-kept e = ap (saltedKey method key) (sym e)
 
   fixed-kept : (kind b time size : ℕ) → saltOf method t ≡ saltOf method s → fixedOf (saltLength method) b t ≡ fixedOf (saltLength method) b s
-      → FixedOpens (subkey key (saltOf method s)) kind clock (fixedOf (saltLength method) b s) time size
-      → FixedOpens (subkey key (saltOf method t)) kind clock (fixedOf (saltLength method) b t) time size
+      → FixedOpens (saltedKey method key (saltOf method s)) kind clock (fixedOf (saltLength method) b s) time size
+      → FixedOpens (saltedKey method key (saltOf method t)) kind clock (fixedOf (saltLength method) b t) time size
   fixed-kept kind b time size es ef d =
-      subst (λ (k : List ℕ). FixedOpens k kind clock (fixedOf (saltLength method) b t) time size) (key-kept es)
-      (subst (λ (f : List ℕ). FixedOpens (subkey key (saltOf method s)) kind clock f time size) (sym ef) d)
+      subst (λ (k : Keyed). FixedOpens k kind clock (fixedOf (saltLength method) b t) time size) (key-kept es)
+      (subst (λ (f : List ℕ). FixedOpens (saltedKey method key (saltOf method s)) kind clock f time size) (sym ef) d)
 
   module _ (pool : List ℕ) (h : Request) (st : Receiver) (d : RequestOpens method key clock s pool h st) (e : Begins (h .used) s t) where
     used : h .used ≡ frontLength (saltLength method) 0
@@ -117,7 +117,7 @@ module _ (method : ℕ) (key : List ℕ) (clock : ℕ) (s t : List ℕ) where
           size = d .size;
           fixed-opens = fixed-kept 1 (saltLength method) (d .time) (d .size) response-salt response-front (d .fixed-opens);
           not-empty = d .not-empty;
-          for-us = (λ i. bindingOf (saltLength method) (openAt (subkey key (response-salt i)) 0 (response-front i))) ∙ d .for-us;
+          for-us = (λ i. bindingOf (saltLength method) (openAt (saltedKey method key (response-salt i)) 0 (response-front i))) ∙ d .for-us;
           says = d .says;
           stream =
               d .stream ∙ ap (λ (x : List ℕ). receiver method (Payload (d .size)) 1 (subkeyWords (subkey key x))) (sym response-salt);
@@ -144,12 +144,12 @@ module _ (st : Receiver) (s t : List ℕ) (room : ℕ) (h : VariableHeader) (d :
 
 -- ---- steps
 
-module _ (key : List ℕ) (counter m : ℕ) (s t : List ℕ) (e : Begins (m + 16) s t) where
+module _ (key : Keyed) (counter m : ℕ) (s t : List ℕ) (e : Begins (m + 16) s t) where
   piece-kept : (asked room : ℕ) → PieceOpens key counter m s asked room → PieceOpens key counter m t asked room
   piece-kept asked room d =
       record { usable = d .usable; whole = long (m + 16) s t e (d .whole); has-room = d .has-room; authentic = ap (authenticAt key counter) e ∙ d .authentic }
 
-turn-kept : (f : Framing) (key : List ℕ) (counter : ℕ) (turn : Turn) (s t out : List ℕ) (c : Chunk) → TurnOpens f key counter turn s (length out) c → Begins (c .used) s t
+turn-kept : (f : Framing) (key : Keyed) (counter : ℕ) (turn : Turn) (s t out : List ℕ) (c : Chunk) → TurnOpens f key counter turn s (length out) c → Begins (c .used) s t
     → TurnOpens f key counter turn t (length out) c × (turnText key counter turn t out ≡ turnText key counter turn s out)
 turn-kept f key counter Length s t out c d e =
     let u : Begins 18 s t = subst (λ (n : ℕ). Begins n s t) (ap (λ (x : Chunk). x .used) (d .1 .1)) e in (

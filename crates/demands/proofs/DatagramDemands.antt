@@ -19,7 +19,8 @@ use Rattle.session_table.specs.Table.{retention, lawful, Entry, stores, replay,
 use Rattle.session_book.specs.Call.{Answer, Decision, early as decided, reaches, refused, opened}
 use Rattle.session_book.specs.Runs.{tableNextBy}
 use Rattle.session_book.proofs.Words.{retention-store, retention-repeated}
-use Rattle.protocol.specs.Method.{keyFits}
+use Rattle.protocol.specs.declared.Cipher.{Cipher}
+use Rattle.protocol.specs.Method.{keyFits, cipherOf}
 use Rattle.protocol.specs.declared.Refusal.{Refusal}
 use Rattle.protocol.specs.declared.Refusal.the-variants.{Settings, Malformed}
 use Rattle.protocol.specs.Refusal.{refusalNumber}
@@ -28,87 +29,94 @@ use Rattle.socks5.specs.declared.Parsed.{Parsed}
 use Rattle.socks5.specs.declared.Parsed.the-variants.{Found, Malformed as NoAddress}
 use Rattle.socks5.specs.Address.{parseAt}
 use Rattle.datagram_parts.specs.declared.Side.{Side}
-use Rattle.datagram_parts.specs.Headers.{typeOf, fixedLength}
-use Rattle.datagram_parts.specs.Parts.{maxDatagram}
+use Rattle.datagram_parts.specs.Headers.{typeOf, fixedLength, mainStart}
+use Rattle.datagram_parts.specs.Parts.{overhead, maxDatagram}
 use Rattle.datagram_seal.specs.Sealing.{sealAnswer, datagram}
 use Rattle.datagram_read.specs.declared.Header.{Header}
 use Rattle.datagram_read.specs.declared.Opened.the-variants.{Datagram, Refused}
-use Rattle.datagram_read.specs.Opening.{sessionOf, packetOf, timeOf, paddingOf, meant, headerWith, readAddress, lengthLawful, readAnswer, readOut}
-use Rattle.datagram_open.specs.Deciding.{expected, openerOf, plainOf, decide, callOf, openAnswer, openOut, openTable}
-use Rattle.demands.specs.Datagrams.{Answered, accepts, refuses, tagGood, Lawful, BeforeTag, unlawful-table, other-key, too-short, too-long, no-room, forged, Stage, before, after, RepeatCounted, Keeps, OpenersKeep, ValidHeader, Enters, ForUs, Acceptable, AcceptedExactlyWhen, SealedAccepted, Demand2}
-use Rattle.demands.proofs.DatagramReadBack.{payload-back}
+use Rattle.datagram_read.specs.Opening.{plainOf, sessionOf, packetOf, timeOf, paddingOf, meant, headerWith, readAddress, lengthLawful, readAnswer, readOut}
+use Rattle.datagram_open.specs.Deciding.{expected, openerOf, decide, callOf, openAnswer, openOut, openTable}
+use Rattle.demands.specs.Datagrams.{Answered, accepts, refuses, tagGood, due, Lawful, BeforeTag, unlawful-table, other-key, too-short, too-long, no-room, forged, Stage, before, after, RepeatCounted, Keeps, OpenersKeep, ValidHeader, Enters, ForUs, Acceptable, AcceptedExactlyWhen, SealedAccepted, Demand2}
+use Rattle.demands.proofs.DatagramReadBack.{payload-sent}
 use Rattle.demands.proofs.DatagramSealing.{one-target, sealed-opens}
-use Rattle.datagram_read.proofs.ReadLaws.{Reads, Opens, answer-given, opened-out, length-plain, unlawful-out, forged-out, cleared-out}
+use Rattle.datagram_read.proofs.OpeningLaws.{length-plain}
+use Rattle.datagram_read.proofs.ReadLaws.{Reads, Opens, answer-given, opened-out, unlawful-out, forged-out, cleared-out}
 use Rattle.datagram_open.proofs.CallLaws.{expected-opener}
 use Rattle.demands.proofs.DatagramWays.{opened-same, refused-same, not-both, read-same, not-read, ofReader, reader-opener, early-not-eight, among, among-answer, TableLeft, kept, counted, Way, unlawful, early, late, taken, way as way-of}
 
 -- ---- the tests of the arguments
 
 module _ (method : ℕ) (key s t out : List ℕ) where
+  abbrev cipher : Cipher
+  cipher = cipherOf method
+
+  abbrev least : ℕ
+  least = overhead cipher
+
   abbrev settings : Bool
-  settings = keyFits method (length key) && (lengthLawful s && leb (length s - 32) (length out))
+  settings = keyFits method (length key) && (lengthLawful cipher s && leb (due method s) (length out))
 
   abbrev sizes : Bool
-  sizes = leb 32 (length s) && leb (length s) maxDatagram
+  sizes = leb least (length s) && leb (length s) maxDatagram
 
   -- a reason to refuse before the tag, other than the table's, is one of two tests that fails
   data Stops : Type 0 where
     by-settings : settings ≡ false → Stops
-    by-tag : tagGood key s ≡ false → Stops
+    by-tag : tagGood method key s ≡ false → Stops
 
   stops : lawful t ≡ true → BeforeTag method key s t out → Stops
   unfolding lengthLawful
   stops l (unlawful-table e) = absurd (true≢false (sym l ∙ e))
-  stops l (other-key e) = by-settings (ap (λ (b : Bool). b && (sizes && leb (length s - 32) (length out))) e)
+  stops l (other-key e) = by-settings (ap (λ (b : Bool). b && (sizes && leb (due method s) (length out))) e)
   stops l (too-short e) =
       by-settings
-      (ap (λ (b : Bool). keyFits method (length key) && ((b && leb (length s) maxDatagram) && leb (length s - 32) (length out)))
-      (lt-leb 32 (length s) e)
+      (ap (λ (b : Bool). keyFits method (length key) && ((b && leb (length s) maxDatagram) && leb (due method s) (length out)))
+      (lt-leb least (length s) e)
       ∙ and-false (keyFits method (length key)))
   stops l (too-long e) =
       by-settings
-      (ap (λ (b : Bool). keyFits method (length key) && (b && leb (length s - 32) (length out)))
-      (ap (_&&_ (leb 32 (length s))) (lt-leb (length s) maxDatagram e) ∙ and-false (leb 32 (length s)))
+      (ap (λ (b : Bool). keyFits method (length key) && (b && leb (due method s) (length out)))
+      (ap (_&&_ (leb least (length s))) (lt-leb (length s) maxDatagram e) ∙ and-false (leb least (length s)))
       ∙ and-false (keyFits method (length key)))
   stops l (no-room e) =
       by-settings
-      (ap (λ (b : Bool). keyFits method (length key) && (sizes && b)) (lt-leb (length s - 32) (length out) e)
+      (ap (λ (b : Bool). keyFits method (length key) && (sizes && b)) (lt-leb (due method s) (length out) e)
       ∙ ap (_&&_ (keyFits method (length key))) (and-false sizes) ∙ and-false (keyFits method (length key)))
   stops l (forged e) = by-tag e
 
   lawful-settings : Lawful method key s t out → settings ≡ true
   unfolding lengthLawful
   lawful-settings w =
-      let e₁ = le-leb 32 (length s) (w .shortest) in
+      let e₁ = le-leb least (length s) (w .shortest) in
       let e₂ = le-leb (length s) maxDatagram (w .longest) in
-      let e₃ = le-leb (length s - 32) (length out) (w .room) in
+      let e₃ = le-leb (due method s) (length out) (w .room) in
       (λ i. w .key-fits i && ((e₁ i && e₂ i) && e₃ i))
 
-  lawful-size : Lawful method key s t out → lengthLawful s ≡ true
+  lawful-size : Lawful method key s t out → lengthLawful cipher s ≡ true
   unfolding lengthLawful
-  lawful-size w = ap₂ _&&_ (le-leb 32 (length s) (w .shortest)) (le-leb (length s) maxDatagram (w .longest))
+  lawful-size w = ap₂ _&&_ (le-leb least (length s) (w .shortest)) (le-leb (length s) maxDatagram (w .longest))
 
   stage : Stage method key s t out
   stage =
-      go (lawful t) (keyFits method (length key)) (leb 32 (length s)) (leb (length s) maxDatagram) (leb (length s - 32) (length out)) (tagGood key s)
+      go (lawful t) (keyFits method (length key)) (leb least (length s)) (leb (length s) maxDatagram) (leb (due method s) (length out)) (tagGood method key s)
       refl refl refl refl refl refl
     where
-      go : (a b c d e f : Bool) → lawful t ≡ a → keyFits method (length key) ≡ b → leb 32 (length s) ≡ c → leb (length s) maxDatagram ≡ d
-          → leb (length s - 32) (length out) ≡ e → tagGood key s ≡ f → Stage method key s t out
+      go : (a b c d e f : Bool) → lawful t ≡ a → keyFits method (length key) ≡ b → leb least (length s) ≡ c → leb (length s) maxDatagram ≡ d
+          → leb (due method s) (length out) ≡ e → tagGood method key s ≡ f → Stage method key s t out
       go false b c d e f ea eb ec ed ee ef = before (unlawful-table ea)
       go true false c d e f ea eb ec ed ee ef = before (other-key eb)
-      go true true false d e f ea eb ec ed ee ef = before (too-short (leb-false 32 (length s) ec))
+      go true true false d e f ea eb ec ed ee ef = before (too-short (leb-false least (length s) ec))
       go true true true false e f ea eb ec ed ee ef = before (too-long (leb-false (length s) maxDatagram ed))
-      go true true true true false f ea eb ec ed ee ef = before (no-room (leb-false (length s - 32) (length out) ee))
+      go true true true true false f ea eb ec ed ee ef = before (no-room (leb-false (due method s) (length out) ee))
       go true true true true true false ea eb ec ed ee ef = before (forged ef)
       go true true true true true true ea eb ec ed ee ef =
           after
           (record {
             table = ea;
             key-fits = eb;
-            shortest = leb-true 32 (length s) ec;
+            shortest = leb-true least (length s) ec;
             longest = leb-true (length s) maxDatagram ed;
-            room = leb-true (length s - 32) (length out) ee;
+            room = leb-true (due method s) (length out) ee;
           }) ef
 
 -- ---- demand 1
@@ -127,7 +135,7 @@ module _ (method : ℕ) (key : List ℕ) (client : Option ℕ) (clock : ℕ) (pe
   table = openTable method key client clock peer s t out
 
   abbrev zeros : List ℕ
-  zeros = replicate (length s - 32) 0
+  zeros = replicate (due method s) 0
 
   abbrev Ways : Type 0
   Ways = Way method key client clock peer s t out
@@ -165,18 +173,18 @@ module _ (method : ℕ) (key : List ℕ) (client : Option ℕ) (clock : ℕ) (pe
       go (late l h d x r o ea eb et) = left-by r ea et
       go (taken l h d x ea eb) = absurd (not-both n h answer e ea)
 
-  repeat-counted : answer ≡ refused 8 → RepeatCounted clock (sessionOf key s) t table
+  repeat-counted : answer ≡ refused 8 → RepeatCounted clock (sessionOf (cipherOf method) key s) t table
   repeat-counted e = go way
     where
       eight : (n : ℕ) → answer ≡ refused n → n ≡ 8
       eight n ea = refused-same n 8 (sym ea ∙ e)
 
       left-by : (r : Refusal) → answer ≡ refused (refusalNumber r) → TableLeft method key client clock peer s t out (refusalNumber r)
-          → RepeatCounted clock (sessionOf key s) t table
+          → RepeatCounted clock (sessionOf (cipherOf method) key s) t table
       left-by r ea (kept n et) = absurd (n (eight (refusalNumber r) ea))
       left-by r ea (counted m et) = et
 
-      go : Ways → RepeatCounted clock (sessionOf key s) t table
+      go : Ways → RepeatCounted clock (sessionOf (cipherOf method) key s) t table
       go (unlawful l ea eb et) = absurd (let z = eight 1 ea in omega arith)
       go (early l r er ea eb et) = absurd (early-not-eight r (of-reader r er) (eight (refusalNumber r) ea))
       go (late l h d x r o ea eb et) = left-by r ea et
@@ -218,7 +226,7 @@ module _ (method : ℕ) (key : List ℕ) (client : Option ℕ) (clock : ℕ) (pe
       go (late l g d x r o ea eb et) = not-both (refusalNumber r) h answer ea e
       go (taken l g d x ea eb) = not-stopped g d (stops method key s t out l b)
 
-  cleared-after-tag : Lawful method key s t out → tagGood key s ≡ true → (n : ℕ) → answer ≡ refused n → buffer ≡ put out 0 zeros
+  cleared-after-tag : Lawful method key s t out → tagGood method key s ≡ true → (n : ℕ) → answer ≡ refused n → buffer ≡ put out 0 zeros
   cleared-after-tag w a n e = go way
     where
       go : Ways → buffer ≡ put out 0 zeros
@@ -230,7 +238,7 @@ module _ (method : ℕ) (key : List ℕ) (client : Option ℕ) (clock : ℕ) (pe
   -- what the buffer can hold: what it held, or as many bytes as are due at its front
   data Left : Type 0 where
     as-was : buffer ≡ out → Left
-    written : (b : List ℕ) → length b ≡ length s - 32 → length s - 32 ≤ length out → buffer ≡ put out 0 b → Left
+    written : (b : List ℕ) → length b ≡ due method s → due method s ≤ length out → buffer ≡ put out 0 b → Left
 
   left : Left
   left = go (stage method key s t out) answered
@@ -238,23 +246,23 @@ module _ (method : ℕ) (key : List ℕ) (client : Option ℕ) (clock : ℕ) (pe
       go : Stage method key s t out → Answered answer → Left
       go (before b) a = as-was (untouched-before-tag b)
       go (after w a) (refuses r o e) =
-          written zeros (length-replicate (length s - 32) 0) (w .room) (cleared-after-tag w a (refusalNumber r) e)
+          written zeros (length-replicate (due method s) 0) (w .room) (cleared-after-tag w a (refusalNumber r) e)
       go (after w a) (accepts h e) = plain way
         where
           plain : Ways → Left
           plain (unlawful l ea eb et) = absurd (not-both 1 h answer ea e)
           plain (early l r er ea eb et) = absurd (not-both (refusalNumber r) h answer ea e)
           plain (late l g d x r o ea eb et) = absurd (not-both (refusalNumber r) h answer ea e)
-          plain (taken l g d x ea eb) = written (plainOf key s) (length-plain method key side clock s out) (w .room) eb
+          plain (taken l g d x ea eb) = written (plainOf (cipherOf method) key s) (length-plain (cipherOf method) key s) (w .room) eb
 
-  past-due-kept : drop (length s - 32) buffer ≡ drop (length s - 32) out
+  past-due-kept : drop (due method s) buffer ≡ drop (due method s) out
   past-due-kept = go left
     where
-      go : Left → drop (length s - 32) buffer ≡ drop (length s - 32) out
-      go (as-was e) = ap (drop (length s - 32)) e
+      go : Left → drop (due method s) buffer ≡ drop (due method s) out
+      go (as-was e) = ap (drop (due method s)) e
       go (written b lb room e) =
-          let n : 0 + length b ≡ length s - 32 = zero-add (length b) ∙ lb in
-          ap (drop (length s - 32)) e ∙ ap (λ (k : ℕ). drop k (put out 0 b)) (sym n) ∙ drop-put out 0 b (omega (arith, n, room))
+          let n : 0 + length b ≡ due method s = zero-add (length b) ∙ lb in
+          ap (drop (due method s)) e ∙ ap (λ (k : ℕ). drop k (put out 0 b)) (sym n) ∙ drop-put out 0 b (omega (arith, n, room))
           ∙ ap (λ (k : ℕ). drop k out) n
 
   length-kept : length buffer ≡ length out
@@ -285,44 +293,47 @@ openers-keep method key client clock peer s t out = keeps method key client cloc
 -- ---- demand 2
 
 -- the main header, told by its tests and told plainly
-module _ (side : Side) (clock id packet : ℕ) (plain : List ℕ) (h : Header) where
-  valid-header : Reads side clock id packet plain h → ValidHeader side id packet plain h
+module _ (start : ℕ) (side : Side) (clock id packet : ℕ) (plain : List ℕ) (h : Header) where
+  valid-header : Reads start side clock id packet plain h → ValidHeader start side id packet plain h
   unfolding readAddress
-  valid-header d = go (parseAt plain (fixedLength side + paddingOf side plain)) refl (d .address)
+  valid-header d = go (parseAt plain (start + fixedLength side + paddingOf start side plain)) refl (d .address)
     where
-      go : (p : Parsed) → parseAt plain (fixedLength side + paddingOf side plain) ≡ p
-          → headerWith id packet (timeOf plain) (paddingOf side plain) p ≡ Datagram h → ValidHeader side id packet plain h
+      go : (p : Parsed) → parseAt plain (start + fixedLength side + paddingOf start side plain) ≡ p
+          → headerWith id packet (timeOf start plain) (paddingOf start side plain) p ≡ Datagram h → ValidHeader start side id packet plain h
       go (Found a) ep e =
           record {
-            long-enough = leb-true (fixedLength side) (length plain) (d .long);
-            right-type = eqb-true (getD plain 0 0) (typeOf side) (d .kind);
+            long-enough = leb-true (start + fixedLength side) (length plain) (d .long);
+            right-type = eqb-true (getD plain start 0) (typeOf side) (d .kind);
             address = a;
             address-found = ep;
             says = sym (read-same _ h e);
           }
       go NoAddress ep e = absurd (not-read Malformed h (Refused Malformed) refl e)
 
-  header-reads : ValidHeader side id packet plain h → meant side plain ≡ true → timeValid (h .time) clock ≡ true → Reads side clock id packet plain h
+  header-reads : ValidHeader start side id packet plain h → meant start side plain ≡ true → timeValid (h .time) clock ≡ true → Reads start side clock id packet plain h
   unfolding readAddress
   header-reads v ours timely =
       record {
-        long = le-leb (fixedLength side) (length plain) (v .long-enough);
-        kind = eq-eqb (getD plain 0 0) (typeOf side) (v .right-type);
+        long = le-leb (start + fixedLength side) (length plain) (v .long-enough);
+        kind = eq-eqb (getD plain start 0) (typeOf side) (v .right-type);
         timely = ap (λ (g : Header). timeValid (g .time) clock) (sym (v .says)) ∙ timely;
         ours = ours;
-        address = ap (headerWith id packet (timeOf plain) (paddingOf side plain)) (v .address-found) ∙ ap Datagram (sym (v .says));
+        address = ap (headerWith id packet (timeOf start plain) (paddingOf start side plain)) (v .address-found) ∙ ap Datagram (sym (v .says));
       }
 
 -- meant for us, by its test and plainly
-told-ours : (client : Option ℕ) (plain : List ℕ) → meant (expected client) plain ≡ true → ForUs client plain
-told-ours none plain e = tt
-told-ours (some client) plain e = eqb-true (be 8 (drop 9 plain)) client e
+told-ours : (start : ℕ) (client : Option ℕ) (plain : List ℕ) → meant start (expected client) plain ≡ true → ForUs start client plain
+told-ours start none plain e = tt
+told-ours start (some client) plain e = eqb-true (be 8 (drop (start + 9) plain)) client e
 
-ours-told : (client : Option ℕ) (plain : List ℕ) → ForUs client plain → meant (expected client) plain ≡ true
-ours-told none plain u = refl
-ours-told (some client) plain e = eq-eqb (be 8 (drop 9 plain)) client e
+ours-told : (start : ℕ) (client : Option ℕ) (plain : List ℕ) → ForUs start client plain → meant start (expected client) plain ≡ true
+ours-told start none plain u = refl
+ours-told start (some client) plain e = eq-eqb (be 8 (drop (start + 9) plain)) client e
 
 module _ (method : ℕ) (key : List ℕ) (client : Option ℕ) (clock : ℕ) (peer : Peer) (s t out : List ℕ) where
+  abbrev by : Cipher
+  by = cipherOf method
+
   -- a header that was read is accepted where its packet ID enters
   pub enters-accepted : lawful t ≡ true → (h : Header) → readAnswer method key (expected client) clock s out ≡ Datagram h
       → Enters t clock (h .session) (h .packet)
@@ -343,45 +354,45 @@ module _ (method : ℕ) (key : List ℕ) (client : Option ℕ) (clock : ℕ) (pe
       go (taken l g d x ea eb) = (ea ∙ ap opened (same g d), eb ∙ sym (opened-out method key (expected client) clock s out g d))
 
   module _ (w : Lawful method key s t out) (h : Header) where
-    only-when : openAnswer method key client clock peer s t out ≡ opened h → Acceptable key client clock s t h
+    only-when : openAnswer method key client clock peer s t out ≡ opened h → Acceptable method key client clock s t h
     only-when e = go (way method key client clock peer s t out)
       where
-        given : (g : Header) → Opens method key (expected client) clock s out g → Enters t clock (g .session) (g .packet) → Acceptable key client clock s t g
+        given : (g : Header) → Opens method key (expected client) clock s out g → Enters t clock (g .session) (g .packet) → Acceptable method key client clock s t g
         given g d n =
-            let v = valid-header (expected client) clock (sessionOf key s) (packetOf key s) (plainOf key s) g (d .main) in
+            let v = valid-header (mainStart by) (expected client) clock (sessionOf by key s) (packetOf by key s) (plainOf by key s) g (d .main) in
             record {
               authentic = d .authentic;
               header-valid = v;
-              for-us = told-ours client (plainOf key s) (d .main .ours);
+              for-us = told-ours (mainStart by) client (plainOf by key s) (d .main .ours);
               time-valid = ap (λ (y : Header). timeValid (y .time) clock) (v .says) ∙ d .main .timely;
               enters = n;
             }
 
-        go : Way method key client clock peer s t out → Acceptable key client clock s t h
+        go : Way method key client clock peer s t out → Acceptable method key client clock s t h
         go (unlawful f ea eb et) = absurd (not-both 1 h _ ea e)
         go (early l r er ea eb et) = absurd (not-both (refusalNumber r) h _ ea e)
         go (late l g d x r o ea eb et) = absurd (not-both (refusalNumber r) h _ ea e)
-        go (taken l g d x ea eb) = subst (Acceptable key client clock s t) (opened-same g h (sym ea ∙ e)) (given g d x)
+        go (taken l g d x ea eb) = subst (Acceptable method key client clock s t) (opened-same g h (sym ea ∙ e)) (given g d x)
 
-    always-when : Acceptable key client clock s t h → openAnswer method key client clock peer s t out ≡ opened h
+    always-when : Acceptable method key client clock s t h → openAnswer method key client clock peer s t out ≡ opened h
     always-when a =
         enters-accepted (w .table) h
         (answer-given method key (expected client) clock s out h
         (record {
           fits = w .key-fits;
           size = lawful-size method key s t out w;
-          room = le-leb (length s - 32) (length out) (w .room);
+          room = le-leb (due method s) (length out) (w .room);
           authentic = a .authentic;
           main =
-              header-reads (expected client) clock (sessionOf key s) (packetOf key s) (plainOf key s) h (a .header-valid)
-              (ours-told client (plainOf key s) (a .for-us)) (a .time-valid);
+              header-reads (mainStart by) (expected client) clock (sessionOf by key s) (packetOf by key s) (plainOf by key s) h
+              (a .header-valid) (ours-told (mainStart by) client (plainOf by key s) (a .for-us)) (a .time-valid);
         })) (a .enters)
         .0
 
-    opened-text : openAnswer method key client clock peer s t out ≡ opened h → openOut method key client clock peer s t out ≡ put out 0 (plainOf key s)
+    opened-text : openAnswer method key client clock peer s t out ≡ opened h → openOut method key client clock peer s t out ≡ put out 0 (plainOf by key s)
     opened-text e = go (way method key client clock peer s t out)
       where
-        go : Way method key client clock peer s t out → openOut method key client clock peer s t out ≡ put out 0 (plainOf key s)
+        go : Way method key client clock peer s t out → openOut method key client clock peer s t out ≡ put out 0 (plainOf by key s)
         go (unlawful f ea eb et) = absurd (not-both 1 h _ ea e)
         go (early l r er ea eb et) = absurd (not-both (refusalNumber r) h _ ea e)
         go (late l g d x r o ea eb et) = absurd (not-both (refusalNumber r) h _ ea e)
@@ -396,15 +407,15 @@ accepted-exactly-when method key client clock peer s t out w h =
     }
 
 pub sealed-accepted : SealedAccepted
-sealed-accepted method key sender time address padding payload space n sealed fit later valid peer t out l enters room =
+sealed-accepted method key nonce sender time address padding payload space n sealed fit later valid peer t out l enters room =
     let buffer = replicate {A = ℕ} space 0 in
-    let sent = datagram key sender time address padding payload in
+    let sent = datagram (cipherOf method) key nonce sender time address padding payload in
     let side = sender .side in
     let answered-there =
-    ap (λ (k : ℕ). sealAnswer method (length key) sender address padding (length payload) k) (length-replicate {A = ℕ} space 0) ∙ sealed in
-    let one = one-target method key sender time address padding payload buffer n answered-there in
+    ap (sealAnswer method (length key) (length nonce) sender address padding (length payload)) (length-replicate {A = ℕ} space 0) ∙ sealed in
+    let one = one-target method key nonce sender time address padding payload buffer n answered-there in
     let read =
-    sealed-opens method key sender time address padding payload buffer n answered-there (fit .key-bytes) (fit .id-fits) (fit .packet-fits)
+    sealed-opens method key nonce sender time address padding payload buffer n answered-there (fit .key-bytes) (fit .id-fits) (fit .packet-fits)
     (fit .client-fits) (fit .time-fits) (one .address) (one .found) later valid out room in
     let here =
     enters-accepted method key (openerOf side) later peer sent t out l _
@@ -414,7 +425,7 @@ sealed-accepted method key sender time address padding payload space n sealed fi
       target-sealed = one .found;
       fields = here .0;
       text = here .1 ∙ ap (λ (x : Side). readOut method key x later sent out) (expected-opener side) ∙ read .1;
-      payload-there = payload-back side time padding address payload;
+      payload-there = payload-sent (cipherOf method) (sender .id) (sender .packet) side time padding address payload;
     }
 
 pub demand2 : Demand2

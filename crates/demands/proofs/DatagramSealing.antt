@@ -1,5 +1,5 @@
 -- What an answered length promises: the datagram has that length, nothing behind it is written, its packet ID is not the last,
--- and whoever it is meant for reads the same fields from it. For both methods and both sides.
+-- and whoever it is meant for reads the same fields from it. For all five methods and both sides.
 -- Assumes nothing.
 use mathlib.Core.Path.{_≡_, sym, ap, _∙_}
 use mathlib.Core.Bool.{true}
@@ -10,6 +10,7 @@ use native.Mathlib.Omega.{arith}
 use lib.ListN.{length, drop}
 use Rattle.octets.specs.Buffers.{Octets, put}
 use Rattle.octets.proofs.BufferLaws.{drop-put}
+use Rattle.protocol.specs.Method.{cipherOf}
 use Rattle.protocol.specs.Time.{timeValid}
 use Rattle.socks5.specs.declared.Address.{Address}
 use Rattle.socks5.specs.declared.Parsed.the-variants.{Found}
@@ -17,7 +18,7 @@ use Rattle.socks5.specs.Address.{parseAt}
 use Rattle.socks5.proofs.PlaceLaws.{One, one-found}
 use Rattle.datagram_seal.specs.declared.Sender.{Sender}
 use Rattle.datagram_seal.specs.declared.Sealed.the-variants.{Datagram as Written}
-use Rattle.datagram_parts.specs.Headers.{plaintext}
+use Rattle.datagram_parts.specs.Headers.{mainStart, sealedText}
 use Rattle.datagram_seal.specs.Sealing.{sealAnswer, datagram, sealOut}
 use Rattle.datagram_read.specs.declared.Opened.the-variants.{Datagram}
 use Rattle.datagram_read.specs.Opening.{readAnswer, readOut}
@@ -26,17 +27,21 @@ use Rattle.datagram_seal.proofs.LengthLaws.{length-datagram}
 use Rattle.datagram_seal.proofs.AnswerLaws.{Sealable, sealable}
 use Rattle.demands.proofs.DatagramReadBack.{sealed-reads}
 
-module _ (method : ℕ) (key : List ℕ) (sender : Sender) (clock : ℕ) (address : List ℕ) (padding : ℕ) (payload out : List ℕ) (n : ℕ)
-    (answered : sealAnswer method (length key) sender address padding (length payload) (length out) ≡ Written n)
+module _ (method : ℕ) (key nonce : List ℕ) (sender : Sender) (clock : ℕ) (address : List ℕ) (padding : ℕ) (payload out : List ℕ) (n : ℕ)
+    (answered : sealAnswer method (length key) (length nonce) sender address padding (length payload) (length out) ≡ Written n)
   where
-    facts : Sealable method (length key) sender address padding (length payload) (length out) n
-    facts = sealable method (length key) sender address padding (length payload) (length out) n answered
+    facts : Sealable method (length key) (length nonce) sender address padding (length payload) (length out) n
+    facts = sealable method (length key) (length nonce) sender address padding (length payload) (length out) n answered
 
     abbrev sent : List ℕ
-    sent = datagram key sender clock address padding payload
+    sent = datagram (cipherOf method) key nonce sender clock address padding payload
+
+    abbrev text : List ℕ
+    text = sealedText (cipherOf method) (sender .id) (sender .packet) (sender .side) clock padding address payload
 
     pub answers-length : length sent ≡ n
-    answers-length = length-datagram key sender clock address padding payload ∙ sym (facts .size)
+    answers-length =
+        length-datagram (cipherOf method) key nonce sender clock address padding payload (facts .nonce-fits) ∙ sym (facts .size)
 
     pub writes-length : drop n (sealOut (Written n) sent out) ≡ drop n out
     writes-length =
@@ -53,11 +58,11 @@ module _ (method : ℕ) (key : List ℕ) (sender : Sender) (clock : ℕ) (addres
 
     -- opened at a clock at which its time is valid, into a buffer with room for the plaintext; a is what the address says
     pub sealed-opens : Octets key → sender .id < 2 ^ 64 → sender .packet < 2 ^ 64 → clientOf (sender .side) < 2 ^ 64 → clock < 2 ^ 64
-        → (a : Address) → parseAt address 0 ≡ Found a → (later : ℕ) → timeValid clock later ≡ true → (text : List ℕ)
-        → length (plaintext (sender .side) clock padding address payload) ≤ length text
-        → (readAnswer method key (sender .side) later sent text
-        ≡ Datagram (headerOf (sender .side) (sender .id) (sender .packet) clock padding (length address) a))
-        × (readOut method key (sender .side) later sent text ≡ put text 0 (plaintext (sender .side) clock padding address payload))
-    sealed-opens bytes id-fits packet-fits client-fits clock-fits a found later valid text room =
-        sealed-reads key bytes sender clock address padding payload text (omega (arith, facts .size, facts .most)) room method later a (facts .fits)
-        id-fits packet-fits client-fits clock-fits valid (facts .whole) found
+        → (a : Address) → parseAt address 0 ≡ Found a → (later : ℕ) → timeValid clock later ≡ true → (buffer : List ℕ)
+        → length text ≤ length buffer
+        → (readAnswer method key (sender .side) later sent buffer
+        ≡ Datagram (headerOf (mainStart (cipherOf method)) (sender .side) (sender .id) (sender .packet) clock padding (length address) a))
+        × (readOut method key (sender .side) later sent buffer ≡ put buffer 0 text)
+    sealed-opens bytes id-fits packet-fits client-fits clock-fits a found later valid buffer room =
+        sealed-reads method key bytes nonce (facts .nonce-fits) sender clock address padding payload buffer (omega (arith, facts .size, facts .most)) room
+        later a (facts .fits) id-fits packet-fits client-fits clock-fits valid (facts .whole) found

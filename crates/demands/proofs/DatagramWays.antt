@@ -16,7 +16,8 @@ use Rattle.session_record.specs.declared.Peer.{Peer}
 use Rattle.session_record.specs.Record.{oneMore}
 use Rattle.session_table.specs.Table.{start, recordAt, repeated, lawful, freshIn, acceptIn, sessionPlace, freePlace, Entry, stores, replay, full, meetBy, meet, keep, admitted}
 use Rattle.session_book.specs.Call.{Answer, refused, opened}
-use Rattle.protocol.specs.Method.{keyFits}
+use Rattle.protocol.specs.declared.Cipher.{Cipher}
+use Rattle.protocol.specs.Method.{keyFits, cipherOf}
 use Rattle.protocol.specs.declared.Refusal.{Refusal}
 use Rattle.protocol.specs.declared.Refusal.the-variants.{Settings, Length, Room, NotAuthentic, Malformed, WrongType, WrongTime, Replay, Full, Binding}
 use Rattle.protocol.specs.Refusal.{refusalNumber}
@@ -25,14 +26,16 @@ use Rattle.socks5.specs.declared.Parsed.{Parsed}
 use Rattle.socks5.specs.declared.Parsed.the-variants.{Found, Malformed as NoAddress}
 use Rattle.socks5.specs.Address.{parseAt}
 use Rattle.datagram_parts.specs.declared.Side.{Side}
-use Rattle.datagram_parts.specs.Headers.{typeOf, fixedLength}
+use Rattle.datagram_parts.specs.Headers.{typeOf, fixedLength, mainStart}
+use Rattle.datagram_parts.specs.Parts.{overhead}
 use Rattle.datagram_read.specs.declared.Header.{Header}
 use Rattle.datagram_read.specs.declared.Opened.{Opened}
 use Rattle.datagram_read.specs.declared.Opened.the-variants.{Datagram, Refused}
-use Rattle.datagram_read.specs.Opening.{sessionOf, packetOf, timeOf, paddingOf, meant, headerWith, readAddress, readMain, lengthLawful, readBody, readAnswer, settled, readOut}
-use Rattle.datagram_open.specs.Deciding.{expected, openerOf, plainOf, answerOf, admittedAs, entered, openAnswer, openOut, openTable}
-use Rattle.demands.specs.Datagrams.{ofOpener, tagGood, RepeatCounted, Enters, fresh, begins}
-use Rattle.datagram_read.proofs.ReadLaws.{Opens, answer-tells, opens-room, opened-out, length-plain, header-session}
+use Rattle.datagram_read.specs.Opening.{plainOf, sessionOf, packetOf, timeOf, paddingOf, meant, headerWith, readAddress, readMain, lengthLawful, readText, readAnswer, settled, readOut}
+use Rattle.datagram_open.specs.Deciding.{expected, openerOf, answerOf, admittedAs, entered, openAnswer, openOut, openTable}
+use Rattle.demands.specs.Datagrams.{ofOpener, tagGood, due, RepeatCounted, Enters, fresh, begins}
+use Rattle.datagram_read.proofs.OpeningLaws.{length-plain}
+use Rattle.datagram_read.proofs.ReadLaws.{Opens, answer-tells, opens-room, opened-out, header-session}
 use Rattle.datagram_open.proofs.CallLaws.{unlawful-call, refused-call, entered-call}
 
 -- ---- telling answers apart
@@ -98,23 +101,26 @@ among-address : (id packet time padding : ℕ) (p : Parsed) → among (headerWit
 among-address id packet time padding (Found a) = refl
 among-address id packet time padding NoAddress = refl
 
-among-main : (side : Side) (clock id packet : ℕ) (plain : List ℕ) → among (readMain side clock id packet plain) ≡ true
+among-main : (start : ℕ) (side : Side) (clock id packet : ℕ) (plain : List ℕ) → among (readMain start side clock id packet plain) ≡ true
 unfolding readMain readAddress
-among-main side clock id packet plain =
-    among-pick (leb (fixedLength side) (length plain)) _ Malformed
-    (among-pick (eqb (getD plain 0 0) (typeOf side)) _ WrongType
-    (among-pick (timeValid (timeOf plain) clock) _ WrongTime
-    (among-pick (meant side plain) _ Binding
-    (among-address id packet (timeOf plain) (paddingOf side plain) (parseAt plain (fixedLength side + paddingOf side plain))) refl) refl) refl)
+among-main start side clock id packet plain =
+    among-pick (leb (start + fixedLength side) (length plain)) _ Malformed
+    (among-pick (eqb (getD plain start 0) (typeOf side)) _ WrongType
+    (among-pick (timeValid (timeOf start plain) clock) _ WrongTime
+    (among-pick (meant start side plain) _ Binding
+    (among-address id packet (timeOf start plain) (paddingOf start side plain)
+    (parseAt plain (start + fixedLength side + paddingOf start side plain))) refl) refl) refl)
     refl
 
 pub among-answer : (method : ℕ) (key : List ℕ) (side : Side) (clock : ℕ) (s out : List ℕ) → among (readAnswer method key side clock s out) ≡ true
-unfolding readAnswer readBody
+unfolding readAnswer readText
 among-answer method key side clock s out =
+    let cipher = cipherOf method in
     among-pick (keyFits method (length key)) _ Settings
-    (among-pick (lengthLawful s) _ Length
-    (among-pick (leb (length s - 32) (length out)) _ Room
-    (among-pick (tagGood key s) _ NotAuthentic (among-main side clock (sessionOf key s) (packetOf key s) (plainOf key s)) refl) refl) refl)
+    (among-pick (lengthLawful cipher s) _ Length
+    (among-pick (leb (due method s) (length out)) _ Room
+    (among-pick (tagGood method key s) _ NotAuthentic
+    (among-main (mainStart cipher) side clock (sessionOf cipher key s) (packetOf cipher key s) (plainOf cipher key s)) refl) refl) refl)
     refl
 
 -- ---- what the table has for a packet ID
@@ -196,13 +202,16 @@ module _ (method : ℕ) (key : List ℕ) (client : Option ℕ) (clock : ℕ) (pe
   abbrev table : List ℕ
   table = openTable method key client clock peer s t out
 
+  abbrev cipher : Cipher
+  cipher = cipherOf method
+
   abbrev zeros : List ℕ
-  zeros = replicate (length s - 32) 0
+  zeros = replicate (due method s) 0
 
   -- the table that a refusal by the table leaves
   pub data TableLeft (n : ℕ) : Type 0 where
     kept : n ≢ 8 → table ≡ t → TableLeft n
-    counted : n ≡ 8 → RepeatCounted clock (sessionOf key s) t table → TableLeft n
+    counted : n ≡ 8 → RepeatCounted clock (sessionOf cipher key s) t table → TableLeft n
 
   pub data Way : Type 0 where
     unlawful : lawful t ≡ false → answer ≡ refused 1 → buffer ≡ out → table ≡ t → Way
@@ -211,7 +220,7 @@ module _ (method : ℕ) (key : List ℕ) (client : Option ℕ) (clock : ℕ) (pe
     late : lawful t ≡ true → (h : Header) → Opens method key side clock s out h → (Enters t clock (h .session) (h .packet) → ⊥)
         → (r : Refusal) → ofOpener r ≡ true → answer ≡ refused (refusalNumber r) → buffer ≡ put out 0 zeros → TableLeft (refusalNumber r) → Way
     taken : lawful t ≡ true → (h : Header) → Opens method key side clock s out h → Enters t clock (h .session) (h .packet)
-        → answer ≡ opened h → buffer ≡ put out 0 (plainOf key s) → Way
+        → answer ≡ opened h → buffer ≡ put out 0 (plainOf cipher key s) → Way
 
   answer-there : openAnswer method key (openerOf side) clock peer s t out ≡ answer
   answer-there = ap (λ (c : Option ℕ). openAnswer method key c clock peer s t out) (opener-expected client)
@@ -227,26 +236,26 @@ module _ (method : ℕ) (key : List ℕ) (client : Option ℕ) (clock : ℕ) (pe
     facts : Opens method key side clock s out h
     facts = answer-tells method key side clock s out h eh
 
-    cleared : put (put out 0 (plainOf key s)) 0 zeros ≡ put out 0 zeros
+    cleared : put (put out 0 (plainOf cipher key s)) 0 zeros ≡ put out 0 zeros
     cleared =
-        let lp = length-plain method key side clock s out in
-        let lz : length zeros ≡ length s - 32 = length-replicate (length s - 32) 0 in
+        let lp = length-plain cipher key s in
+        let lz : length zeros ≡ due method s = length-replicate (due method s) 0 in
         let room = opens-room method key side clock s out h facts in
-        put-again out (plainOf key s) zeros (omega (arith, lp, room)) (lz ∙ sym lp)
+        put-again out (plainOf cipher key s) zeros (omega (arith, lp, room)) (lz ∙ sym lp)
 
     module _ (e : Entry) (em : meet t clock peer (h .session) (h .packet) ≡ e) where
       met : (answer ≡ answerOf (admittedAs h (admitted e)))
-          × ((buffer ≡ settled (admittedAs h (admitted e)) (length s - 32) (put out 0 (plainOf key s))) × (table ≡ keep e t))
+          × ((buffer ≡ settled (admittedAs h (admitted e)) (due method s) (put out 0 (plainOf cipher key s))) × (table ≡ keep e t))
       unfolding entered
       met =
           let o = readOut method key side clock s out in
           let q =
-          entered-call method key side clock peer s t out l o refl h eh (settled (entered h t clock peer) (length s - 32) o)
+          entered-call method key side clock peer s t out l o refl h eh (overhead cipher) refl (settled (entered h t clock peer) (due method s) o)
           (keep (meet t clock peer (h .session) (h .packet)) t) refl refl in (
             sym (q .0 ∙ answer-there) ∙ ap (λ (x : Entry). answerOf (admittedAs h (admitted x))) em,
             (
               sym (q .1 .0 ∙ buffer-there)
-                  ∙ ap₂ (λ (x : Entry) (y : List ℕ). settled (admittedAs h (admitted x)) (length s - 32) y) em
+                  ∙ ap₂ (λ (x : Entry) (y : List ℕ). settled (admittedAs h (admitted x)) (due method s) y) em
                   (opened-out method key side clock s out h facts),
               sym (q .1 .1 ∙ table-there) ∙ ap (λ (x : Entry). keep x t) em,
             ),

@@ -11,6 +11,7 @@ use lib.ListN.{length, drop, length-replicate}
 use borrow.Author.Tests.{eqb-true, eqb-false}
 use Rattle.octets.proofs.BufferLaws.{length-put}
 use Rattle.protocol.specs.declared.Refusal.{Refusal}
+use Rattle.protocol.specs.Method.{cipherOf}
 use Rattle.protocol.specs.Refusal.{refusalNumber, wantedBytes}
 use Rattle.session_table.specs.Table.{recordWords, tableWords, lawful, taken, newTable, makeLawful, made, madeRetention}
 use Rattle.session_table.proofs.TableLaws.{wrong-length, else-itself, new-length, made-in-range, below-range, above-range}
@@ -34,20 +35,20 @@ use Rattle.demands.proofs.StreamDemands.{streams-demand1}
 
 -- ---- sealing a datagram
 
-module _ (method : ℕ) (key : List ℕ) (sender : Sender) (time : ℕ) (address : List ℕ) (padding : ℕ) (payload out : List ℕ) where
+module _ (method : ℕ) (key nonce : List ℕ) (sender : Sender) (time : ℕ) (address : List ℕ) (padding : ℕ) (payload out : List ℕ) where
   abbrev text : List ℕ
-  text = datagram key sender time address padding payload
+  text = datagram (cipherOf method) key nonce sender time address padding payload
 
   abbrev answer : Sealed
-  answer = sealAnswer method (length key) sender address padding (length payload) (length out)
+  answer = sealAnswer method (length key) (length nonce) sender address padding (length payload) (length out)
 
   refused-as : (a : Sealed) (r : Refusal) → a ≡ Refused r → sealOut a text out ≡ out
   refused-as a r e = ap (λ (x : Sealed). sealOut x text out) e
 
   sealed-fits : (n : ℕ) → answer ≡ Datagram n → (length text ≡ n) × (n ≤ length out)
   sealed-fits n e = (
-    answers-length method key sender time address padding payload out n e,
-    sealable method (length key) sender address padding (length payload) (length out) n e .space,
+    answers-length method key nonce sender time address padding payload out n e,
+    sealable method (length key) (length nonce) sender address padding (length payload) (length out) n e .space,
   )
 
   datagram-keeps : SealKeeps sender answer text out
@@ -61,7 +62,7 @@ module _ (method : ℕ) (key : List ℕ) (sender : Sender) (time : ℕ) (address
         sealed-length = sealed-fits;
         sealed-counts = λ n e. ap (sealNext sender) e;
         past-length-kept = λ n e.
-            ap (λ (x : Sealed). drop n (sealOut x text out)) e ∙ writes-length method key sender time address padding payload out n e;
+            ap (λ (x : Sealed). drop n (sealOut x text out)) e ∙ writes-length method key nonce sender time address padding payload out n e;
         length-kept = kept answer refl;
       }
     where
@@ -69,8 +70,8 @@ module _ (method : ℕ) (key : List ℕ) (sender : Sender) (time : ℕ) (address
       by-order (Datagram n) e = sealed n e
       by-order (Refused r) e =
           refused r
-          (of-order (sealOrder method (length key) sender address padding (length payload) (length out)) _ (refusalNumber r) (wantedBytes r)
-          (sym (orders .datagram-sealed method (length key) sender address padding (length payload) (length out)) ∙ ap saidSealed e)) e
+          (of-order (sealOrder method (length key) (length nonce) sender address padding (length payload) (length out)) _ (refusalNumber r) (wantedBytes r)
+          (sym (orders .datagram-sealed method (length key) (length nonce) sender address padding (length payload) (length out)) ∙ ap saidSealed e)) e
 
       kept : (a : Sealed) → answer ≡ a → length (sealOut answer text out) ≡ length out
       kept (Datagram n) e =

@@ -15,12 +15,11 @@ use Rattle.protocol.specs.declared.Refusal.{Refusal}
 use Rattle.protocol.specs.declared.Refusal.the-variants.{Settings, NotAuthentic, WrongType, WrongTime, More, Binding, Empty}
 use Rattle.protocol.specs.Refusal.{refusalNumber}
 use Rattle.protocol.specs.Method.{keyFits, saltLength}
-use Rattle.protocol.specs.Subkey.{subkey}
 use Rattle.protocol.specs.Time.{timeValid}
 use Rattle.protocol.specs.Orders.{among}
 use Rattle.stream_pieces.specs.Framing.{isEmpty}
 use Rattle.stream_pieces.proofs.FramingLaws.{empty-zero, some-left, not-zero-some}
-use Rattle.stream_pieces.specs.Pieces.{authenticAt, openAt, subkeyWords}
+use Rattle.stream_pieces.specs.Pieces.{authenticAt, openAt, subkeyWords, Keyed, saltedKey}
 use Rattle.stream_heads.specs.Heads.{frontLength, fixedOf, fieldsOf, readFixed, openFixed}
 use Rattle.stream_open.specs.declared.Turn.the-variants.{Payload}
 use Rattle.stream_open.specs.declared.Receiver.{Receiver}
@@ -65,7 +64,7 @@ fixed-among : (b : Bool) (x : FixedRead) (r : Refusal) → ofFixed x ≡ true �
 fixed-among true x r e g = e
 fixed-among false x r e g = g
 
-module _ (key : List ℕ) (kind clock : ℕ) (s : List ℕ) where
+module _ (key : Keyed) (kind clock : ℕ) (s : List ℕ) where
   abbrev fixed-plain : List ℕ
   fixed-plain = openAt key 0 s
 
@@ -148,8 +147,8 @@ module _ (method : ℕ) (key : List ℕ) (clock : ℕ) (requestSalt s : List ℕ
   abbrev salts : ℕ
   salts = saltLength method
 
-  abbrev response-key : List ℕ
-  response-key = subkey key (saltOf method s)
+  abbrev response-key : Keyed
+  response-key = saltedKey method key (saltOf method s)
 
   abbrev ours : Bool
   ours = same (bindingOf salts (openAt response-key 0 (fixedOf salts salts s))) requestSalt
@@ -158,7 +157,7 @@ module _ (method : ℕ) (key : List ℕ) (clock : ℕ) (requestSalt s : List ℕ
   response-front = openFixed response-key 1 clock (fixedOf salts salts s)
 
   bound-tells : (h : Response) (st : Receiver) (x : FixedRead) → response-front ≡ x → frontLength salts salts ≤ length s
-      → boundAs method (subkeyWords response-key) (frontLength salts salts) ours x ≡ Answered h st → ResponseOpens method key clock requestSalt s h st
+      → boundAs method (subkeyWords (response-key .bytes)) (frontLength salts salts) ours x ≡ Answered h st → ResponseOpens method key clock requestSalt s h st
   bound-tells h st (Read f) ef whole e =
       let e₁ = response-passed ours _ _ h st e in
       let e₂ = response-denied (isEmpty (f .length)) _ _ h st (e₁ .then) in
@@ -192,15 +191,15 @@ module _ (method : ℕ) (key : List ℕ) (clock : ℕ) (requestSalt s : List ℕ
       let eo = ap (λ (x : List ℕ). same x requestSalt) (d .for-us) ∙ same-refl requestSalt in
       let en = not-zero-some (d .size) (λ z. omega (arith, z, d .not-empty)) in
       (λ i. cond (fits i && es i)
-      (cond (ew i) (boundAs method (subkeyWords response-key) (frontLength salts salts) (eo i) (ef i))
+      (cond (ew i) (boundAs method (subkeyWords (response-key .bytes)) (frontLength salts salts) (eo i) (ef i))
       (Unanswered (More (frontLength salts salts)))) (Unanswered Settings))
       ∙ (λ i. cond (en i) (Unanswered Empty) (Answered (sym (d .says) i) (sym (d .stream) i)))
 
   bound-among : (b : Bool) (x : FixedRead) → ofFixed x ≡ true
-      → amongResponses (boundAs method (subkeyWords response-key) (frontLength salts salts) b x) ≡ true
+      → amongResponses (boundAs method (subkeyWords (response-key .bytes)) (frontLength salts salts) b x) ≡ true
   bound-among true (Read f) o = go (isEmpty (f .length))
     where
-      go : (b : Bool) → amongResponses (cond b (Unanswered Empty) (Answered (record { time = f .time; length = f .length; used = frontLength salts salts }) (receiver method (Payload (f .length)) 1 (subkeyWords response-key)))) ≡ true
+      go : (b : Bool) → amongResponses (cond b (Unanswered Empty) (Answered (record { time = f .time; length = f .length; used = frontLength salts salts }) (receiver method (Payload (f .length)) 1 (subkeyWords (response-key .bytes))))) ≡ true
       go true = refl
       go false = refl
   bound-among false (Read f) o = refl
@@ -258,8 +257,8 @@ is-0 good n true o h e = empty-zero n h
 is-0 good n false o h e = absurd (not-emptied o e)
 
 module _ (method : ℕ) (key : List ℕ) (clock : ℕ) (requestSalt s : List ℕ) where
-  abbrev emptied-key : List ℕ
-  emptied-key = subkey key (saltOf method s)
+  abbrev emptied-key : Keyed
+  emptied-key = saltedKey method key (saltOf method s)
 
   abbrev piece : List ℕ
   piece = fixedOf (saltLength method) (saltLength method) s
@@ -269,7 +268,7 @@ module _ (method : ℕ) (key : List ℕ) (clock : ℕ) (requestSalt s : List ℕ
 
   bound-emptied : (x : FixedRead) → openFixed emptied-key 1 clock piece ≡ x → ofFixed x ≡ true
       → frontLength (saltLength method) (saltLength method) ≤ length s
-      → boundAs method (subkeyWords emptied-key) (frontLength (saltLength method) (saltLength method)) bound x ≡ Unanswered Empty
+      → boundAs method (subkeyWords (emptied-key .bytes)) (frontLength (saltLength method) (saltLength method)) bound x ≡ Unanswered Empty
       → ResponseEmpty method key clock requestSalt s
   bound-emptied (Read f) ef o whole e =
       let e₁ = behind bound _ Binding refl e in
@@ -301,7 +300,7 @@ module _ (method : ℕ) (key : List ℕ) (clock : ℕ) (requestSalt s : List ℕ
       let ef = fixed-given emptied-key 1 clock piece (d .time) 0 (d .fixed-opens) in
       let eo = ap (λ (x : List ℕ). same x requestSalt) (d .for-us) ∙ same-refl requestSalt in
       λ i. cond (fits i && es i)
-      (cond (ew i) (boundAs method (subkeyWords emptied-key) (frontLength n n) (eo i) (ef i)) (Unanswered (More (frontLength n n)))) (Unanswered Settings)
+      (cond (ew i) (boundAs method (subkeyWords (emptied-key .bytes)) (frontLength n n) (eo i) (ef i)) (Unanswered (More (frontLength n n)))) (Unanswered Settings)
 
 pub response-empty-exactly-when : ResponseEmptyExactlyWhen
 response-empty-exactly-when method key clock requestSalt s fits long =

@@ -4,37 +4,77 @@ use mathlib.Core.Path.{_≡_, refl, sym, ap, ap₂, _∙_}
 use mathlib.Core.Bool.{Bool, true, false, cond, not, _&&_, _||_, or-false, and-false}
 use Prim.Native.Nat.{ℕ, _+_, _≤_, _<_}
 use native.Mathlib.Omega.{arith}
-use lib.Dec.{T, eqb, leb, ltb, eqb→eq}
+use lib.Dec.{eqb, leb, ltb}
 use borrow.Author.Tests.{leb-true, ltb-true, ltb-false, eqb-true, eq-eqb, ne-eqb}
-use Rattle.protocol.specs.declared.Numbered.the-variants.{Known, Unknown}
-use Rattle.protocol.specs.Method.{aes128, aes256, methodOf, asks, keyFits, keyIn, keyLength, saltLength}
+use Rattle.protocol.specs.declared.Numbered.{Numbered}
+use Rattle.protocol.specs.Method.{asks, keyFits, keyIn, keyLength, saltLength, cipherIn, cipherOf}
 use Rattle.datagram_parts.specs.declared.Side.{Side}
 use Rattle.datagram_parts.specs.declared.Side.the-variants.{Client, Server}
+use Rattle.datagram_parts.specs.Headers.{mainStart}
+use Rattle.datagram_parts.specs.Parts.{overhead, nonceFits}
+use Rattle.datagram_parts.proofs.OverheadLaws.{by-number}
 use Rattle.datagram_seal.specs.Sealing.{differs}
 use Rattle.protocol.proofs.OrderLaws.{not-and, under, eqb-turned}
-use Rattle.demands.specs.Orders.{otherMethod, otherKey, sameIds}
+use Rattle.demands.specs.Orders.{withChaCha, otherMethod, otherKey, besides, mainAt, sameIds}
 
 -- ---- conditions
 
+-- a number of no method
+no-number : (n : ℕ) → (1 ≤ n → n ≤ 5 → ⊥) → (k : ℕ) → 1 ≤ k → k ≤ 5 → eqb n k ≡ false
+no-number n f k l u = ne-eqb n k (λ e. f (omega arith) (omega arith))
+
+no-chacha : (n : ℕ) → (1 ≤ n → n ≤ 5 → ⊥) → withChaCha n ≡ false
+no-chacha n f =
+    let e = no-number n f in
+    λ i. e 3 (omega arith) (omega arith) i || (e 4 (omega arith) (omega arith) i || e 5 (omega arith) (omega arith) i)
+
 pub other-key : (method k : ℕ) → otherKey method k ≡ not (keyFits method k)
-unfolding keyFits methodOf
-other-key method k = go (eqb method 1) (eqb method 2) (eqb→eq method 1) (eqb→eq method 2)
+unfolding keyFits
+other-key method k =
+    by-number (λ (n : ℕ) (m : Numbered). otherKey n k ≡ not (asks m k)) (ap not (or-false (eqb k 16) ∙ eqb-turned k 16)) long long long long none-asks method
   where
-    go : (a b : Bool) → (T a → method ≡ 1) → (T b → method ≡ 2)
-        → not (a && eqb k 16 || b && eqb k 32) ≡ not (asks (cond a (Known aes128) (cond b (Known aes256) Unknown)) k)
-    go true true f g = absurd (let e = f tt in let h = g tt in omega arith)
-    go true false f g = ap not (or-false (eqb k 16) ∙ eqb-turned k 16)
-    go false true f g = ap not (eqb-turned k 32)
-    go false false f g = refl
+    long : not (eqb k 32) ≡ not (eqb 32 k)
+    long = ap not (eqb-turned k 32)
+
+    none-asks : (n : ℕ) → (1 ≤ n → n ≤ 5 → ⊥) → otherKey n k ≡ true
+    none-asks n f =
+        let e = no-number n f in
+        λ i. not (e 1 (omega arith) (omega arith) i && eqb k 16 || (e 2 (omega arith) (omega arith) i || no-chacha n f i) && eqb k 32)
 
 pub other-method : (method : ℕ) → otherMethod method ≡ eqb (keyLength method) 0
-unfolding keyLength methodOf
-other-method method = go (eqb method 1) (eqb method 2)
+unfolding keyLength
+other-method method =
+    by-number (λ (n : ℕ) (m : Numbered). otherMethod n ≡ eqb (keyIn m) 0) refl refl refl refl refl no-method method
   where
-    go : (a b : Bool) → not (a || b) ≡ eqb (keyIn (cond a (Known aes128) (cond b (Known aes256) Unknown))) 0
-    go true b = refl
-    go false true = refl
-    go false false = refl
+    no-method : (n : ℕ) → (1 ≤ n → n ≤ 5 → ⊥) → otherMethod n ≡ true
+    no-method n f =
+        let e = no-number n f in
+        λ i. not (e 1 (omega arith) (omega arith) i || (e 2 (omega arith) (omega arith) i || no-chacha n f i))
+
+-- what a datagram has besides its plaintext, and where the main header starts in that
+pub besides-overhead : (method : ℕ) → besides method ≡ overhead (cipherOf method)
+unfolding cipherOf
+besides-overhead method =
+    by-number (λ (n : ℕ) (m : Numbered). besides n ≡ overhead (cipherIn m)) refl refl refl refl refl
+    (λ n f. ap (λ (b : Bool). cond b 40 32) (no-chacha n f)) method
+
+pub main-at : (method : ℕ) → mainAt method ≡ mainStart (cipherOf method)
+unfolding cipherOf
+main-at method =
+    by-number (λ (n : ℕ) (m : Numbered). mainAt n ≡ mainStart (cipherIn m)) refl refl refl refl refl
+    (λ n f. ap (λ (b : Bool). cond b 16 0) (no-chacha n f)) method
+
+-- a nonce of another length than 24, where it is looked at
+pub other-nonce : (method nonce : ℕ) → (withChaCha method && not (eqb nonce 24)) ≡ not (nonceFits (cipherOf method) nonce)
+unfolding cipherOf
+other-nonce method nonce =
+    by-number (λ (n : ℕ) (m : Numbered). (withChaCha n && not (eqb nonce 24)) ≡ not (nonceFits (cipherIn m) nonce)) refl refl refl refl refl
+    (λ n f. ap (λ (b : Bool). b && not (eqb nonce 24)) (no-chacha n f)) method
+
+pub unsealable : (method k nonce : ℕ)
+    → (otherKey method k || withChaCha method && not (eqb nonce 24)) ≡ not (keyFits method k && nonceFits (cipherOf method) nonce)
+unsealable method k nonce =
+    ap₂ _||_ (other-key method k) (other-nonce method nonce) ∙ not-and (keyFits method k) (nonceFits (cipherOf method) nonce)
 
 -- a key and a salt of other lengths, and a second salt
 pub unsuited : (method key salt : ℕ)

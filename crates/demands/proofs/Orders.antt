@@ -18,7 +18,8 @@ use Rattle.session_book.specs.Call.{Call, Outcome}
 use Rattle.session_book.specs.Runs.{report, tableOutcomeBy}
 use Rattle.protocol.specs.declared.Refusal.{Refusal}
 use Rattle.protocol.specs.declared.Refusal.the-variants.{Length as Long, Room as Narrow, NotAuthentic, WrongType, WrongTime, Replay, Full}
-use Rattle.protocol.specs.Method.{keyFits, keyLength, saltLength}
+use Rattle.protocol.specs.declared.Cipher.{Cipher}
+use Rattle.protocol.specs.Method.{keyFits, keyLength, saltLength, cipherOf}
 use Rattle.protocol.specs.Subkey.{subkey}
 use Rattle.protocol.specs.Time.{timeValid}
 use Rattle.socks5.specs.declared.Parsed.{Parsed}
@@ -26,21 +27,21 @@ use Rattle.socks5.specs.declared.Parsed.the-variants.{Found, Malformed}
 use Rattle.socks5.specs.Address.{parseAt, isAddress}
 use Rattle.datagram_parts.specs.declared.Side.{Side}
 use Rattle.datagram_parts.specs.declared.Side.the-variants.{Client, Server}
-use Rattle.datagram_parts.specs.Headers.{typeOf, fixedLength}
-use Rattle.datagram_parts.specs.Parts.{maxDatagram}
+use Rattle.datagram_parts.specs.Headers.{typeOf, fixedLength, mainStart}
+use Rattle.datagram_parts.specs.Parts.{overhead, packetOverhead, maxDatagram, nonceFits}
 use Rattle.datagram_seal.specs.declared.Sender.{Sender as Session}
 use Rattle.datagram_seal.specs.declared.Sealed.the-variants.{Datagram, Refused as NoDatagram}
 use Rattle.reply_session.specs.Beginning.{replyBegun}
 use Rattle.datagram_seal.specs.Sealing.{idsDiffer, sealedLength, capped, lengthAnswer, argumentAnswer, sealAnswer}
 use Rattle.datagram_read.specs.declared.Header.{Header}
 use Rattle.datagram_read.specs.declared.Opened.{Opened}
-use Rattle.datagram_read.specs.Opening.{sessionOf, packetOf, timeOf, meant, headerWith, readAddress, readMain, lengthLawful, readBody, readAnswer, readOut}
-use Rattle.datagram_open.specs.Deciding.{expected, plainOf, decidedBy, decide, callOf, openAnswer}
+use Rattle.datagram_read.specs.Opening.{plainOf, sessionOf, packetOf, timeOf, meant, headerWith, readAddress, readMain, lengthLawful, readText, readAnswer, readOut}
+use Rattle.datagram_open.specs.Deciding.{expected, decidedBy, decide, callOf, openAnswer}
 use Rattle.salt_pool.specs.declared.Met.{Met}
 use Rattle.salt_pool.specs.declared.Met.the-variants.{Room as Free, Replay as Known, Full as NoRoom}
 use Rattle.salt_pool.specs.Pool.{meet as meetSalt, lawful as lawfulPool}
 use Rattle.stream_seal.specs.declared.Sender.{Sender}
-use Rattle.stream_pieces.specs.Pieces.{authenticAt, openAt, subkeyWords, maxChunk, lastCounter}
+use Rattle.stream_pieces.specs.Pieces.{authenticAt, openAt, subkeyWords, maxChunk, lastCounter, Keyed, saltedKey}
 use Rattle.stream_seal.specs.Sealing.{moved, framedAnswer, chunkAnswer}
 use Rattle.stream_seal_heads.specs.HeadSealing.{variableLength, begun, sizesFit, paddingLawful, requestAnswer, responseAnswer}
 use Rattle.stream_open.specs.declared.Turn.{Turn}
@@ -67,8 +68,8 @@ use Rattle.protocol.specs.Orders.{Rule, rule, more, Said, gives, first, refuses
 use Rattle.stream_chunks.specs.Orders.{isEnded, textBytes, dueBytes, lengthTold, saidStep, saidPiece}
 use Rattle.stream_chunks.proofs.ChunkOrders.{piece-order, size-order}
 use Rattle.protocol.proofs.OrderLaws.{next, unless, done, stops, passes, split, not-and, under, under-or-over}
-use Rattle.demands.specs.Orders.{otherMethod, otherKey, addressIn, noAddress, othersDatagram, notFresh, noRoom, saidOpened, openOrder, openedHeader, isReplay, isFull, badVariable, saidRequest, requestOrder, requestOpened, otherTurn, headerSize, saidVariable, variableOrder, headerOpened, saidResponse, responseOrder, responseOpened, noStep, emptyLength, stepOrder, chunkOpened, ownHeader, saidSealed, datagramBytes, sealOrder, sealRequestOrder, requestSealed, sealResponseOrder, responseSealed, sealChunkOrder, chunkSealed, saidBegun, isAlive, beginOrder, sessionBegun, Orders}
-use Rattle.demands.proofs.OrderLaws.{other-key, other-method, unsuited, unsuited-both, bad-padding, same-ids, bad-behind}
+use Rattle.demands.specs.Orders.{otherMethod, otherKey, besides, mainAt, addressIn, noAddress, othersDatagram, notFresh, noRoom, saidOpened, openOrder, openedHeader, isReplay, isFull, badVariable, saidRequest, requestOrder, requestOpened, otherTurn, headerSize, saidVariable, variableOrder, headerOpened, saidResponse, responseOrder, responseOpened, noStep, emptyLength, stepOrder, chunkOpened, ownHeader, saidSealed, datagramBytes, sealOrder, sealRequestOrder, requestSealed, sealResponseOrder, responseSealed, sealChunkOrder, chunkSealed, saidBegun, isAlive, beginOrder, sessionBegun, Orders}
+use Rattle.demands.proofs.OrderLaws.{other-key, other-method, besides-overhead, main-at, unsealable, unsuited, unsuited-both, bad-padding, same-ids, bad-behind}
 
 -- ---- opening a datagram
 
@@ -98,8 +99,20 @@ module _ (method : ℕ) (key : List ℕ) (client : Option ℕ) (clock : ℕ) (pe
   abbrev call : Call
   call = callOf clock peer s out client
 
+  abbrev cipher : Cipher
+  cipher = cipherOf method
+
+  abbrev start : ℕ
+  start = mainStart cipher
+
   abbrev plain : List ℕ
-  plain = plainOf key s
+  plain = plainOf cipher key s
+
+  abbrev session : ℕ
+  session = sessionOf cipher key s
+
+  abbrev packet : ℕ
+  packet = packetOf cipher key s
 
   -- what is said where the arguments came to this answer
   abbrev said : Opened → Said Header
@@ -107,76 +120,84 @@ module _ (method : ℕ) (key : List ℕ) (client : Option ℕ) (clock : ℕ) (pe
 
   abbrev entry : List Rule
   entry =
-      rule 8 (notFresh (sessionPlace t clock (sessionOf key s)) t (packetOf key s))
-      ∷ rule 9 (noRoom (sessionPlace t clock (sessionOf key s)) (freePlace t clock)) ∷ []
+      rule 8 (notFresh (sessionPlace t clock session) t packet) ∷ rule 9 (noRoom (sessionPlace t clock session) (freePlace t clock)) ∷ []
 
   headed : (n time : ℕ) (a : Parsed)
-      → said (headerWith (sessionOf key s) (packetOf key s) time n a)
+      → said (headerWith session packet time n a)
       ≡ first (rule 5 (noAddress a) ∷ entry)
       (record {
         target = addressIn a .target;
         port = addressIn a .port;
-        session = sessionOf key s;
-        packet = packetOf key s;
+        session = session;
+        packet = packet;
         time = time;
         padding = n;
         payload = addressIn a .end;
       })
   unfolding first
-  headed n time (Found a) = meets t call (sessionOf key s) (packetOf key s) _ plain
+  headed n time (Found a) = meets t call session packet _ plain
   headed n time Malformed = refl
 
-  -- 5, 6, 7, 13, 5: n bytes of header and the type byte of the side that is expected
-  module _ (n kind : ℕ) (others : Bool) (en : fixedLength side ≡ n) (ek : typeOf side ≡ kind) (eo : others ≡ not (meant side plain)) where
+  -- 5, 6, 7, 13, 5: n bytes of header from `at` on, and the type byte of the side that is expected
+  module _ (at n kind : ℕ) (others : Bool) (es : start ≡ at) (en : fixedLength side ≡ n) (ek : typeOf side ≡ kind)
+      (eo : others ≡ not (meant start side plain)) where
     abbrev lengthAt : ℕ
-    lengthAt = be 2 (drop (n - 2) plain)
+    lengthAt = be 2 (drop (at + n - 2) plain)
 
-    read-order : said (readMain side clock (sessionOf key s) (packetOf key s) plain)
+    read-order : said (readMain start side clock session packet plain)
         ≡ first
-        (rule 5 (ltb (length plain) n) ∷ rule 6 (not (eqb (getD plain 0 0) kind)) ∷ rule 7 (not (timeValid (be 8 (drop 1 plain)) clock))
-        ∷ rule 13 others ∷ rule 5 (noAddress (parseAt plain (n + lengthAt))) ∷ entry)
+        (rule 5 (ltb (length plain) (at + n)) ∷ rule 6 (not (eqb (getD plain at 0) kind)) ∷ rule 7 (not (timeValid (be 8 (drop (at + 1) plain)) clock))
+        ∷ rule 13 others ∷ rule 5 (noAddress (parseAt plain (at + n + lengthAt))) ∷ entry)
         (record {
-          target = addressIn (parseAt plain (n + lengthAt)) .target;
-          port = addressIn (parseAt plain (n + lengthAt)) .port;
-          session = sessionOf key s;
-          packet = packetOf key s;
-          time = be 8 (drop 1 plain);
+          target = addressIn (parseAt plain (at + n + lengthAt)) .target;
+          port = addressIn (parseAt plain (at + n + lengthAt)) .port;
+          session = session;
+          packet = packet;
+          time = be 8 (drop (at + 1) plain);
           padding = lengthAt;
-          payload = addressIn (parseAt plain (n + lengthAt)) .end;
+          payload = addressIn (parseAt plain (at + n + lengthAt)) .end;
         })
     unfolding readMain readAddress
     read-order =
-        next said (leb (fixedLength side) (length plain)) _ _ _ (under (length plain) n ∙ ap (λ (m : ℕ). not (leb m (length plain))) (sym en)) refl λ _.
-        next said (eqb (getD plain 0 0) (typeOf side)) _ _ _ (ap (λ (m : ℕ). not (eqb (getD plain 0 0) m)) (sym ek)) refl λ _.
-        next said (timeValid (timeOf plain) clock) _ _ _ refl refl λ _.
-        next said (meant side plain) _ _ _ eo refl λ _.
-        ap (λ (m : ℕ). said (headerWith (sessionOf key s) (packetOf key s) (timeOf plain) (be 2 (drop (m - 2) plain)) (parseAt plain (m + be 2 (drop (m - 2) plain))))) en
-        ∙ headed lengthAt (timeOf plain) (parseAt plain (n + lengthAt))
+        next said (leb (start + fixedLength side) (length plain)) _ _ _
+        (under (length plain) (at + n) ∙ (λ i. not (leb (sym es i + sym en i) (length plain)))) refl λ _.
+        next said (eqb (getD plain start 0) (typeOf side)) _ _ _ (λ i. not (eqb (getD plain (sym es i) 0) (sym ek i))) refl λ _.
+        next said (timeValid (timeOf start plain) clock) _ _ _ (λ i. not (timeValid (timeOf (sym es i) plain) clock)) refl λ _.
+        next said (meant start side plain) _ _ _ eo refl λ _.
+        (λ i. said
+        (headerWith session packet (timeOf (es i) plain) (be 2 (drop (es i + en i - 2) plain))
+        (parseAt plain (es i + en i + be 2 (drop (es i + en i - 2) plain)))))
+        ∙ headed lengthAt (timeOf at plain) (parseAt plain (at + n + lengthAt))
 
   -- 1, 2, 3, 4, and what the main header's rules and the session's say
-  whole : (rs : List Rule) (v : Header) → said (readMain side clock (sessionOf key s) (packetOf key s) plain) ≡ first rs v
+  whole : (least : ℕ) → least ≡ overhead cipher → (rs : List Rule) (v : Header) → said (readMain start side clock session packet plain) ≡ first rs v
       → saidOpened (openAnswer method key client clock peer s t out)
       ≡ first
-      (rule 1 (not (lawful t) || otherKey method (length key)) ∷ rule 2 (ltb (length s) 32 || ltb 65507 (length s))
-      ∷ rule 3 (ltb (length out) (length s - 32)) ∷ rule 4 (not (tagGood key s)) ∷ rs)
+      (rule 1 (not (lawful t) || otherKey method (length key)) ∷ rule 2 (ltb (length s) least || ltb 65507 (length s))
+      ∷ rule 3 (ltb (length out) (length s - least)) ∷ rule 4 (not (tagGood method key s)) ∷ rs)
       v
-  unfolding openAnswer decide readAnswer readBody lengthLawful
-  whole rs v e =
+  unfolding openAnswer decide readAnswer readText lengthLawful
+  whole least el rs v e =
       next (λ (o : Outcome Header). saidOpened (o .answer)) (lawful t) (rule 1 (not (lawful t))) _ v refl refl
       (λ _. next said (keyFits method (length key)) (rule 1 (otherKey method (length key))) _ v (other-key method (length key)) refl λ _.
-      next said (leb 32 (length s) && leb (length s) maxDatagram) _ _ v (under-or-over (length s) 32 maxDatagram) refl λ _.
-      next said (leb (length s - 32) (length out)) _ _ v (under (length out) (length s - 32)) refl λ _.
-      next said (tagGood key s) _ rs v refl refl λ _. e)
+      next said (leb (overhead cipher) (length s) && leb (length s) maxDatagram) _ _ v
+      (under-or-over (length s) least maxDatagram ∙ (λ i. not (leb (el i) (length s) && leb (length s) maxDatagram))) refl λ _.
+      next said (leb (length s - overhead cipher) (length out)) _ _ v
+      (under (length out) (length s - least) ∙ (λ i. not (leb (length s - el i) (length out)))) refl λ _.
+      next said (tagGood method key s) _ rs v refl refl λ _. e)
       ∙ split 1 (not (lawful t)) (otherKey method (length key)) _ v
 
 open-order : (method : ℕ) (key : List ℕ) (client : Option ℕ) (clock : ℕ) (peer : Peer) (s t out : List ℕ)
     → saidOpened (openAnswer method key client clock peer s t out)
     ≡ first (openOrder method key client clock s t out) (openedHeader method key client clock s t out)
 open-order method key none clock peer s t out =
-    whole method key none clock peer s t out _ _ (read-order method key none clock peer s t out 11 0 false refl refl refl)
+    whole method key none clock peer s t out (besides method) (besides-overhead method) _ _
+    (read-order method key none clock peer s t out (mainAt method) 11 0 false (sym (main-at method)) refl refl refl)
 open-order method key (some client) clock peer s t out =
-    whole method key (some client) clock peer s t out _ _
-    (read-order method key (some client) clock peer s t out 19 1 (othersDatagram (some client) (be 8 (drop 9 (plainOf key s)))) refl refl refl)
+    let plain = plainOf (cipherOf method) key s in
+    whole method key (some client) clock peer s t out (besides method) (besides-overhead method) _ _
+    (read-order method key (some client) clock peer s t out (mainAt method) 19 1 (othersDatagram (some client) (be 8 (drop (mainAt method + 9) plain)))
+    (sym (main-at method)) refl refl (λ i. not (eqb (be 8 (drop (main-at method i + 9) plain)) client)))
 
 -- ---- a step
 
@@ -242,9 +263,9 @@ module _ (method : ℕ) (key salt requestSalt : List ℕ) (payload room : ℕ) w
       unless saidPiece (isEmpty payload) _ _ _ (empty-length payload) refl λ _.
       size-order maxChunk payload (length salt + 27 + length requestSalt) room (begun method key salt)
 
-module _ (method k : ℕ) (sender : Session) (address : List ℕ) (padding payload room : ℕ) where
+module _ (method k nonce : ℕ) (sender : Session) (address : List ℕ) (padding payload room : ℕ) where
   abbrev total : ℕ
-  total = datagramBytes method k sender address padding payload room
+  total = datagramBytes method k nonce sender address padding payload room
 
   -- 2 and 3: a length that is too long counts as 0
   capped-order : (n : ℕ) → 0 < n
@@ -263,22 +284,23 @@ module _ (method k : ℕ) (sender : Session) (address : List ℕ) (padding paylo
       go false e =
           next saidSealed false {x = NoDatagram Long} {bad = NoDatagram Long} (rule 2 (ltb 65507 n)) (rule 3 (ltb room n) ∷ []) n (under 65507 n ∙ ap not e) refl λ z. absurd (false≢true z)
 
-  seal-order : saidSealed (sealAnswer method k sender address padding payload room)
-      ≡ first (sealOrder method k sender address padding payload room) total
+  seal-order : saidSealed (sealAnswer method k nonce sender address padding payload room)
+      ≡ first (sealOrder method k nonce sender address padding payload room) total
   unfolding sealAnswer argumentAnswer lengthAnswer sealedLength
   seal-order =
-      next saidSealed (keyFits method k) _ _ total (other-key method k) refl λ _.
+      next saidSealed (keyFits method k && nonceFits (cipherOf method) nonce) _ _ total (unsealable method k nonce) refl λ _.
       next saidSealed (isAddress address && idsDiffer sender) _ _ total
       (ap (_||_ (not (isAddress address))) (same-ids (sender .side) (sender .id)) ∙ not-and (isAddress address) (idsDiffer sender)) refl λ _.
       unless saidSealed (eqb (sender .packet) (2 ^ 64 - 1)) _ _ total refl refl λ _.
       ap
       (λ (n : ℕ). saidSealed (cond (eqb (capped n) 0) (NoDatagram Long) (cond (leb (capped n) room) (Datagram (capped n)) (NoDatagram Narrow))))
       (lengths (sender .side))
-      ∙ capped-order total (let z : 0 < total = omega arith in z)
+      ∙ capped-order total (let z : 0 < total = omega (arith, besides-overhead method) in z)
     where
-      lengths : (side : Side) → fixedLength side + padding + length address + payload + 32 ≡ 16 + (ownHeader side + padding + length address + payload) + 16
-      lengths Client = omega arith
-      lengths (Server client) = omega arith
+      lengths : (side : Side) → fixedLength side + padding + length address + payload + packetOverhead (cipherOf method)
+          ≡ besides method + (mainAt method + ownHeader side + padding + length address + payload)
+      lengths Client = omega (arith, besides-overhead method, main-at method)
+      lengths (Server client) = omega (arith, besides-overhead method, main-at method)
 
 begin-order : (t : List ℕ) (clock id client : ℕ)
     → saidBegun (replyBegun t clock id client) ≡ first (beginOrder t clock id client) (sessionBegun id client)
@@ -294,13 +316,13 @@ begin-order t clock id client =
 -- ---- heads
 
 -- the length that a fixed header with a binding of b bytes gives stands behind 9 bytes and the binding
-length-place : (k : List ℕ) (n b : ℕ) (s : List ℕ) → n + 27 + b ≤ length s → length (openAt k 0 (take (27 + b) (drop n s))) - 2 ≡ 9 + b
+length-place : (k : Keyed) (n b : ℕ) (s : List ℕ) → n + 27 + b ≤ length s → length (openAt k 0 (take (27 + b) (drop n s))) - 2 ≡ 9 + b
 length-place k n b s h =
     let l : length (take (27 + b) (drop n s)) ≡ 27 + b = length-take-le (27 + b) (drop n s) (omega (arith, length-drop n s)) in
     omega (arith, length-openAt k 0 (take (27 + b) (drop n s)))
 
 -- 4, 6 and 7 of a fixed header, and what follows it
-module _ {B : Type 0} (said : FixedRead → Said B) (k : List ℕ) (kind clock : ℕ) (piece : List ℕ) (rs : List Rule) (v : B) where
+module _ {B : Type 0} (said : FixedRead → Said B) (k : Keyed) (kind clock : ℕ) (piece : List ℕ) (rs : List Rule) (v : B) where
   abbrev text : List ℕ
   text = openAt k 0 piece
 
@@ -319,8 +341,8 @@ module _ (method : ℕ) (key : List ℕ) (clock : ℕ) (requestSalt s : List ℕ
   abbrev n : ℕ
   n = saltLength method
 
-  abbrev k : List ℕ
-  k = subkey key (take n s)
+  abbrev k : Keyed
+  k = saltedKey method key (take n s)
 
   abbrev fixed : List ℕ
   fixed = openAt k 0 (take (27 + n) (drop n s))
@@ -332,7 +354,7 @@ module _ (method : ℕ) (key : List ℕ) (clock : ℕ) (requestSalt s : List ℕ
   abbrev answered : ℕ → Response × Receiver
   answered m = (
     record { time = be 8 (drop 1 fixed); length = be 2 (drop m fixed); used = n + 27 + n },
-    record { method = method; turn = Payload (be 2 (drop m fixed)); counter = 1; subkey = subkeyWords k },
+    record { method = method; turn = Payload (be 2 (drop m fixed)); counter = 1; subkey = subkeyWords (k .bytes) },
   )
 
   -- 14, likewise
@@ -345,7 +367,7 @@ module _ (method : ℕ) (key : List ℕ) (clock : ℕ) (requestSalt s : List ℕ
   response-order =
       next saidResponse (keyFits method (length key) && eqb (length requestSalt) n) _ _ _ (unsuited method (length key) (length requestSalt)) refl λ _.
       next saidResponse (leb (n + 27 + n) (length s)) _ _ _ (under (length s) (n + 27 + n)) refl λ e.
-      fixed-order (λ (f : FixedRead). saidResponse (boundAs method (subkeyWords k) (n + 27 + n) ours f)) k 1 clock (take (27 + n) (drop n s)) _ _ (λ r. refl)
+      fixed-order (λ (f : FixedRead). saidResponse (boundAs method (subkeyWords (k .bytes)) (n + 27 + n) ours f)) k 1 clock (take (27 + n) (drop n s)) _ _ (λ r. refl)
       (next saidResponse ours (rule 13 (not ours)) (nothing (length fixed - 2) ∷ []) (answered (length fixed - 2)) refl refl (λ _.
       unless saidResponse (isEmpty (be 2 (drop (length fixed - 2) fixed))) (nothing (length fixed - 2)) [] (answered (length fixed - 2))
       (empty-length (be 2 (drop (length fixed - 2) fixed))) refl λ _. done _)
@@ -362,8 +384,8 @@ module _ (method : ℕ) (key : List ℕ) (clock : ℕ) (s pool : List ℕ) where
   abbrev bytes : ℕ
   bytes = saltLength method
 
-  abbrev streamKeyOf : List ℕ
-  streamKeyOf = subkey key (take bytes s)
+  abbrev streamKeyOf : Keyed
+  streamKeyOf = saltedKey method key (take bytes s)
 
   abbrev front : List ℕ
   front = openAt streamKeyOf 0 (take 27 (drop bytes s))
@@ -375,7 +397,7 @@ module _ (method : ℕ) (key : List ℕ) (clock : ℕ) (s pool : List ℕ) where
   abbrev begun-by : (m before : ℕ) → Request × Receiver
   begun-by m before = (
     record { time = be 8 (drop 1 front); length = be 2 (drop m front); used = before },
-    record { method = method; turn = Variable (be 2 (drop m front)); counter = 1; subkey = subkeyWords streamKeyOf },
+    record { method = method; turn = Variable (be 2 (drop m front)); counter = 1; subkey = subkeyWords (streamKeyOf .bytes) },
   )
 
   abbrev rules : (before : ℕ) → List Rule
@@ -394,7 +416,7 @@ module _ (method : ℕ) (key : List ℕ) (clock : ℕ) (s pool : List ℕ) where
   frontBytes = frontLength bytes 0
 
   abbrev saidFront : FixedRead → Said (Request × Receiver)
-  saidFront x = saidRequest (openedAs method (subkeyWords streamKeyOf) frontBytes x)
+  saidFront x = saidRequest (openedAs method (subkeyWords (streamKeyOf .bytes)) frontBytes x)
 
   request-order : saidRequest (openedRequest method key clock s pool) ≡ first (requestOrder method key clock s pool) (requestOpened method key clock s pool)
   unfolding openedRequest settings readFront

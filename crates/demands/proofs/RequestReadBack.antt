@@ -14,7 +14,7 @@ use borrow.Author.Tests.{ne-eqb, le-leb, lt-ltb, leb-true, ltb-true, eqb-true}
 use Rattle.octets.specs.Buffers.{put}
 use Rattle.octets.specs.Numbers.{be, toBe}
 use Rattle.octets.proofs.NumberLaws.{length-toBe, be-front}
-use Rattle.protocol.specs.Method.{keyFits, keyLength, saltLength}
+use Rattle.protocol.specs.Method.{keyFits, keyLength, saltLength, cipherOf}
 use Rattle.protocol.specs.Subkey.{subkey}
 use Rattle.protocol.proofs.MethodLaws.{fits-sizes}
 use Rattle.protocol.specs.Time.{timeValid}
@@ -29,7 +29,7 @@ use Rattle.salt_pool.specs.declared.Met.the-variants.{Room as Free}
 use Rattle.salt_pool.specs.Pool.{lawful, meet, store}
 use Rattle.stream_seal.specs.declared.Sender.{Sender}
 use Rattle.stream_seal.specs.declared.Sealed.the-variants.{Bytes}
-use Rattle.stream_pieces.specs.Pieces.{sealAt, authenticAt, openAt, subkeyWords, maxChunk}
+use Rattle.stream_pieces.specs.Pieces.{sealAt, authenticAt, openAt, subkeyWords, maxChunk, Keyed, keyed, saltedKey}
 use Rattle.stream_heads.specs.Heads.{maxPadding, frontLength, fixedOf, openFixed}
 use Rattle.stream_seal_heads.specs.HeadSealing.{front, variablePart, variableLength, requestAt, request, begun, sizesFit, paddingLawful, requestAnswer}
 use Rattle.stream_open.specs.declared.Turn.the-variants.{Variable, Length}
@@ -47,7 +47,8 @@ use Rattle.demands.specs.StreamsOpen.{variableAt}
 use Rattle.demands.specs.StreamsBack.{sealedHeader, RequestBack, RequestsGivenBack}
 use Rattle.stream_pieces.proofs.LengthLaws.{length-sealAt}
 use Rattle.stream_seal_heads.proofs.HeadLengthLaws.{length-variablePart, length-requestAt}
-use Rattle.stream_chunks.proofs.ChunkBackLaws.{piece-back, answers, Sized, sized}
+use Rattle.stream_pieces.proofs.PieceLaws.{piece-back}
+use Rattle.stream_chunks.proofs.ChunkBackLaws.{answers, Sized, sized}
 use Rattle.demands.proofs.StreamReadBack.{salt-back, front-whole, behind-front, fixed-back, stream-key}
 use Rattle.demands.proofs.VariableTells.{header-by, text-by}
 
@@ -151,8 +152,8 @@ module _ (method : ℕ) (key salt : List ℕ) (time : ℕ) (address : List ℕ) 
     request-facts : Requests method key salt address padding (length payload) space n next
     request-facts = requests method key salt address padding (length payload) space n next answered
 
-    abbrev request-key : List ℕ
-    request-key = subkey key salt
+    abbrev request-key : Keyed
+    request-key = saltedKey method key salt
 
     abbrev salts : ℕ
     salts = saltLength method
@@ -166,7 +167,7 @@ module _ (method : ℕ) (key salt : List ℕ) (time : ℕ) (address : List ℕ) 
     target : One address
     target = one-found address (request-facts .one-address)
 
-    request-split : (rest : List ℕ) → request key salt time address padding payload ++ rest
+    request-split : (rest : List ℕ) → request (cipherOf method) key salt time address padding payload ++ rest
         ≡ front request-key salt 0 time [] (length text) ++ (body ++ rest)
     unfolding request requestAt
     request-split rest = append-assoc (front request-key salt 0 time [] (length text)) body rest
@@ -174,7 +175,7 @@ module _ (method : ℕ) (key salt : List ℕ) (time : ℕ) (address : List ℕ) 
     text-long : length text ≤ maxChunk
     text-long = omega (arith, length-variablePart address padding payload, request-facts .sizes .small)
 
-    request-length : length (request key salt time address padding payload) ≡ n
+    request-length : length (request (cipherOf method) key salt time address padding payload) ≡ n
     unfolding request
     request-length = length-requestAt request-key salt time address padding payload ∙ sym (request-facts .sizes .count)
 
@@ -208,19 +209,19 @@ module _ (method : ℕ) (key salt : List ℕ) (time : ℕ) (address : List ℕ) 
         met-here : meet pool later (take salts all) ≡ Free place
         met-here = ap (meet pool later) salt-here ∙ free
 
-        front-key : subkey key (take salts all) ≡ request-key
-        front-key = ap (subkey key) salt-here
+        front-key : saltedKey method key (take salts all) ≡ request-key
+        front-key = ap (saltedKey method key) salt-here
 
-        fixed-here : openFixed (subkey key (take salts all)) 0 later (fixedOf salts 0 all) ≡ Read fields
-        fixed-here = ap (λ (x : List ℕ). openFixed x 0 later (fixedOf salts 0 all)) front-key ∙ header-here later valid
+        fixed-here : openFixed (saltedKey method key (take salts all)) 0 later (fixedOf salts 0 all) ≡ Read fields
+        fixed-here = ap (λ (x : Keyed). openFixed x 0 later (fixedOf salts 0 all)) front-key ∙ header-here later valid
 
         all-accepted : openedRequest method key later all pool
             ≡ Accepted (record { time = time; length = length text; used = frontLength salts 0 })
-            (receiver method (Variable (length text)) 1 (subkeyWords request-key))
+            (receiver method (Variable (length text)) 1 (subkeyWords (request-key .bytes)))
         unfolding openedRequest readFront
         all-accepted =
             (λ i. cond (lawful-settings i)
-            (cond (whole-here i) (openedAs method (subkeyWords (front-key i)) (frontLength salts 0) (fixedAs (met-here i) (fixed-here i)))
+            (cond (whole-here i) (openedAs method (subkeyWords (front-key i .bytes)) (frontLength salts 0) (fixedAs (met-here i) (fixed-here i)))
             (NoRequest (More (frontLength salts 0)))) (NoRequest Settings))
 
         all-stored : requestPool method key later all pool ≡ store pool place later salt
@@ -234,7 +235,7 @@ module _ (method : ℕ) (key salt : List ℕ) (time : ℕ) (address : List ℕ) 
       variable-there = take-at body rest (length text + 16) (length-sealAt request-key 1 text)
 
       abbrev waiting : Receiver
-      waiting = receiver method (Variable (length text)) 1 (subkeyWords request-key)
+      waiting = receiver method (Variable (length text)) 1 (subkeyWords (request-key .bytes))
 
       -- the key that the state holds as words
       key-here : streamKey waiting ≡ request-key
@@ -285,9 +286,9 @@ module _ (method : ℕ) (key salt : List ℕ) (time : ℕ) (address : List ℕ) 
       request-given later valid pool out made place free room =
           let size : length text ≡ length address + 2 + padding + length payload = length-variablePart address padding payload in
           let used : length salt + 27 ≡ frontLength salts 0 = omega (arith, request-facts .salt-fits) in
-          let there : drop (length salt + 27) (request key salt time address padding payload ++ rest) ≡ body ++ rest =
+          let there : drop (length salt + 27) (request (cipherOf method) key salt time address padding payload ++ rest) ≡ body ++ rest =
           ap₂ drop used (request-split rest) ∙ behind-here in
-          let words : subkeyWords request-key ≡ next .subkey = sym (ap (λ (x : Sender). x .subkey) (request-facts .sizes .after)) in
+          let words : subkeyWords (request-key .bytes) ≡ next .subkey = sym (ap (λ (x : Sender). x .subkey) (request-facts .sizes .after)) in
           record {
             sealed-length = request-length;
             accepted =

@@ -11,13 +11,12 @@ use borrow.Author.Tests.{le-leb, leb-true}
 use Rattle.protocol.specs.declared.Refusal.{Refusal}
 use Rattle.protocol.specs.declared.Refusal.the-variants.{Settings, Replay, Full, More}
 use Rattle.protocol.specs.Method.{saltLength}
-use Rattle.protocol.specs.Subkey.{subkey}
 use Rattle.salt_pool.specs.declared.Met.{Met}
 use Rattle.salt_pool.specs.declared.Met.the-variants.{Room as Free, Replay as Known, Full as NoRoom}
 use Rattle.salt_pool.specs.Pool.{meet, store}
 use Rattle.salt_pool.proofs.MeetLaws.{meet-exactly}
 use Rattle.stream_pieces.specs.declared.Subkey.{Subkey}
-use Rattle.stream_pieces.specs.Pieces.{subkeyWords}
+use Rattle.stream_pieces.specs.Pieces.{subkeyWords, Keyed, saltedKey}
 use Rattle.stream_heads.specs.declared.FixedRead.{FixedRead}
 use Rattle.stream_heads.specs.declared.FixedRead.the-variants.{Read, Refused as Unread}
 use Rattle.stream_heads.specs.Heads.{frontLength, fixedOf, openFixed}
@@ -51,11 +50,11 @@ module _ (method : ℕ) (key : List ℕ) (clock : ℕ) (s pool : List ℕ) where
   abbrev n : ℕ
   n = saltLength method
 
-  abbrev k : List ℕ
-  k = subkey key (saltOf method s)
+  abbrev k : Keyed
+  k = saltedKey method key (saltOf method s)
 
   abbrev w : Subkey
-  w = subkeyWords k
+  w = subkeyWords (k .bytes)
 
   abbrev front-read : FixedRead
   front-read = openFixed k 0 clock (fixedOf n 0 s)

@@ -11,7 +11,7 @@ use lib.ListN.{length, take, drop}
 use borrow.Author.Tests.{eq-eqb, ne-eqb, eqb-true}
 use Rattle.octets.specs.Buffers.{same}
 use Rattle.octets.proofs.BufferLaws.{same-refl}
-use Rattle.protocol.specs.Method.{keyFits, keyLength, saltLength}
+use Rattle.protocol.specs.Method.{keyFits, keyLength, saltLength, cipherOf}
 use Rattle.protocol.specs.Subkey.{subkey}
 use Rattle.protocol.specs.Time.{timeValid}
 use Rattle.protocol.proofs.MethodLaws.{fits-sizes}
@@ -20,7 +20,7 @@ use Rattle.stream_seal.specs.declared.Sender.{Sender}
 use Rattle.stream_seal.specs.declared.Sealed.the-variants.{Bytes}
 use Rattle.stream_pieces.specs.Framing.{framingOf, isEmpty}
 use Rattle.stream_pieces.proofs.FramingLaws.{some-left}
-use Rattle.stream_pieces.specs.Pieces.{sealAt, openAt, subkeyWords, keyOf, maxChunk, lastCounter}
+use Rattle.stream_pieces.specs.Pieces.{sealAt, openAt, subkeyWords, keyOf, maxChunk, lastCounter, Keyed, keyed, saltedKey}
 use Rattle.stream_seal_heads.specs.HeadSealing.{front, responseOf, response, begun, sizesFit, responseAnswer}
 use Rattle.stream_open.specs.declared.Turn.the-variants.{Length, Payload}
 use Rattle.stream_heads.specs.declared.FixedRead.the-variants.{Read}
@@ -69,8 +69,8 @@ module _ (method : ℕ) (key salt binding : List ℕ) (time : ℕ) (payload : Li
     allows : Within (framingOf method) (length payload)
     allows = (some-left (length payload) (response-facts .some), refl)
 
-    abbrev response-key : List ℕ
-    response-key = subkey key salt
+    abbrev response-key : Keyed
+    response-key = saltedKey method key salt
 
     abbrev salts : ℕ
     salts = saltLength method
@@ -85,11 +85,11 @@ module _ (method : ℕ) (key salt binding : List ℕ) (time : ℕ) (payload : Li
     binding-long = response-facts .binding-fits ∙ salt-long
 
     response-split : (rest : List ℕ)
-        → response key salt binding time payload ++ rest ≡ front response-key salt 1 time binding (length payload) ++ (response-body ++ rest)
+        → response (cipherOf method) key salt binding time payload ++ rest ≡ front response-key salt 1 time binding (length payload) ++ (response-body ++ rest)
     unfolding response responseOf
     response-split rest = append-assoc (front response-key salt 1 time binding (length payload)) response-body rest
 
-    response-length : length (response key salt binding time payload) ≡ n
+    response-length : length (response (cipherOf method) key salt binding time payload) ≡ n
     unfolding response
     response-length = length-responseOf response-key salt binding time payload ∙ sym (response-facts .sizes .count)
 
@@ -129,36 +129,36 @@ module _ (method : ℕ) (key salt binding : List ℕ) (time : ℕ) (payload : Li
           (response-facts .sizes .small)
 
       head-accepted : (later : ℕ) → timeValid time later ≡ true
-          → responseAt method (subkeyWords response-key) response-key later salts binding all
+          → responseAt method (subkeyWords (response-key .bytes)) response-key later salts binding all
           ≡ Answered (record { time = time; length = length payload; used = frontLength salts salts })
-          (receiver method (Payload (length payload)) 1 (subkeyWords response-key))
+          (receiver method (Payload (length payload)) 1 (subkeyWords (response-key .bytes)))
       unfolding responseAt boundOf
       head-accepted later valid =
           let ours = ap (λ (x : List ℕ). same x binding) binding-here ∙ same-refl binding in
           let accepted =
           Answered (record { time = time; length = length payload; used = frontLength salts salts })
-          (receiver method (Payload (length payload)) 1 (subkeyWords response-key)) in
-          (λ i. boundAs method (subkeyWords response-key) (frontLength salts salts) (ours i) (header-here later valid i))
+          (receiver method (Payload (length payload)) 1 (subkeyWords (response-key .bytes))) in
+          (λ i. boundAs method (subkeyWords (response-key .bytes)) (frontLength salts salts) (ours i) (header-here later valid i))
           ∙ ap (λ (b : Bool). cond b (NoResponse Empty) accepted) (response-facts .some)
 
       response-accepted : (later : ℕ) → timeValid time later ≡ true
           → openedResponse method key later binding all
           ≡ Answered (record { time = time; length = length payload; used = frontLength salts salts })
-          (receiver method (Payload (length payload)) 1 (subkeyWords response-key))
+          (receiver method (Payload (length payload)) 1 (subkeyWords (response-key .bytes)))
       unfolding openedResponse
       response-accepted later valid =
           (λ i. cond (response-facts .fits i && eq-eqb (length binding) salts binding-long i)
           (cond (whole-here i)
-          (responseAt method (subkeyWords (subkey key (salt-here i))) (subkey key (salt-here i)) later salts binding all)
+          (responseAt method (subkeyWords (subkey key (salt-here i))) (saltedKey method key (salt-here i)) later salts binding all)
           (NoResponse (More (frontLength salts salts)))) (NoResponse Settings))
           ∙ head-accepted later valid
 
       -- the payload's step
-      same-key : keyOf (subkeyWords response-key) (keyLength method) ≡ response-key
+      same-key : keyed (cipherOf method) (keyOf (subkeyWords (response-key .bytes)) (keyLength method)) ≡ response-key
       same-key = stream-key method key salt (response-facts .fits)
 
-      behind-keyed : drop (frontLength salts salts) all ≡ sealAt (keyOf (subkeyWords response-key) (keyLength method)) 1 payload ++ rest
-      behind-keyed = behind-here ∙ ap (λ (x : List ℕ). sealAt x 1 payload ++ rest) (sym same-key)
+      behind-keyed : drop (frontLength salts salts) all ≡ sealAt (keyed (cipherOf method) (keyOf (subkeyWords (response-key .bytes)) (keyLength method))) 1 payload ++ rest
+      behind-keyed = behind-here ∙ ap (λ (x : Keyed). sealAt x 1 payload ++ rest) (sym same-key)
 
       one-usable : 1 ≡ lastCounter → ⊥
       one-usable e = omega (arith, e)
@@ -167,10 +167,10 @@ module _ (method : ℕ) (key salt binding : List ℕ) (time : ℕ) (payload : Li
           → ResponseBack method key salt binding time payload n next later rest out
       response-given later valid out h =
           let used : length salt + 27 + length binding ≡ frontLength salts salts = omega (arith, salt-long, binding-long) in
-          let there : drop (length salt + 27 + length binding) (response key salt binding time payload ++ rest)
-          ≡ sealAt (keyOf (subkeyWords response-key) (keyLength method)) 1 payload ++ rest =
+          let there : drop (length salt + 27 + length binding) (response (cipherOf method) key salt binding time payload ++ rest)
+          ≡ sealAt (keyed (cipherOf method) (keyOf (subkeyWords (response-key .bytes)) (keyLength method))) 1 payload ++ rest =
           ap₂ drop used (response-split rest) ∙ behind-keyed in
-          let words : subkeyWords response-key ≡ next .subkey = sym (ap (λ (x : Sender). x .subkey) (response-facts .sizes .after)) in
+          let words : subkeyWords (response-key .bytes) ≡ next .subkey = sym (ap (λ (x : Sender). x .subkey) (response-facts .sizes .after)) in
           record {
             sealed-length = response-length;
             accepted =
@@ -179,15 +179,15 @@ module _ (method : ℕ) (key salt binding : List ℕ) (time : ℕ) (payload : Li
                 (receiver method (Payload (length payload)) 1 (words i)));
             payload-read =
                 (λ i. stepAnswer (receiver method (Payload (length payload)) 1 (sym words i)) (there i) (length out))
-                ∙ payload-step (framingOf method) method 1 (subkeyWords response-key) known-method one-usable payload rest allows (length out) h;
+                ∙ payload-step (framingOf method) method 1 (subkeyWords (response-key .bytes)) known-method one-usable payload rest allows (length out) h;
             payload-written =
                 (λ i. stepOut (receiver method (Payload (length payload)) 1 (sym words i)) (there i) out)
-                ∙ payload-out (framingOf method) method 1 (subkeyWords response-key) known-method one-usable payload rest allows out h;
+                ∙ payload-out (framingOf method) method 1 (subkeyWords (response-key .bytes)) known-method one-usable payload rest allows out h;
             payload-next = λ i. receiver (sym (response-facts .sizes .after) i .method) Length (sym (response-facts .sizes .after) i .counter) (next .subkey);
             counter-two = ap (λ (x : Sender). x .counter) (response-facts .sizes .after);
             left =
                 ap (drop (length payload + 16)) there
-                ∙ sent-behind (framingOf method) method 1 (subkeyWords response-key) known-method one-usable payload rest (length payload) refl;
+                ∙ sent-behind (framingOf method) method 1 (subkeyWords (response-key .bytes)) known-method one-usable payload rest (length payload) refl;
           }
 
 pub response-back : ResponsesGivenBack

@@ -9,13 +9,13 @@ use lib.ListN.{length}
 use borrow.Author.Tests.{leb-false, eqb-true}
 use Rattle.protocol.specs.declared.Refusal.the-variants.{Replay}
 use Rattle.protocol.specs.Method.{keyFits, saltLength}
-use Rattle.protocol.specs.Subkey.{subkey}
 use Rattle.salt_pool.specs.declared.Met.{Met}
 use Rattle.salt_pool.specs.declared.Met.the-variants.{Room as Free, Replay as Known, Full as NoRoom}
 use Rattle.salt_pool.specs.Pool.{poolWords, lawful, meet}
 use Rattle.salt_pool.specs.Runs.{Item, nextBy, next, run, Forward}
 use Rattle.salt_pool.proofs.StoreLaws.{lawful-store}
 use Rattle.salt_pool.proofs.RunLaws.{never-twice-forward}
+use Rattle.stream_pieces.specs.Pieces.{Keyed, saltedKey}
 use Rattle.stream_open.specs.declared.Receiver.{Receiver}
 use Rattle.stream_heads.specs.declared.FixedRead.{FixedRead}
 use Rattle.stream_heads.specs.declared.FixedRead.the-variants.{Read, Refused as Unread}
@@ -118,8 +118,8 @@ module _ (method : ℕ) (key : List ℕ) where
 
   module _ (pool : List ℕ) (c : FrontCall) (fits : settings method (length key) pool ≡ true)
       (kept : meet pool (c .clock) (saltOf method (c .bytes)) ≡ Known) where
-    abbrev stream-key : List ℕ
-    stream-key = subkey key (saltOf method (c .bytes))
+    abbrev stream-key : Keyed
+    stream-key = saltedKey method key (saltOf method (c .bytes))
 
     abbrev front-read : FixedRead
     front-read = openFixed stream-key 0 (c .clock) (fixedOf (saltLength method) 0 (c .bytes))

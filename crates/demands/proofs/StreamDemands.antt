@@ -14,14 +14,13 @@ use Rattle.protocol.specs.declared.Refusal.{Refusal}
 use Rattle.protocol.specs.declared.Refusal.the-variants.{Settings, Length as TooLong, Room, NotAuthentic, Malformed, WrongType, WrongTime, Replay, Full, More, Counter, Argument, Binding, Empty}
 use Rattle.protocol.specs.Refusal.{refusalNumber, endsStream}
 use Rattle.protocol.specs.Orders.{among}
-use Rattle.protocol.specs.Method.{keyFits, keyLength, saltLength}
-use Rattle.protocol.specs.Subkey.{subkey}
+use Rattle.protocol.specs.Method.{keyFits, keyLength, saltLength, cipherOf}
 use Rattle.socks5.specs.Address.{isAddress}
 use Rattle.stream_seal.specs.declared.Sender.{Sender}
 use Rattle.stream_seal.specs.declared.Sealed.{Sealed}
 use Rattle.stream_seal.specs.declared.Sealed.the-variants.{Bytes, Refused as Unsealed}
 use Rattle.stream_pieces.specs.Framing.{framingOf, isEmpty}
-use Rattle.stream_pieces.specs.Pieces.{openAt, maxChunk, lastCounter}
+use Rattle.stream_pieces.specs.Pieces.{openAt, maxChunk, lastCounter, saltedKey}
 use Rattle.stream_pieces.proofs.FramingLaws.{empty-zero}
 use Rattle.stream_seal.specs.Sealing.{moved, sizeAnswer, framedAnswer, chunkAnswer}
 use Rattle.stream_seal_heads.specs.HeadSealing.{variableLength, request, response, begun, sizesFit, paddingLawful, requestAnswer, responseAnswer}
@@ -301,30 +300,30 @@ among-response method key salt binding payload room =
     (sealed-denied responseSealer (isEmpty payload) _ Empty
     (among-sizes responseSealer refl refl maxChunk payload (length salt + 27 + length binding) room (begun method key salt)) refl) refl
 
-length-request : (key salt : List ℕ) (time : ℕ) (address : List ℕ) (padding : ℕ) (payload : List ℕ)
-    → length (request key salt time address padding payload) ≡ length salt + 27 + variableLength (length address) padding (length payload) + 16
+length-request : (method : ℕ) (key salt : List ℕ) (time : ℕ) (address : List ℕ) (padding : ℕ) (payload : List ℕ)
+    → length (request (cipherOf method) key salt time address padding payload) ≡ length salt + 27 + variableLength (length address) padding (length payload) + 16
 unfolding request
-length-request key salt time address padding payload = length-requestAt (subkey key salt) salt time address padding payload
+length-request method key salt time address padding payload = length-requestAt (saltedKey method key salt) salt time address padding payload
 
-length-response : (key salt binding : List ℕ) (time : ℕ) (payload : List ℕ)
-    → length (response key salt binding time payload) ≡ length salt + 27 + length binding + length payload + 16
+length-response : (method : ℕ) (key salt binding : List ℕ) (time : ℕ) (payload : List ℕ)
+    → length (response (cipherOf method) key salt binding time payload) ≡ length salt + 27 + length binding + length payload + 16
 unfolding response
-length-response key salt binding time payload = length-responseOf (subkey key salt) salt binding time payload
+length-response method key salt binding time payload = length-responseOf (saltedKey method key salt) salt binding time payload
 
 pub seal-keeps : SealersKeep
 seal-keeps =
     record {
       requests = λ method key salt time address padding payload out. keeps requestSealer
-          (requestAnswer method key salt address padding (length payload) (length out)) (request key salt time address padding payload) out
+          (requestAnswer method key salt address padding (length payload) (length out)) (request (cipherOf method) key salt time address padding payload) out
           (among-request method key salt address padding (length payload) (length out))
-          (λ n next e. sized-length _ _ _ _ _ n next (request key salt time address padding payload)
+          (λ n next e. sized-length _ _ _ _ _ n next (request (cipherOf method) key salt time address padding payload)
           (requests method key salt address padding (length payload) (length out) n next e .sizes)
-          (length-request key salt time address padding payload));
+          (length-request method key salt time address padding payload));
       responses = λ method key salt binding time payload out. keeps responseSealer
-          (responseAnswer method key salt binding (length payload) (length out)) (response key salt binding time payload) out
+          (responseAnswer method key salt binding (length payload) (length out)) (response (cipherOf method) key salt binding time payload) out
           (among-response method key salt binding (length payload) (length out))
-          (λ n next e. sized-length _ _ _ _ _ n next (response key salt binding time payload)
-          (responds method key salt binding (length payload) (length out) n next e .sizes) (length-response key salt binding time payload));
+          (λ n next e. sized-length _ _ _ _ _ n next (response (cipherOf method) key salt binding time payload)
+          (responds method key salt binding (length payload) (length out) n next e .sizes) (length-response method key salt binding time payload));
       chunks = λ s payload out. chunk-keeps chunkSealer (framingOf (s .method)) refl refl refl refl (λ n. inr refl) s payload out;
     }
 

@@ -13,12 +13,12 @@ use lib.Seq.{take-at, drop-at, drop-drop, drop-append-seam}
 use borrow.Author.Tests.{eq-eqb, le-leb}
 use Rattle.octets.specs.Numbers.{be, toBe}
 use Rattle.octets.proofs.NumberLaws.{length-toBe, be-toBe, be-front}
-use Rattle.protocol.specs.Method.{keyFits, keyLength}
+use Rattle.protocol.specs.Method.{keyFits, keyLength, cipherOf}
 use Rattle.protocol.specs.Subkey.{subkey}
 use Rattle.protocol.specs.Time.{timeValid}
 use Rattle.protocol.proofs.MethodLaws.{fits-sizes}
 use Rattle.protocol.specs.declared.Refusal.the-variants.{NotAuthentic, WrongType, WrongTime}
-use Rattle.stream_pieces.specs.Pieces.{sealAt, authenticAt, openAt, subkeyWords, keyOf, maxChunk}
+use Rattle.stream_pieces.specs.Pieces.{sealAt, authenticAt, openAt, subkeyWords, keyOf, maxChunk, Keyed, keyed, saltedKey}
 use Rattle.stream_seal_heads.specs.HeadSealing.{fixedPart, front}
 use Rattle.stream_heads.specs.declared.FixedRead.the-variants.{Read, Refused as Unread}
 use Rattle.stream_heads.specs.Heads.{frontLength, fixedOf, fieldsOf, readFixed, openFixed}
@@ -26,12 +26,12 @@ use Rattle.stream_open_response.specs.Responses.{bindingOf}
 use Rattle.stream_pieces.proofs.LengthLaws.{length-sealAt}
 use Rattle.stream_seal_heads.proofs.HeadLengthLaws.{length-fixedPart, length-front}
 use Rattle.stream_pieces.proofs.KeyLaws.{length-subkey, octets-subkey, words-of-either, subkey-back}
-use Rattle.stream_chunks.proofs.ChunkBackLaws.{piece-back}
+use Rattle.stream_pieces.proofs.PieceLaws.{piece-back}
 
 -- ---- the front of a head: its salt and its fixed header
 
 -- behind a salt of n bytes, with a binding of b bytes; a length and a time that fit their bytes
-module _ (k salt : List ℕ) (kind time : ℕ) (binding : List ℕ) (size : ℕ) (rest : List ℕ) (n b : ℕ)
+module _ (k : Keyed) (salt : List ℕ) (kind time : ℕ) (binding : List ℕ) (size : ℕ) (rest : List ℕ) (n b : ℕ)
     (salt-long : length salt ≡ n) (binding-long : length binding ≡ b) (time-fits : time < 2 ^ 64) (size-fits : size ≤ maxChunk)
   where
     abbrev fixed : List ℕ
@@ -111,11 +111,12 @@ module _ (k salt : List ℕ) (kind time : ℕ) (binding : List ℕ) (size : ℕ)
 -- ---- the key of a stream, from the words that its state has
 
 pub stream-key : (method : ℕ) (key salt : List ℕ) → keyFits method (length key) ≡ true
-    → keyOf (subkeyWords (subkey key salt)) (keyLength method) ≡ subkey key salt
+    → keyed (cipherOf method) (keyOf (subkeyWords (subkey key salt)) (keyLength method)) ≡ saltedKey method key salt
 stream-key method key salt fits =
     let z = fits-sizes method (length key) fits in
     let short : length key ≤ 32 = ⊎-elim (λ e. omega (arith, e)) (λ e. omega (arith, e)) (z .either) in
     let n = length-subkey key salt short in
-    ap (keyOf (subkeyWords (subkey key salt))) (z .key-is ∙ sym n)
+    ap (keyed (cipherOf method))
+    (ap (keyOf (subkeyWords (subkey key salt))) (z .key-is ∙ sym n)
     ∙ subkey-back (subkey key salt) (octets-subkey key salt)
-    (words-of-either _ (⊎-elim (λ e. inl (n ∙ e)) (λ e. inr (n ∙ e)) (z .either)))
+    (words-of-either _ (⊎-elim (λ e. inl (n ∙ e)) (λ e. inr (n ∙ e)) (z .either))))

@@ -9,7 +9,7 @@ use lib.Seq.{length-take-le}
 use Rattle.octets.specs.Buffers.{put}
 use Rattle.octets.proofs.BufferLaws.{length-put}
 use Rattle.stream_pieces.specs.Framing.{framingOf}
-use Rattle.stream_pieces.specs.Pieces.{openAt}
+use Rattle.stream_pieces.specs.Pieces.{openAt, Keyed}
 use Rattle.stream_pieces.proofs.LengthLaws.{length-openAt}
 use Rattle.stream_open.specs.declared.Turn.{Turn}
 use Rattle.stream_open.specs.declared.Turn.the-variants.{Variable, Length, Payload, Ended}
@@ -42,7 +42,7 @@ step-empty-exactly-when st s room =
 
 -- ---- no payload is empty
 
-turn-some : (turn : Turn) (st : Receiver) (key : List ℕ) (counter : ℕ) (s : List ℕ) (room : ℕ) (c : Chunk)
+turn-some : (turn : Turn) (st : Receiver) (key : Keyed) (counter : ℕ) (s : List ℕ) (room : ℕ) (c : Chunk)
     → TurnOpens (framingOf (st .method)) key counter turn s room c → 0 < c .length
 turn-some Length st key counter s room c d = subst (λ (x : Chunk). 0 < x .length) (sym (d .1 .1)) (d .1 .0 .0)
 turn-some (Payload n) st key counter s room c d = subst (λ (x : Chunk). 0 < x .length) (sym (d .1 .1)) (d .1 .0 .0)

@@ -6,6 +6,7 @@ use Prim.Native.Nat.{ℕ, _+_, _*_, _≤_}
 use lib.Dec.{lit≤}
 use lib.ListN.{length, take, drop}
 use Rattle.octets.specs.Buffers.{put}
+use Rattle.protocol.specs.Method.{cipherOf}
 use Rattle.stream_pieces.specs.Framing.{framingOf}
 use Rattle.stream_pieces.specs.Pieces.{maxChunk}
 use Rattle.stream_seal_heads.specs.HeadSealing.{response}
@@ -40,7 +41,7 @@ unfolding answerTo writtenIn
 response-stream method key salt binding time payload room n next answered time-fits later valid space payloads o rest buffer h =
     let more = sentAll framingOf space next payloads ++ rest in
     let head = response-back method key salt binding time payload room n next answered time-fits later valid more buffer (h .0) in
-    let all = drop (length salt + 27 + length binding) (response key salt binding time payload ++ more) in
+    let all = drop (length salt + 27 + length binding) (response (cipherOf method) key salt binding time payload ++ more) in
     let waiting = receiver method (Payload (length payload)) 1 (next .subkey) in
     let f : Flow = record { stream = waiting; bytes = all; buffer = buffer } in
     let g : Flow = record { stream = partner next; bytes = more; buffer = put buffer 0 payload } in

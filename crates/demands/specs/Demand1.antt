@@ -8,6 +8,7 @@ use Prim.Native.Nat.{ℕ, _+_, _≤_, _<_}
 use lib.ListN.{length, drop}
 use Rattle.protocol.specs.declared.Refusal.{Refusal}
 use Rattle.protocol.specs.declared.Refusal.the-variants.{Settings, Argument}
+use Rattle.protocol.specs.Method.{cipherOf}
 use Rattle.protocol.specs.Refusal.{refusalNumber}
 use Rattle.session_table.specs.Table.{tableWords, newTable, makeLawful, made}
 use Rattle.salt_pool.specs.Pool.{makeLawful as makeLawfulPool, made as madePool}
@@ -44,9 +45,9 @@ pub record SealKeeps (sender : Sender) (a : Sealed) (text out : List ℕ) : Type
 
 abbrev pub DatagramsSealed : Type 0
 DatagramsSealed =
-    (method : ℕ) (key : List ℕ) (sender : Sender) (time : ℕ) (address : List ℕ) (padding : ℕ) (payload out : List ℕ)
-    → SealKeeps sender (sealAnswer method (length key) sender address padding (length payload) (length out))
-    (datagram key sender time address padding payload) out
+    (method : ℕ) (key nonce : List ℕ) (sender : Sender) (time : ℕ) (address : List ℕ) (padding : ℕ) (payload out : List ℕ)
+    → SealKeeps sender (sealAnswer method (length key) (length nonce) sender address padding (length payload) (length out))
+    (datagram (cipherOf method) key nonce sender time address padding payload) out
 
 -- ---- beginning a sending session: a client's always begins; a server's begins, or is refused with 1 or 12, each exactly where
 -- `ReplyBeginsExactly` says

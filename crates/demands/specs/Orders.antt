@@ -3,7 +3,7 @@
 -- its value where none does. Numbers, sizes and places are written out, as the scope has them.
 -- Assumes nothing.
 use mathlib.Core.Path.{_≡_}
-use mathlib.Core.Bool.{Bool, true, false, not, _&&_, _||_}
+use mathlib.Core.Bool.{Bool, true, false, cond, not, _&&_, _||_}
 use mathlib.Core.List.{List, [], _∷_}
 use mathlib.Core.Option.{Option, none, some}
 use Prim.Native.Nat.{ℕ, _+_, _-_, _^_}
@@ -14,7 +14,7 @@ use Rattle.octets.specs.Numbers.{be}
 use Rattle.session_record.specs.declared.Peer.{Peer}
 use Rattle.session_table.specs.Table.{recordAt, lawful, freshIn, sessionPlace, freePlace}
 use Rattle.session_book.specs.Call.{Answer, refused, opened}
-use Rattle.protocol.specs.Method.{saltLength}
+use Rattle.protocol.specs.Method.{saltLength, cipherOf}
 use Rattle.protocol.specs.Orders.{Rule, rule, more, Said, gives, refuses, first, refusesWith}
 use Rattle.protocol.specs.Subkey.{subkey}
 use Rattle.protocol.specs.Time.{timeValid}
@@ -33,15 +33,15 @@ use Rattle.datagram_seal.specs.declared.Sealed.the-variants.{Datagram, Refused 
 use Rattle.datagram_seal.specs.Sealing.{sealAnswer}
 use Rattle.reply_session.specs.Beginning.{replyBegun}
 use Rattle.datagram_read.specs.declared.Header.{Header}
-use Rattle.datagram_read.specs.Opening.{sessionOf, packetOf}
-use Rattle.datagram_open.specs.Deciding.{plainOf, openAnswer}
+use Rattle.datagram_read.specs.Opening.{plainOf, sessionOf, packetOf}
+use Rattle.datagram_open.specs.Deciding.{openAnswer}
 use Rattle.salt_pool.specs.declared.Met.{Met}
 use Rattle.salt_pool.specs.declared.Met.the-variants.{Room, Replay, Full}
 use Rattle.salt_pool.specs.Pool.{meet, lawful as lawfulPool}
 use Rattle.stream_seal.specs.declared.Sender.{Sender}
 use Rattle.stream_seal.specs.declared.Sealed.{Sealed}
 use Rattle.stream_chunks.specs.Orders.{isEnded, textBytes, dueBytes, lengthTold, saidStep, saidPiece}
-use Rattle.stream_pieces.specs.Pieces.{authenticAt, openAt, subkeyWords}
+use Rattle.stream_pieces.specs.Pieces.{authenticAt, openAt, subkeyWords, Keyed, saltedKey}
 use Rattle.stream_seal.specs.Sealing.{chunkAnswer}
 use Rattle.stream_seal_heads.specs.HeadSealing.{requestAnswer, responseAnswer}
 use Rattle.stream_open.specs.declared.Turn.{Turn}
@@ -66,12 +66,16 @@ use Rattle.demands.specs.Datagrams.{tagGood}
 
 -- ---- settings
 
+-- methods 3 to 5
+abbrev pub withChaCha : ℕ → Bool
+withChaCha method = eqb method 3 || (eqb method 4 || eqb method 5)
+
 -- there is no such method, or the key has another length than its own
 abbrev pub otherMethod : ℕ → Bool
-otherMethod method = not (eqb method 1 || eqb method 2)
+otherMethod method = not (eqb method 1 || (eqb method 2 || withChaCha method))
 
 abbrev pub otherKey : (method k : ℕ) → Bool
-otherKey method k = not (eqb method 1 && eqb k 16 || eqb method 2 && eqb k 32)
+otherKey method k = not (eqb method 1 && eqb k 16 || (eqb method 2 || withChaCha method) && eqb k 32)
 
 -- ---- addresses
 
@@ -84,7 +88,16 @@ abbrev pub addressIn : Parsed → Address
 addressIn (Found a) = a
 addressIn Malformed = record { target = V4 0; port = 0; end = 0 }
 
--- ---- opening a datagram: 1, 2, 3, 4, 5 (under 11 bytes, or 19 from a server), 6, 7, 13, 5 (padding, address), 8, 9
+-- ---- opening a datagram: 1, 2, 3, 4, 5 (under 11 bytes, or 19 from a server; by methods 3 to 5 under 27 or 35), 6, 7, 13, 5 (padding,
+-- address), 8, 9
+
+-- what a datagram has besides its plaintext: a separate header and a tag of 16 bytes each, or a nonce of 24 and a tag
+abbrev pub besides : ℕ → ℕ
+besides method = cond (withChaCha method) 40 32
+
+-- where the main header starts in the plaintext: behind session ID and packet ID, where they stand there
+abbrev pub mainAt : ℕ → ℕ
+mainAt method = cond (withChaCha method) 16 0
 
 -- a server's call opens clients' datagrams, a client's those of its server
 abbrev pub headerBytes : Option ℕ → ℕ
@@ -117,27 +130,33 @@ saidOpened (refused n) = refuses n 0
 
 module _ (method : ℕ) (key : List ℕ) (client : Option ℕ) (clock : ℕ) (s t out : List ℕ) where
   abbrev plain : List ℕ
-  plain = plainOf key s
+  plain = plainOf (cipherOf method) key s
+
+  abbrev session : ℕ
+  session = sessionOf (cipherOf method) key s
+
+  abbrev packet : ℕ
+  packet = packetOf (cipherOf method) key s
 
   abbrev padding : ℕ
-  padding = be 2 (drop (headerBytes client - 2) plain)
+  padding = be 2 (drop (mainAt method + headerBytes client - 2) plain)
 
   abbrev address : Parsed
-  address = parseAt plain (headerBytes client + padding)
+  address = parseAt plain (mainAt method + headerBytes client + padding)
 
   abbrev pub openOrder : List Rule
   openOrder =
       rule 1 (not (lawful t) || otherKey method (length key))
-      ∷ rule 2 (ltb (length s) 32 || ltb 65507 (length s))
-      ∷ rule 3 (ltb (length out) (length s - 32))
-      ∷ rule 4 (not (tagGood key s))
-      ∷ rule 5 (ltb (length plain) (headerBytes client))
-      ∷ rule 6 (not (eqb (getD plain 0 0) (typeByte client)))
-      ∷ rule 7 (not (timeValid (be 8 (drop 1 plain)) clock))
-      ∷ rule 13 (othersDatagram client (be 8 (drop 9 plain)))
+      ∷ rule 2 (ltb (length s) (besides method) || ltb 65507 (length s))
+      ∷ rule 3 (ltb (length out) (length s - besides method))
+      ∷ rule 4 (not (tagGood method key s))
+      ∷ rule 5 (ltb (length plain) (mainAt method + headerBytes client))
+      ∷ rule 6 (not (eqb (getD plain (mainAt method) 0) (typeByte client)))
+      ∷ rule 7 (not (timeValid (be 8 (drop (mainAt method + 1) plain)) clock))
+      ∷ rule 13 (othersDatagram client (be 8 (drop (mainAt method + 9) plain)))
       ∷ rule 5 (noAddress address)
-      ∷ rule 8 (notFresh (sessionPlace t clock (sessionOf key s)) t (packetOf key s))
-      ∷ rule 9 (noRoom (sessionPlace t clock (sessionOf key s)) (freePlace t clock))
+      ∷ rule 8 (notFresh (sessionPlace t clock session) t packet)
+      ∷ rule 9 (noRoom (sessionPlace t clock session) (freePlace t clock))
       ∷ []
 
   abbrev pub openedHeader : Header
@@ -145,9 +164,9 @@ module _ (method : ℕ) (key : List ℕ) (client : Option ℕ) (clock : ℕ) (s 
       record {
         target = addressIn address .target;
         port = addressIn address .port;
-        session = sessionOf key s;
-        packet = packetOf key s;
-        time = be 8 (drop 1 plain);
+        session = session;
+        packet = packet;
+        time = be 8 (drop (mainAt method + 1) plain);
         padding = padding;
         payload = addressIn address .end;
       }
@@ -175,8 +194,8 @@ module _ (method : ℕ) (key : List ℕ) (clock : ℕ) (s pool : List ℕ) where
   abbrev salt : List ℕ
   salt = take n s
 
-  abbrev k : List ℕ
-  k = subkey key salt
+  abbrev k : Keyed
+  k = saltedKey method key salt
 
   abbrev fixedPiece : List ℕ
   fixedPiece = take 27 (drop n s)
@@ -201,7 +220,7 @@ module _ (method : ℕ) (key : List ℕ) (clock : ℕ) (s pool : List ℕ) where
   abbrev pub requestOpened : Request × Receiver
   requestOpened = (
     record { time = be 8 (drop 1 fixed); length = size; used = n + 27 },
-    record { method = method; turn = Variable size; counter = 1; subkey = subkeyWords k },
+    record { method = method; turn = Variable size; counter = 1; subkey = subkeyWords (k .bytes) },
   )
 
 -- ---- then the variable header: 1, 4 (ended), 10, 3, 4, 5
@@ -271,8 +290,8 @@ module _ (method : ℕ) (key : List ℕ) (clock : ℕ) (requestSalt s : List ℕ
   abbrev saltBytes : ℕ
   saltBytes = saltLength method
 
-  abbrev streamKeyOf : List ℕ
-  streamKeyOf = subkey key (take saltBytes s)
+  abbrev streamKeyOf : Keyed
+  streamKeyOf = saltedKey method key (take saltBytes s)
 
   abbrev headPiece : List ℕ
   headPiece = take (27 + saltBytes) (drop saltBytes s)
@@ -297,7 +316,7 @@ module _ (method : ℕ) (key : List ℕ) (clock : ℕ) (requestSalt s : List ℕ
   abbrev pub responseOpened : Response × Receiver
   responseOpened = (
     record { time = be 8 (drop 1 head); length = firstPayload; used = saltBytes + 27 + saltBytes },
-    record { method = method; turn = Payload firstPayload; counter = 1; subkey = subkeyWords streamKeyOf },
+    record { method = method; turn = Payload firstPayload; counter = 1; subkey = subkeyWords (streamKeyOf .bytes) },
   )
 
 -- ---- a step: 1, 4 (ended), 11, 10, 3, 4, 14 (a length of 0)
@@ -353,14 +372,15 @@ abbrev pub saidSealed : SealedDatagram → Said ℕ
 saidSealed (Datagram n) = gives n
 saidSealed (NoDatagram r) = refusesWith r
 
-module _ (method k : ℕ) (sender : Session) (address : List ℕ) (padding payload room : ℕ) where
-  -- separate header, main header, padding, address, payload, tag
+module _ (method k nonce : ℕ) (sender : Session) (address : List ℕ) (padding payload room : ℕ) where
+  -- separate header or nonce, and tag; the IDs that stand in the plaintext; main header, padding, address, payload
   abbrev pub datagramBytes : ℕ
-  datagramBytes = 16 + (ownHeader (sender .side) + padding + length address + payload) + 16
+  datagramBytes = besides method + (mainAt method + ownHeader (sender .side) + padding + length address + payload)
 
+  -- 1 also for a nonce that has not 24 bytes, by methods 3 to 5
   abbrev pub sealOrder : List Rule
   sealOrder =
-      rule 1 (otherKey method k)
+      rule 1 (otherKey method k || withChaCha method && not (eqb nonce 24))
       ∷ rule 12 (not (isAddress address) || sameIds (sender .side) (sender .id))
       ∷ rule 11 (eqb (sender .packet) (2 ^ 64 - 1))
       ∷ rule 2 (ltb 65507 datagramBytes)
@@ -457,9 +477,9 @@ pub record Orders : Type 0 where
       → saidResponse (openedResponse method key clock requestSalt s)
       ≡ first (responseOrder method key clock requestSalt s) (responseOpened method key clock requestSalt s)
   pub step : (st : Receiver) (s : List ℕ) (room : ℕ) → saidStep (stepAnswer st s room) ≡ first (stepOrder st s room) (chunkOpened st s room)
-  pub datagram-sealed : (method k : ℕ) (sender : Session) (address : List ℕ) (padding payload room : ℕ)
-      → saidSealed (sealAnswer method k sender address padding payload room)
-      ≡ first (sealOrder method k sender address padding payload room) (datagramBytes method k sender address padding payload room)
+  pub datagram-sealed : (method k nonce : ℕ) (sender : Session) (address : List ℕ) (padding payload room : ℕ)
+      → saidSealed (sealAnswer method k nonce sender address padding payload room)
+      ≡ first (sealOrder method k nonce sender address padding payload room) (datagramBytes method k nonce sender address padding payload room)
   pub request-sealed : (method : ℕ) (key salt address : List ℕ) (padding payload room : ℕ)
       → saidPiece (requestAnswer method key salt address padding payload room)
       ≡ first (sealRequestOrder method key salt address padding payload room) (requestSealed method key salt address padding payload room)

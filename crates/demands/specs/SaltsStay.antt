@@ -8,8 +8,8 @@ use Prim.Native.Nat.{ℕ, _+_, _≤_, _<_}
 use lib.ListN.{length}
 use Rattle.protocol.specs.declared.Refusal.{Refusal}
 use Rattle.protocol.specs.declared.Refusal.the-variants.{Replay, More}
-use Rattle.protocol.specs.Subkey.{subkey}
 use Rattle.protocol.specs.Method.{saltLength}
+use Rattle.stream_pieces.specs.Pieces.{saltedKey}
 use Rattle.stream_open.specs.declared.Receiver.{Receiver}
 use Rattle.stream_open_request.specs.declared.Request.{Request}
 use Rattle.stream_open_request.specs.declared.RequestOpened.{RequestOpened}
@@ -89,7 +89,7 @@ pub data ReplayOrEarlier (method : ℕ) (key : List ℕ) (c : FrontCall) (pool :
       → frontAnswer method key c pool ≡ Unaccepted (More (frontLength (saltLength method) 0)) → ReplayOrEarlier method key c pool
   front-refused : (r : Refusal) → ofFront r ≡ true
       → ((time size : ℕ)
-      → FixedOpens (subkey key (saltOf method (c .bytes))) 0 (c .clock) (fixedOf (saltLength method) 0 (c .bytes)) time size → ⊥)
+      → FixedOpens (saltedKey method key (saltOf method (c .bytes))) 0 (c .clock) (fixedOf (saltLength method) 0 (c .bytes)) time size → ⊥)
       → frontAnswer method key c pool ≡ Unaccepted r → ReplayOrEarlier method key c pool
 
 pub record NotTwice (method : ℕ) (key : List ℕ) (c : FrontCall) (pool : List ℕ) : Type 0 where

@@ -1,5 +1,5 @@
 -- Demand 2 for streams: what is sealed here is given back, head by head, chunk by chunk and as a whole; each piece has its own
--- nonce. For both methods at once.
+-- nonce. For all methods at once.
 -- Assumes nothing.
 use mathlib.Core.Path.{_≡_}
 use mathlib.Core.Bool.{true}
@@ -8,7 +8,7 @@ use Prim.Native.Nat.{ℕ, suc, _+_, _*_, _^_, _≤_, _<_}
 use lib.ListN.{length, drop}
 use Rattle.octets.specs.Buffers.{put}
 use Rattle.protocol.specs.declared.Refusal.the-variants.{Empty}
-use Rattle.protocol.specs.Method.{keyFits, keyLength, saltLength}
+use Rattle.protocol.specs.Method.{keyFits, keyLength, saltLength, cipherOf}
 use Rattle.protocol.specs.Time.{timeValid}
 use Rattle.socks5.specs.declared.Address.{Address}
 use Rattle.socks5.specs.declared.Parsed.the-variants.{Found}
@@ -60,21 +60,21 @@ between method next size = receiver method (Variable size) 1 (next .subkey)
 -- a request's head of n bytes, sealed at `time`, which left its sender as `next`, with `rest` behind it: the call for the front at the
 -- clock `later` on a pool with room for its salt in a place, and then the call for the variable header on the bytes behind it
 pub record RequestBack (method : ℕ) (key salt : List ℕ) (time : ℕ) (address : List ℕ) (padding : ℕ) (payload : List ℕ) (n : ℕ) (next : Sender) (later : ℕ) (rest pool : List ℕ) (place : ℕ) (out : List ℕ) : Type 0 where
-  pub sealed-length : length (request key salt time address padding payload) ≡ n
+  pub sealed-length : length (request (cipherOf method) key salt time address padding payload) ≡ n
   -- the front
-  pub accepted : openedRequest method key later (request key salt time address padding payload ++ rest) pool
+  pub accepted : openedRequest method key later (request (cipherOf method) key salt time address padding payload ++ rest) pool
       ≡ Accepted
       (record { time = time; length = variableLength (length address) padding (length payload); used = length salt + 27 })
       (between method next (variableLength (length address) padding (length payload)))
-  pub stored : requestPool method key later (request key salt time address padding payload ++ rest) pool ≡ store pool place later salt
+  pub stored : requestPool method key later (request (cipherOf method) key salt time address padding payload ++ rest) pool ≡ store pool place later salt
   -- the variable header
   pub target : Address
   pub target-sealed : parseAt address 0 ≡ Found target
   pub variable-read : variableAnswer (between method next (variableLength (length address) padding (length payload)))
-      (drop (length salt + 27) (request key salt time address padding payload ++ rest)) (length out)
+      (drop (length salt + 27) (request (cipherOf method) key salt time address padding payload ++ rest)) (length out)
       ≡ Header (sealedHeader (length address) target padding (length payload))
   pub text : variableOut (between method next (variableLength (length address) padding (length payload)))
-      (drop (length salt + 27) (request key salt time address padding payload ++ rest)) out
+      (drop (length salt + 27) (request (cipherOf method) key salt time address padding payload ++ rest)) out
       ≡ put out 0 (variablePart address padding payload)
   pub payload-there : drop (length address + 2 + padding) (variablePart address padding payload) ≡ payload
   -- a stream that goes on with a length, with counter 2, under the sender's subkey
@@ -85,7 +85,7 @@ pub record RequestBack (method : ℕ) (key salt : List ℕ) (time : ℕ) (addres
   -- the two use all of it
   pub used-all : length salt + 27 + (variableLength (length address) padding (length payload) + 16) ≡ n
   pub left : drop (variableLength (length address) padding (length payload) + 16)
-      (drop (length salt + 27) (request key salt time address padding payload ++ rest))
+      (drop (length salt + 27) (request (cipherOf method) key salt time address padding payload ++ rest))
       ≡ rest
 
 abbrev pub RequestsGivenBack : Type 0
@@ -101,22 +101,22 @@ RequestsGivenBack =
 -- a response's head of n bytes, sealed with its first payload at `time`, which left its sender as `next`, with `rest` behind
 -- it: the head's call at the clock `later`, with the request's salt, and then the payload's step
 pub record ResponseBack (method : ℕ) (key salt binding : List ℕ) (time : ℕ) (payload : List ℕ) (n : ℕ) (next : Sender) (later : ℕ) (rest out : List ℕ) : Type 0 where
-  pub sealed-length : length (response key salt binding time payload) ≡ n
-  pub accepted : openedResponse method key later binding (response key salt binding time payload ++ rest)
+  pub sealed-length : length (response (cipherOf method) key salt binding time payload) ≡ n
+  pub accepted : openedResponse method key later binding (response (cipherOf method) key salt binding time payload ++ rest)
       ≡ Answered (record { time = time; length = length payload; used = length salt + 27 + length binding })
       (receiver method (Payload (length payload)) 1 (next .subkey))
   pub payload-read : stepAnswer (receiver method (Payload (length payload)) 1 (next .subkey))
-      (drop (length salt + 27 + length binding) (response key salt binding time payload ++ rest)) (length out)
+      (drop (length salt + 27 + length binding) (response (cipherOf method) key salt binding time payload ++ rest)) (length out)
       ≡ Opened (record { used = length payload + 16; length = length payload })
   pub payload-written : stepOut (receiver method (Payload (length payload)) 1 (next .subkey))
-      (drop (length salt + 27 + length binding) (response key salt binding time payload ++ rest)) out
+      (drop (length salt + 27 + length binding) (response (cipherOf method) key salt binding time payload ++ rest)) out
       ≡ put out 0 payload
   -- a length is next, with counter 2
   pub payload-next : stepNext (receiver method (Payload (length payload)) 1 (next .subkey))
       (Opened (record { used = length payload + 16; length = length payload }))
       ≡ partner next
   pub counter-two : next .counter ≡ 2
-  pub left : drop (length payload + 16) (drop (length salt + 27 + length binding) (response key salt binding time payload ++ rest)) ≡ rest
+  pub left : drop (length payload + 16) (drop (length salt + 27 + length binding) (response (cipherOf method) key salt binding time payload ++ rest)) ≡ rest
 
 abbrev pub ResponsesGivenBack : Type 0
 ResponsesGivenBack =
@@ -156,7 +156,7 @@ pub record RequestStream (method : ℕ) (key salt : List ℕ) (time : ℕ) (addr
         stream = partner next;
         bytes =
             drop (variableLength (length address) padding (length payload) + 16)
-            (drop (length salt + 27) (request key salt time address padding payload ++ (sentAll framingOf space next payloads ++ rest)));
+            (drop (length salt + 27) (request (cipherOf method) key salt time address padding payload ++ (sentAll framingOf space next payloads ++ rest)));
         buffer = buffer;
       })
       payloads (senderAfter framingOf space next payloads) rest
@@ -177,7 +177,7 @@ pub record ResponseStream (method : ℕ) (key salt binding : List ℕ) (time : �
       (record {
         stream = receiver method (Payload (length payload)) 1 (next .subkey);
         bytes =
-            drop (length salt + 27 + length binding) (response key salt binding time payload ++ (sentAll framingOf space next payloads ++ rest));
+            drop (length salt + 27 + length binding) (response (cipherOf method) key salt binding time payload ++ (sentAll framingOf space next payloads ++ rest));
         buffer = buffer;
       })
       (payload ∷ payloads) (senderAfter framingOf space next payloads) rest

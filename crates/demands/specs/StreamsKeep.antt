@@ -11,7 +11,7 @@ use Rattle.protocol.specs.declared.Refusal.{Refusal}
 use Rattle.protocol.specs.declared.Refusal.the-variants.{Settings, NotAuthentic, Malformed, More}
 use Rattle.protocol.specs.Refusal.{refusalNumber}
 use Rattle.protocol.specs.Orders.{among}
-use Rattle.protocol.specs.Method.{keyLength, saltLength}
+use Rattle.protocol.specs.Method.{keyLength, saltLength, cipherOf}
 use Rattle.stream_pieces.specs.Framing.{framingOf}
 use Rattle.stream_seal.specs.declared.Sender.{Sender}
 use Rattle.stream_seal.specs.declared.Sealed.{Sealed}
@@ -176,9 +176,9 @@ pub data ResponseAnswered (a : ResponseOpened) : Type 0 where
 
 pub record SealersKeep : Type 0 where
   pub requests : (method : ℕ) (key salt : List ℕ) (time : ℕ) (address : List ℕ) (padding : ℕ) (payload out : List ℕ)
-      → SealKeeps requestSealer (requestAnswer method key salt address padding (length payload) (length out)) (request key salt time address padding payload) out
+      → SealKeeps requestSealer (requestAnswer method key salt address padding (length payload) (length out)) (request (cipherOf method) key salt time address padding payload) out
   pub responses : (method : ℕ) (key salt binding : List ℕ) (time : ℕ) (payload out : List ℕ)
-      → SealKeeps responseSealer (responseAnswer method key salt binding (length payload) (length out)) (response key salt binding time payload) out
+      → SealKeeps responseSealer (responseAnswer method key salt binding (length payload) (length out)) (response (cipherOf method) key salt binding time payload) out
   pub chunks : (s : Sender) (payload out : List ℕ)
       → SealKeeps chunkSealer (chunkAnswer s (length payload) (length out)) (chunk (senderKey s) (s .counter) payload) out
 

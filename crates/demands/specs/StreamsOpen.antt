@@ -18,7 +18,7 @@ use Rattle.socks5.specs.Address.{parseAt}
 use Rattle.salt_pool.specs.Pool.{store}
 use Rattle.salt_pool.specs.Runs.{Unkept, LowestFree}
 use Rattle.stream_pieces.specs.Framing.{framingOf}
-use Rattle.stream_pieces.specs.Pieces.{authenticAt, openAt, subkeyWords}
+use Rattle.stream_pieces.specs.Pieces.{authenticAt, openAt, subkeyWords, Keyed, saltedKey}
 use Rattle.stream_chunks.specs.Opens as chunks
 use Rattle.stream_chunks.specs.Opens.{PieceOpens}
 use Rattle.stream_heads.specs.Heads.{maxPadding, frontLength, fixedOf}
@@ -42,7 +42,7 @@ use Rattle.demands.specs.StreamsKeep.{saltOf, timeIn, lengthIn}
 -- ---- a head is accepted exactly when
 
 -- a sealed fixed header: its tag is good, it is of its type and of a valid time; and what it says
-pub record FixedOpens (key : List ℕ) (kind clock : ℕ) (s : List ℕ) (time size : ℕ) : Type 0 where
+pub record FixedOpens (key : Keyed) (kind clock : ℕ) (s : List ℕ) (time size : ℕ) : Type 0 where
   pub authentic : authenticAt key 0 s ≡ true
   pub right-type : getD (openAt key 0 s) 0 0 ≡ kind
   pub time-valid : timeValid time clock ≡ true
@@ -55,7 +55,7 @@ pub record RequestOpens (method : ℕ) (key : List ℕ) (clock : ℕ) (s pool : 
   pub front-whole : frontLength (saltLength method) 0 ≤ length s
   pub time : ℕ
   pub size : ℕ
-  pub fixed-opens : FixedOpens (subkey key (saltOf method s)) 0 clock (fixedOf (saltLength method) 0 s) time size
+  pub fixed-opens : FixedOpens (saltedKey method key (saltOf method s)) 0 clock (fixedOf (saltLength method) 0 s) time size
   -- the salt is not kept, and this is the lowest record that keeps none
   pub place : ℕ
   pub new-salt : Unkept pool clock (saltOf method s)
@@ -123,9 +123,9 @@ pub record ResponseOpens (method : ℕ) (key : List ℕ) (clock : ℕ) (requestS
   pub front-whole : frontLength (saltLength method) (saltLength method) ≤ length s
   pub time : ℕ
   pub size : ℕ
-  pub fixed-opens : FixedOpens (subkey key (saltOf method s)) 1 clock (fixedOf (saltLength method) (saltLength method) s) time size
+  pub fixed-opens : FixedOpens (saltedKey method key (saltOf method s)) 1 clock (fixedOf (saltLength method) (saltLength method) s) time size
   pub for-us : bindingOf (saltLength method)
-      (openAt (subkey key (saltOf method s)) 0 (fixedOf (saltLength method) (saltLength method) s))
+      (openAt (saltedKey method key (saltOf method s)) 0 (fixedOf (saltLength method) (saltLength method) s))
       ≡ requestSalt
   pub not-empty : 0 < size
   pub says : h ≡ record { time = time; length = size; used = frontLength (saltLength method) (saltLength method) }
@@ -145,9 +145,9 @@ ResponseExactlyWhen =
 pub record ResponseEmpty (method : ℕ) (key : List ℕ) (clock : ℕ) (requestSalt s : List ℕ) : Type 0 where
   pub front-whole : frontLength (saltLength method) (saltLength method) ≤ length s
   pub time : ℕ
-  pub fixed-opens : FixedOpens (subkey key (saltOf method s)) 1 clock (fixedOf (saltLength method) (saltLength method) s) time 0
+  pub fixed-opens : FixedOpens (saltedKey method key (saltOf method s)) 1 clock (fixedOf (saltLength method) (saltLength method) s) time 0
   pub for-us : bindingOf (saltLength method)
-      (openAt (subkey key (saltOf method s)) 0 (fixedOf (saltLength method) (saltLength method) s))
+      (openAt (saltedKey method key (saltOf method s)) 0 (fixedOf (saltLength method) (saltLength method) s))
       ≡ requestSalt
 
 abbrev pub ResponseEmptyExactlyWhen : Type 0

@@ -78,7 +78,7 @@ numberOf (Refused r) = refusalNumber r
 
 -- what a client's datagram of a time with an address is answered at a clock
 abbrev pub readAt : (clock time : ℕ) → List ℕ → ℕ
-readAt clock time address = numberOf (readMain Client clock 0 0 (plaintext Client time 0 address []))
+readAt clock time address = numberOf (readMain 0 Client clock 0 0 (plaintext Client time 0 address []))
 
 -- ---- tests of sessions
 

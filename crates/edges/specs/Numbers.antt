@@ -12,6 +12,8 @@ use lib.ListN.{length, getD, take, drop, replicate}
 use Rattle.octets.specs.Buffers.{same}
 use Rattle.aes.specs.Keyed.{nkOf}
 use Rattle.blake3.specs.Tree.{deriveKey}
+use Rattle.protocol.specs.declared.Cipher.{Cipher}
+use Rattle.protocol.specs.declared.Cipher.the-variants.{AesGcm, ChaChaPoly}
 use Rattle.protocol.specs.declared.Method.{Method}
 use Rattle.protocol.specs.declared.Numbered.{Numbered}
 use Rattle.protocol.specs.declared.Numbered.the-variants.{Known, Unknown}
@@ -34,12 +36,14 @@ use Rattle.session_book.specs.Call.{refused}
 use Rattle.session_book.specs.Demand3.{viewOfRecord}
 use Rattle.datagram_parts.specs.declared.Side.{Side}
 use Rattle.datagram_parts.specs.declared.Side.the-variants.{Client, Server}
-use Rattle.datagram_parts.specs.Headers.{separateHeader, nonce, typeOf, fixedPart, fixedLength, plaintext}
-use Rattle.datagram_parts.specs.Parts.{maxDatagram}
+use Rattle.datagram_parts.specs.Headers.{separateHeader, nonce, typeOf, fixedPart, fixedLength, plaintext, mainStart, sealedText}
+use Rattle.datagram_parts.specs.Parts.{maxDatagram, overhead, nonceFits}
 use Rattle.datagram_seal.specs.declared.Begun.the-variants.{Ready, Refused as NotBegun}
 use Rattle.datagram_seal.specs.declared.Sealed.the-variants.{Datagram, Refused as NoDatagram}
 use Rattle.datagram_seal.specs.Sealing.{sealedLength}
 use Rattle.reply_session.specs.Beginning.{replyBegun}
+use Rattle.datagram_read.specs.declared.Opened.{Opened}
+use Rattle.datagram_read.specs.declared.Opened.the-variants.{Datagram, Refused}
 use Rattle.datagram_read.specs.Opening.{readMain}
 use Rattle.datagram_open.specs.Deciding.{belongs}
 use Rattle.stream_pieces.specs.Pieces.{nonce as counterNonce, maxChunk, lastCounter}
@@ -83,9 +87,14 @@ bits (b ∷ bs) = cond b 1 0 ∷ bits bs
 
 -- ---- methods and refusals
 
--- number, key, salt and rounds
+-- double rounds of ChaCha; AES has none
+abbrev pub doubleRounds : Cipher → ℕ
+doubleRounds AesGcm = 0
+doubleRounds (ChaChaPoly n) = n
+
+-- number, key, salt, rounds and double rounds
 abbrev pub sizesOf : Numbered → List ℕ
-sizesOf (Known m) = m .number ∷ m .key ∷ m .salt ∷ m .rounds ∷ []
+sizesOf (Known m) = m .number ∷ m .key ∷ m .salt ∷ m .rounds ∷ doubleRounds (m .cipher) ∷ []
 sizesOf Unknown = []
 
 abbrev pub refusals : List Refusal
@@ -95,11 +104,14 @@ refusals =
 
 unfoldable pub methodFacts : List Fact
 methodFacts =
-    fact (sizesOf (methodOf 1)) (1 ∷ 16 ∷ 16 ∷ 10 ∷ [])
-    ∷ fact (sizesOf (methodOf 2)) (2 ∷ 32 ∷ 32 ∷ 14 ∷ [])
+    fact (sizesOf (methodOf 1)) (1 ∷ 16 ∷ 16 ∷ 10 ∷ 0 ∷ [])
+    ∷ fact (sizesOf (methodOf 2)) (2 ∷ 32 ∷ 32 ∷ 14 ∷ 0 ∷ [])
+    ∷ fact (sizesOf (methodOf 3)) (3 ∷ 32 ∷ 32 ∷ 20 ∷ 10 ∷ [])
+    ∷ fact (sizesOf (methodOf 4)) (4 ∷ 32 ∷ 32 ∷ 12 ∷ 6 ∷ [])
+    ∷ fact (sizesOf (methodOf 5)) (5 ∷ 32 ∷ 32 ∷ 8 ∷ 4 ∷ [])
     -- no other number is a method, nor is one that has 1 or 2 in its low bits
     ∷ fact (sizesOf (methodOf 0)) []
-    ∷ fact (sizesOf (methodOf 3)) []
+    ∷ fact (sizesOf (methodOf 6)) []
     ∷ fact (sizesOf (methodOf 257)) []
     ∷ fact (sizesOf (methodOf (2 ^ 32 + 1))) []
     ∷ fact (keyLength 1 ∷ keyLength 2 ∷ saltLength 1 ∷ saltLength 2 ∷ []) (16 ∷ 32 ∷ 16 ∷ 32 ∷ [])
@@ -216,8 +228,8 @@ poolFacts =
     ∷ fact (take 3 (pool.newPool 2)) (2 ∷ 0 ∷ 0 ∷ [])
     ∷ fact (pool.start 0 ∷ pool.start 1 ∷ pool.start 255 ∷ []) (1 ∷ 7 ∷ 1531 ∷ [])
     ∷ fact
-    (bits (pool.lawful (lent 1537 1) 1 ∷ pool.lawful (lent 1537 1) 2 ∷ pool.lawful (lent 1536 1) 1 ∷ pool.makeLawful 2 (lent 1537 0) ∷ pool.makeLawful 3 (lent 1537 0) ∷ []))
-    (1 ∷ 0 ∷ 0 ∷ 1 ∷ 0 ∷ [])
+    (bits (pool.lawful (lent 1537 1) 1 ∷ pool.lawful (lent 1537 1) 2 ∷ pool.lawful (lent 1536 1) 1 ∷ pool.makeLawful 2 (lent 1537 0) ∷ pool.makeLawful 5 (lent 1537 0) ∷ pool.makeLawful 6 (lent 1537 0) ∷ []))
+    (1 ∷ 0 ∷ 0 ∷ 1 ∷ 1 ∷ 0 ∷ [])
     -- in use, time, salt in four words, big-endian; of a salt of 16 bytes the last two are zeros
     ∷ fact (take 8 stored16) (1 ∷ 1 ∷ 1000 ∷ 0x0102030405060708 ∷ 0x090a0b0c0d0e0f10 ∷ 0 ∷ 0 ∷ 0 ∷ [])
     ∷ fact (take 6 (drop 7 (pool.store (pool.newPool 2) 1 1000 (salt16 ++ salt16))))
@@ -272,15 +284,27 @@ thousand = 0 ∷ 0 ∷ 0 ∷ 0 ∷ 0 ∷ 0 ∷ 3 ∷ 232 ∷ []
 
 -- what a header is answered at clock 1,000, by the opener of a side's datagrams
 abbrev pub answered : Side → List ℕ → ℕ
-answered side plain = numberOf (readMain side 1000 0 0 plain)
+answered side plain = numberOf (readMain 0 side 1000 0 0 plain)
+
+-- with ChaCha, where the plaintext begins with session ID and packet ID
+abbrev pub answeredInner : Side → List ℕ → ℕ
+answeredInner side plain = numberOf (readMain (mainStart (ChaChaPoly 10)) side 1000 0 0 plain)
+
+-- the place of the payload
+abbrev pub payloadAt : Opened → ℕ
+payloadAt (Datagram h) = h .payload
+payloadAt (Refused r) = 0
+
+abbrev pub inner : Side → List ℕ
+inner side = sealedText (ChaChaPoly 10) id18 5 side 1000 0 nameA []
 
 abbrev pub isSome : Option ℕ → Bool
 isSome (some id) = true
 isSome none = false
 
--- whether a datagram of n bytes names a session under a method and a key of 16 bytes
-abbrev pub names : (method n : ℕ) → Bool
-names method n = isSome (belongs method (replicate 16 0) (record { clock = 0; peer = home; datagram = replicate n 0; output = []; client = none }))
+-- whether a datagram of n bytes names a session under a method and a key of k bytes
+abbrev pub named : (method k n : ℕ) → Bool
+named method k n = isSome (belongs method (replicate k 0) (record { clock = 0; peer = home; datagram = replicate n 0; output = []; client = none }))
 
 unfoldable pub datagramFacts : List Fact
 datagramFacts =
@@ -293,7 +317,23 @@ datagramFacts =
     -- padding is zeros
     ∷ fact (plaintext Client 1000 2 nameA (7 ∷ [])) (fixedPart Client 1000 2 ++ (0 ∷ 0 ∷ 3 ∷ 1 ∷ 0x61 ∷ 0 ∷ 80 ∷ 7 ∷ []))
     -- a plaintext of 16 bytes, and a datagram of 48
-    ∷ fact (sealedLength Client 5 0 0 ∷ sealedLength (Server 0) 5 0 0 ∷ []) (48 ∷ 56 ∷ [])
+    ∷ fact (sealedLength AesGcm Client 5 0 0 ∷ sealedLength AesGcm (Server 0) 5 0 0 ∷ []) (48 ∷ 56 ∷ [])
+    -- with ChaCha: a nonce of 24 bytes and no other length, 40 bytes more than the plaintext, whose main header starts at 16; with an IPv4
+    -- address and no payload 74 bytes from a client
+    ∷ fact (bits (nonceFits (ChaChaPoly 10) 23 ∷ nonceFits (ChaChaPoly 10) 24 ∷ nonceFits (ChaChaPoly 10) 25 ∷ nonceFits AesGcm 0 ∷ [])) (0 ∷ 1 ∷ 0 ∷ 1 ∷ [])
+    ∷ fact (overhead AesGcm ∷ overhead (ChaChaPoly 10) ∷ mainStart AesGcm ∷ mainStart (ChaChaPoly 10) ∷ []) (32 ∷ 40 ∷ 0 ∷ 16 ∷ [])
+    ∷ fact (sealedLength (ChaChaPoly 10) Client 7 0 0 ∷ sealedLength (ChaChaPoly 10) (Server 0) 7 0 0 ∷ []) (74 ∷ 82 ∷ [])
+    ∷ fact (take 17 (inner Client)) (bytes18 ++ (0 ∷ 0 ∷ 0 ∷ 0 ∷ 0 ∷ 0 ∷ 0 ∷ 5 ∷ 0 ∷ []))
+    -- 26 bytes from a client and 34 from a server are too short, one more is not
+    ∷ number (answeredInner Client (replicate 16 9 ++ (1 ∷ replicate 9 0))) 5
+    ∷ number (answeredInner Client (replicate 16 9 ++ (1 ∷ replicate 10 0))) 6
+    ∷ number (answeredInner (Server 7) (replicate 16 9 ++ replicate 18 0)) 5
+    ∷ number (answeredInner (Server 7) (replicate 16 9 ++ replicate 19 0)) 6
+    ∷ number (answeredInner Client (inner Client)) 0
+    ∷ number (answeredInner (Server 7) (inner (Server 7))) 0
+    ∷ number (answeredInner (Server 7) (inner (Server 8))) 13
+    -- places count from the session ID
+    ∷ number (payloadAt (readMain (mainStart (ChaChaPoly 10)) Client 1000 0 0 (inner Client))) 32
     -- two faults, for each neighbouring pair of 5, 6, 7, 13, 5
     ∷ number (answered Client (1 ∷ replicate 9 0)) 5
     ∷ number (answered Client (1 ∷ replicate 10 0)) 6
@@ -308,7 +348,9 @@ datagramFacts =
     ∷ number (answered (Server 7) (fixedPart Client 1000 0 ++ replicate 8 0)) 6
     ∷ number (answered Client (fixedPart (Server 7) 1000 0)) 6
     -- a datagram of 16 bytes names a session, one of 15 none, and none does under a method that there is not
-    ∷ fact (bits (names 1 15 ∷ names 1 16 ∷ names 1 32 ∷ names 2 32 ∷ names 3 32 ∷ [])) (0 ∷ 1 ∷ 1 ∷ 0 ∷ 0 ∷ [])
+    ∷ fact (bits (named 1 16 15 ∷ named 1 16 16 ∷ named 1 16 32 ∷ named 2 16 32 ∷ named 6 16 32 ∷ [])) (0 ∷ 1 ∷ 1 ∷ 0 ∷ 0 ∷ [])
+    -- with ChaCha one of 47 bytes names none
+    ∷ fact (bits (named 3 32 16 ∷ named 4 32 32 ∷ named 5 32 47 ∷ [])) (0 ∷ 0 ∷ 0 ∷ [])
     ∷ []
 
 -- ---- streams
@@ -458,9 +500,14 @@ facts = methodFacts ++ (tableFacts ++ (poolFacts ++ (addressFacts ++ (datagramFa
 
 -- ---- the statement
 
--- what no number shows: the rounds of a method are those of AES for its key, and its salt is as long as its key
+-- what no number shows: the rounds of a method are those of AES for its key, or two for each double round of ChaCha, whose key has 32
+-- bytes, and its salt is as long as its key
+abbrev pub RoundsFit : Cipher → (rounds key : ℕ) → Type 0
+RoundsFit AesGcm rounds key = rounds ≡ nkOf key + 6
+RoundsFit (ChaChaPoly d) rounds key = (rounds ≡ 2 * d) × (key ≡ 32)
+
 abbrev pub MethodsFit : Type 0
-MethodsFit = (n : ℕ) (m : Method) → methodOf n ≡ Known m → (m .rounds ≡ nkOf (m .key) + 6) × (m .salt ≡ m .key)
+MethodsFit = (n : ℕ) (m : Method) → methodOf n ≡ Known m → RoundsFit (m .cipher) (m .rounds) (m .key) × (m .salt ≡ m .key)
 
 -- "shadowsocks 2022 session subkey"
 abbrev pub context : List ℕ

@@ -11,12 +11,12 @@ use borrow.Author.Tests.{leb-true, leb-false, ltb-true, ltb-false, eqb-true, eqb
 use Rattle.protocol.specs.declared.Refusal.the-variants.{Settings, Argument}
 use Rattle.socks5.specs.Address.{isAddress}
 use Rattle.datagram_parts.specs.Parts.{overheadOf}
-use Rattle.datagram_parts.proofs.OverheadLaws.{overhead-plain, overhead-extended, overhead-some, overhead-tells}
 use Rattle.plan.specs.declared.Capacity.{Capacity}
 use Rattle.plan.specs.declared.Capacity.the-variants.{Most, Refused as NoCapacity}
 use Rattle.plan.specs.Answers.{headOf, mostOf, limitAnswer, capacityAnswer}
 use Rattle.plan.proofs.AnswerLaws.{limit-over, limit-none, limit-small, limit-some, no-address, an-address, no-method, a-method}
 use Rattle.plan_demands.specs.Plans.{KnownMethod, besides, Arguments, Lawful}
+use Rattle.plan_demands.proofs.MethodLaws.{overhead-plain, overhead-extended, overhead-some, overhead-tells}
 
 false-true : {A : Type 0} → false ≡ true → A
 false-true e = absurd (let z : _≡_ {A = ℕ} 0 1 = cc in omega arith)
@@ -32,7 +32,7 @@ module _ (method : ℕ) (address : List ℕ) (k : KnownMethod method) where
       go : (b : Bool) → leb method 2 ≡ b → headOf method address ≡ besides method address
       go true e =
           let l = k .0 in
-          let o = overhead-plain method (λ z. omega arith) (leb-true method 2 e) in
+          let o = overhead-plain method l (leb-true method 2 e) in
           let h : headOf method address ≡ 32 + 11 + length address = omega arith in
           h ∙ by true e
       go false e =
@@ -96,7 +96,7 @@ module _ (method : ℕ) (address : List ℕ) (limit n : ℕ) where
   by-method : (b : Bool) → eqb (overheadOf method) 0 ≡ b → Cases
   by-method true e =
       let z = eqb-true (overheadOf method) 0 e in
-      unknown (λ k. let s = overhead-some method (k .0) (k .1) in omega arith) (sym (no-method method address limit n _ refl z))
+      unknown (λ k. overhead-some method (k .0) (k .1) z) (sym (no-method method address limit n _ refl z))
   by-method false e = by-address (eqb-false (overheadOf method) 0 e) _ refl
 
   pub cases : Cases

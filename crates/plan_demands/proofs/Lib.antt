@@ -1,4 +1,5 @@
 pub mod PlanLaws
+pub mod MethodLaws
 pub mod CaseLaws
 pub mod ExactlyLaws
 pub mod DemandLaws

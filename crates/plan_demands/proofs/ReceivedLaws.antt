@@ -10,10 +10,11 @@ use native.Mathlib.Omega.{arith}
 use native.Mathlib.Nat.{max-eq-right}
 use lib.Dec.{leb, ltb, eqb}
 use lib.ListN.{length, take, drop, replicate, length-replicate, length-drop, take-append-drop}
-use lib.Seq.{take-at, drop-at, length-take-le}
+use lib.Seq.{take-at, length-take-le}
 use borrow.Author.Tests.{eq-eqb, lt-ltb}
 use Rattle.octets.specs.Buffers.{Octets}
-use Rattle.protocol.specs.Method.{keyFits}
+use Rattle.protocol.specs.declared.Cipher.{Cipher}
+use Rattle.protocol.specs.Method.{keyFits, cipherOf}
 use Rattle.socks5.proofs.PlaceLaws.{One}
 use Rattle.session_record.specs.declared.Peer.{Peer}
 use Rattle.session_book.specs.Call.{opened, Outcome, Decision, reaches, onto}
@@ -21,21 +22,23 @@ use Rattle.session_book.specs.Book.{Page, pageAlive, member, fresh, accept, new
 use Rattle.session_book.specs.Demand3.{Each, clocks, Forward, PortFits}
 use Rattle.session_book.proofs.First.{follows-book}
 use Rattle.datagram_parts.specs.declared.Side.the-variants.{Client}
-use Rattle.datagram_parts.specs.Headers.{plaintext}
-use Rattle.datagram_parts.specs.Parts.{separateBlock, sealBody}
-use Rattle.datagram_parts.proofs.LengthLaws.{length-separateBlock, length-plaintext}
+use Rattle.datagram_parts.specs.Headers.{mainStart, sealedText}
+use Rattle.datagram_parts.specs.Parts.{overhead, nonceFits}
+use Rattle.datagram_parts.proofs.LengthLaws.{length-sealedText}
 use Rattle.datagram_seal.specs.declared.Sealed.the-variants.{Datagram}
 use Rattle.datagram_seal.specs.Sealing.{sealedLength, sealAnswer, datagram}
 use Rattle.datagram_seal.proofs.LengthLaws.{length-datagram}
 use Rattle.datagram_read.specs.declared.Header.{Header}
-use Rattle.datagram_read.specs.Opening.{bodyText, readOut}
-use Rattle.datagram_open.specs.Deciding.{plainOf, decidedBy, decide}
+use Rattle.datagram_read.specs.Opening.{plainOf, readOut}
+use Rattle.datagram_open.specs.Deciding.{decidedBy, decide}
 use Rattle.demands.specs.Datagrams.{headerOf}
-use Rattle.demands.proofs.DatagramReadBack.{session-back, packet-back, body-back, payload-back}
+use Rattle.demands.proofs.DatagramReadBack.{sent-back, payload-sent}
 use Rattle.demands.proofs.DatagramSealing.{one-target, sealed-opens}
 use Rattle.plan_pieces.specs.Plans.{Piece, total}
+use Rattle.plan_demands.specs.Plans.{KnownMethod}
 use Rattle.plan_demands.specs.Seals.{clientAt, lengthOf, Seals, EachSeals}
-use Rattle.plan_demands.specs.Received.{Trip, InTime, callFor, callsFrom, shown, Received, PlanReceived}
+use Rattle.plan_demands.specs.Received.{Trip, besidesText, InTime, callFor, callsFrom, shown, Received, PlanReceived}
+use Rattle.plan_demands.proofs.MethodLaws.{overhead-no-text, nonce-serves}
 use Rattle.plan_demands.proofs.SealsLaws.{plan-seals}
 
 -- ---- the book, of one session whose packet IDs rise
@@ -105,79 +108,91 @@ module _ (R clock : ℕ) (peer : Peer) (id packet : ℕ) where
 
 -- ---- one datagram
 
-module _ (method : ℕ) (address : List ℕ) (limit : ℕ) (key : List ℕ) (fits : keyFits method (length key) ≡ true) (bytes : Octets key)
-    (id first : ℕ) (id-fits : id < 2 ^ 64) (trip : ℕ → Trip) (on : InTime limit trip) where
+module _ (method : ℕ) (known : KnownMethod method) (address : List ℕ) (limit : ℕ) (key : List ℕ) (fits : keyFits method (length key) ≡ true)
+    (bytes : Octets key) (id first : ℕ) (id-fits : id < 2 ^ 64) (trip : ℕ → Trip) (on : InTime method limit trip) where
+  abbrev cipher : Cipher
+  cipher = cipherOf method
+
+  -- what a datagram has besides its plaintext is as written
+  no-text : overhead cipher ≡ besidesText method
+  no-text = overhead-no-text method (known .0) (known .1)
+
   module _ (i : ℕ) (more : first + i < 2 ^ 64 - 1) (x : Piece) (s : Seals method address limit x) (payload : List ℕ)
       (e : length payload ≡ x .bytes) where
     abbrev packet : ℕ
     packet = first + i
 
+    abbrev nonce : List ℕ
+    nonce = trip i .nonce
+
     abbrev sent : List ℕ
-    sent = datagram key (clientAt id packet) (trip i .time) address (x .padding) payload
+    sent = datagram cipher key nonce (clientAt id packet) (trip i .time) address (x .padding) payload
 
     abbrev text-of : List ℕ
-    text-of = plaintext Client (trip i .time) (x .padding) address payload
+    text-of = sealedText cipher id packet Client (trip i .time) (x .padding) address payload
 
     abbrev buffer : List ℕ
     buffer = replicate limit 0
 
-    answered : sealAnswer method (length key) (clientAt id packet) address (x .padding) (length payload) (length buffer) ≡ Datagram (lengthOf address x)
+    answered : sealAnswer method (length key) (length nonce) (clientAt id packet) address (x .padding) (length payload) (length buffer)
+        ≡ Datagram (lengthOf method address x)
     answered =
-        (λ j. sealAnswer method (length key) (clientAt id packet) address (x .padding) (e j) (length-replicate {A = ℕ} limit 0 j))
-        ∙ s .sealed (length key) id packet limit fits (λ z. omega arith) (omega arith)
+        (λ j. sealAnswer method (length key) (length nonce) (clientAt id packet) address (x .padding) (e j) (length-replicate {A = ℕ} limit 0 j))
+        ∙ s .sealed (length key) (length nonce) id packet limit fits (on .nonce-serves i) (λ z. omega arith) (omega arith)
+
+    nonce-fits : nonceFits cipher (length nonce) ≡ true
+    nonce-fits = nonce-serves method (length nonce) (on .nonce-serves i)
 
     one : One address
-    one = one-target method key (clientAt id packet) (trip i .time) address (x .padding) payload buffer (lengthOf address x) answered
+    one = one-target method key nonce (clientAt id packet) (trip i .time) address (x .padding) payload buffer (lengthOf method address x) answered
 
     abbrev header-of : Header
-    header-of = headerOf Client id packet (trip i .time) (x .padding) (length address) (one .address)
+    header-of = headerOf (mainStart cipher) Client id packet (trip i .time) (x .padding) (length address) (one .address)
 
-    text-length : length text-of + 32 ≡ length sent
+    text-length : length text-of + besidesText method ≡ length sent
     unfolding sealedLength
     text-length =
         omega (
           arith,
-          length-plaintext Client (trip i .time) (x .padding) address payload,
-          length-datagram key (clientAt id packet) (trip i .time) address (x .padding) payload,
+          no-text,
+          length-sealedText cipher id packet Client (trip i .time) (x .padding) address payload,
+          length-datagram cipher key nonce (clientAt id packet) (trip i .time) address (x .padding) payload nonce-fits,
         )
 
     long-enough : length text-of ≤ length (trip i .out)
     long-enough =
-        let w = s .bytes-within key id packet (trip i .time) payload e in
+        let w = s .bytes-within key nonce (on .nonce-serves i) id packet (trip i .time) payload e in
         let t = text-length in
         let r = on .room i in
         omega arith
 
-    abbrev body : List ℕ
-    body = sealBody key id packet text-of
-
-    plain : plainOf key sent ≡ text-of
-    unfolding datagram
+    plain : plainOf cipher key sent ≡ text-of
+    unfolding sealedText
     plain =
-        (λ j. bodyText key (session-back key bytes id packet body id-fits j) (packet-back key bytes id packet body (omega arith) j)
-        (drop-at (separateBlock key id packet) body 16 (length-separateBlock key id packet) j))
-        ∙ body-back key id packet text-of .1
+        sent-back method key bytes nonce nonce-fits (clientAt id packet) (trip i .time) address (x .padding) payload id-fits (omega arith) .text
 
-    decided : decide method key (callFor key address id first trip i x payload) ≡ reaches id packet header-of text-of
+    decided : decide method key (callFor method key address id first trip i x payload) ≡ reaches id packet header-of text-of
     unfolding decide
     decided =
         let r =
-        sealed-opens method key (clientAt id packet) (trip i .time) address (x .padding) payload buffer (lengthOf address x) answered bytes
+        sealed-opens method key nonce (clientAt id packet) (trip i .time) address (x .padding) payload buffer (lengthOf method address x) answered bytes
         id-fits (omega arith) (omega arith) (on .time-fits i) (one .address) (one .found) (trip i .clock) (on .valid i) (trip i .out) long-enough in
         (λ j. decidedBy (r .0 j) (readOut method key Client (trip i .clock) sent (trip i .out)) (plain j))
 
-    shows : shown (opened header-of) (length sent - 32) (onto text-of (trip i .out)) ≡ payload
+    shows : shown (opened header-of) (length sent - besidesText method) (onto text-of (trip i .out)) ≡ payload
     shows =
         let t = text-length in
-        ap (drop (header-of .payload)) (take-at text-of (drop (length text-of) (trip i .out)) (length sent - 32) (omega arith))
-        ∙ payload-back Client (trip i .time) (x .padding) address payload
+        ap (drop (header-of .payload)) (take-at text-of (drop (length text-of) (trip i .out)) (length sent - besidesText method) (omega arith))
+        ∙ payload-sent cipher id packet Client (trip i .time) (x .padding) address payload
 
   -- what the server's call decides, and shows where it is opened
   record Opens (i : ℕ) (x : Piece) (payload : List ℕ) : Type 0 where
     header : Header
     text : List ℕ
-    decided : decide method key (callFor key address id first trip i x payload) ≡ reaches id (first + i) header text
-    shows : shown (opened header) (length (callFor key address id first trip i x payload .datagram) - 32) (onto text (trip i .out)) ≡ payload
+    decided : decide method key (callFor method key address id first trip i x payload) ≡ reaches id (first + i) header text
+    shows : shown (opened header) (length (callFor method key address id first trip i x payload .datagram) - besidesText method)
+        (onto text (trip i .out))
+        ≡ payload
 
   datagram-opens : (i : ℕ) → first + i < 2 ^ 64 - 1 → (x : Piece) → Seals method address limit x → (payload : List ℕ) → length payload ≡ x .bytes
       → Opens i x payload
@@ -196,12 +211,12 @@ module _ (method : ℕ) (address : List ℕ) (limit : ℕ) (key : List ℕ) (fit
 
   run : (p : List Piece) (i : ℕ) → first + i + length p < 2 ^ 64 → EachSeals method address limit p → (report : List ℕ)
       → length report ≡ total p → (R : ℕ) (b : List Page) → Before id (first + i) b
-      → Received (callsFrom key address id first trip i p report)
-      (bookOutcomes (decide method key) R b (callsFrom key address id first trip i p report)) report
+      → Received method (callsFrom method key address id first trip i p report)
+      (bookOutcomes (decide method key) R b (callsFrom method key address id first trip i p report)) report
   run [] i more s report e R b before = record { all-opened = tt; whole = nothing report e }
   run (x ∷ p) i more s report e R b before =
       let payload = take (x .bytes) report in
-      let c = callFor key address id first trip i x payload in
+      let c = callFor method key address id first trip i x payload in
       let o = datagram-opens i (omega arith) x (s .0) payload (length-take-le (x .bytes) report (omega arith)) in
       let n = entered R (trip i .clock) (trip i .peer) id (first + i) b before in
       let out =
@@ -218,7 +233,7 @@ module _ (method : ℕ) (address : List ℕ) (limit : ℕ) (key : List ℕ) (fit
       record {
         all-opened = ((o .header, ap (λ (z : Outcome Header). z .answer) out), rest .all-opened);
         whole =
-            ap₂ _++_ (ap (λ (z : Outcome Header). shown (z .answer) (length (c .datagram) - 32) (z .output)) out ∙ o .shows) (rest .whole)
+            ap₂ _++_ (ap (λ (z : Outcome Header). shown (z .answer) (length (c .datagram) - besidesText method) (z .output)) out ∙ o .shows) (rest .whole)
             ∙ take-append-drop (x .bytes) report;
       }
 
@@ -235,24 +250,24 @@ module _ (method : ℕ) (address : List ℕ) (limit : ℕ) (key : List ℕ) (fit
           subst (λ (z : ℕ). trip i .clock ≤ trip z .clock) (let q : suc (i + k) ≡ i + suc k = omega arith in q) (omega arith)
 
   later : (p : List Piece) (i j : ℕ) → i ≤ j → (report : List ℕ)
-      → Each (λ c. trip i .clock ≤ c) (clocks (callsFrom key address id first trip j p report))
+      → Each (λ c. trip i .clock ≤ c) (clocks (callsFrom method key address id first trip j p report))
   later [] i j l report = tt
   later (x ∷ p) i j l report = (clock-least i j l, later p i (suc j) (omega arith) (drop (x .bytes) report))
 
-  goes-forward : (p : List Piece) (i : ℕ) (report : List ℕ) → Forward (callsFrom key address id first trip i p report)
+  goes-forward : (p : List Piece) (i : ℕ) (report : List ℕ) → Forward (callsFrom method key address id first trip i p report)
   goes-forward [] i report = tt
   goes-forward (x ∷ p) i report = (later p i (suc i) (omega arith) (drop (x .bytes) report), goes-forward p (suc i) (drop (x .bytes) report))
 
-  ports : (p : List Piece) (i : ℕ) (report : List ℕ) → Each PortFits (callsFrom key address id first trip i p report)
+  ports : (p : List Piece) (i : ℕ) (report : List ℕ) → Each PortFits (callsFrom method key address id first trip i p report)
   ports [] i report = tt
   ports (x ∷ p) i report = (on .port-fits i, ports p (suc i) (drop (x .bytes) report))
 
 pub plan-received : PlanReceived
 plan-received method address limit n l p g report e key fits bytes id first id-fits more trip on R least greatest =
-    let cs = callsFrom key address id first trip 0 p report in
-    let f = follows-book (decide method key) R least greatest cs (ports method address limit key fits bytes id first id-fits trip on p 0 report)
-    (goes-forward method address limit key fits bytes id first id-fits trip on p 0 report) in
+    let cs = callsFrom method key address id first trip 0 p report in
+    let f = follows-book (decide method key) R least greatest cs (ports method (l .0) address limit key fits bytes id first id-fits trip on p 0 report)
+    (goes-forward method (l .0) address limit key fits bytes id first id-fits trip on p 0 report) in
     let t = g .0 .0 in
-    subst (λ (os : List (Outcome Header)). Received cs os report) (sym (f .outcomes))
-    (run method address limit key fits bytes id first id-fits trip on p 0 (omega arith) (plan-seals method address limit n l p g) report (omega arith) R []
+    subst (λ (os : List (Outcome Header)). Received method cs os report) (sym (f .outcomes))
+    (run method (l .0) address limit key fits bytes id first id-fits trip on p 0 (omega arith) (plan-seals method address limit n l p g) report (omega arith) R []
     (empty refl))

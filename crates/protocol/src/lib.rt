@@ -1,6 +1,6 @@
 // What the layers of SIP022 share: methods, refusals, the time rule.
 ghost use mathlib.Core.Path.{_≡_};
-ghost use Rattle.protocol.specs.Method.{maxKey, aes128, aes256, methodOf, keyFits, keyLength, saltLength};
+ghost use Rattle.protocol.specs.Method.{maxKey, aes128, aes256, chacha, chacha20, chacha12, chacha8, methodOf, keyFits, keyLength, saltLength, cipherOf};
 ghost use Rattle.protocol.specs.Refusal.{refusalNumber, wantedBytes, endsStream};
 ghost use Rattle.protocol.specs.Subkey.{subkey};
 ghost use Rattle.protocol.specs.Time.{timeValid};
@@ -8,12 +8,19 @@ ghost use Prim.Native.Nat.{_≤_};
 ghost use lib.ListN.{length};
 ghost use Rattle.octets.specs.Buffers.{put};
 
-// A method: its number, the lengths of its key and salt in bytes, and the rounds of its AES.
+// What seals and opens: AES in GCM, or ChaCha of so many double rounds with Poly1305.
+pub enum Cipher {
+    AesGcm,
+    ChaChaPoly(usize),
+}
+
+// A method: its number, the lengths of its key and salt in bytes, the rounds of its AES or ChaCha, and its cipher.
 pub struct Method {
     pub number: u64,
     pub key: usize,
     pub salt: usize,
     pub rounds: usize,
+    pub cipher: Cipher,
 }
 
 // The longest key, and so the longest salt and subkey.
@@ -30,6 +37,12 @@ impl Method {
 
     pub const AES_256_GCM: u64 = 2;
 
+    pub const CHACHA20_POLY1305: u64 = 3;
+
+    pub const CHACHA12_POLY1305: u64 = 4;
+
+    pub const CHACHA8_POLY1305: u64 = 5;
+
     // 2022-blake3-aes-128-gcm.
     pub fn aes_128_gcm() -> Self
         ensures { λ r. ⌜ r ≡ aes128 ⌝ }
@@ -39,6 +52,7 @@ impl Method {
             key: 16,
             salt: 16,
             rounds: 10,
+            cipher: Cipher::AesGcm,
         }
     }
 
@@ -51,7 +65,42 @@ impl Method {
             key: 32,
             salt: 32,
             rounds: 14,
+            cipher: Cipher::AesGcm,
         }
+    }
+
+    // The sizes of the methods with ChaCha; two rounds are a double round.
+    fn chacha_poly1305(number: u64, rounds: usize) -> Self
+        ensures { λ r. ⌜ r ≡ chacha number rounds ⌝ }
+    {
+        Self {
+            number: number,
+            key: 32,
+            salt: 32,
+            rounds: rounds,
+            cipher: Cipher::ChaChaPoly(rounds / 2),
+        }
+    }
+
+    // 2022-blake3-chacha20-poly1305.
+    pub fn chacha20_poly1305() -> Self
+        ensures { λ r. ⌜ r ≡ chacha20 ⌝ }
+    {
+        Self::chacha_poly1305(Self::CHACHA20_POLY1305, 20)
+    }
+
+    // 2022-blake3-chacha12-poly1305.
+    pub fn chacha12_poly1305() -> Self
+        ensures { λ r. ⌜ r ≡ chacha12 ⌝ }
+    {
+        Self::chacha_poly1305(Self::CHACHA12_POLY1305, 12)
+    }
+
+    // 2022-blake3-chacha8-poly1305.
+    pub fn chacha8_poly1305() -> Self
+        ensures { λ r. ⌜ r ≡ chacha8 ⌝ }
+    {
+        Self::chacha_poly1305(Self::CHACHA8_POLY1305, 8)
     }
 
     pub fn numbered(number: u64) -> Numbered
@@ -62,6 +111,15 @@ impl Method {
         }
         if number == Self::AES_256_GCM {
             return Numbered::Known(Self::aes_256_gcm());
+        }
+        if number == Self::CHACHA20_POLY1305 {
+            return Numbered::Known(Self::chacha20_poly1305());
+        }
+        if number == Self::CHACHA12_POLY1305 {
+            return Numbered::Known(Self::chacha12_poly1305());
+        }
+        if number == Self::CHACHA8_POLY1305 {
+            return Numbered::Known(Self::chacha8_poly1305());
         }
         Numbered::Unknown
     }
@@ -94,6 +152,16 @@ pub fn salt_length(method: u64) -> usize
     match Method::numbered(method) {
         Numbered::Known(m) => m.salt,
         Numbered::Unknown => 0,
+    }
+}
+
+// The cipher of a method; AES where there is no such method, which no key fits.
+pub fn cipher_of(method: u64) -> Cipher
+    ensures { λ r. ⌜ r ≡ cipherOf method ⌝ }
+{
+    match Method::numbered(method) {
+        Numbered::Known(m) => m.cipher,
+        Numbered::Unknown => Cipher::AesGcm,
     }
 }
 

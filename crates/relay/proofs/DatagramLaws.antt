@@ -9,6 +9,7 @@ use lib.ListN.{length, getD, set}
 use lib.Seq.{sets}
 use borrow.Author.Tests.{eq-eqb, ne-eqb}
 use Rattle.octets.specs.Buffers.{put}
+use Rattle.protocol.specs.Method.{cipherOf}
 use Rattle.protocol.specs.declared.Refusal.{Refusal}
 use Rattle.protocol.specs.Refusal.{refusalNumber}
 use Rattle.session_record.specs.declared.Peer.{Peer}
@@ -53,15 +54,15 @@ module _ (x : Begun) (w : List ℕ) where
 
 -- ---- sealing
 
-module _ (method : ℕ) (key session : List ℕ) (clock : ℕ) (address : List ℕ) (padding : ℕ) (payload out answer : List ℕ) where
+module _ (method : ℕ) (key nonce session : List ℕ) (clock : ℕ) (address : List ℕ) (padding : ℕ) (payload out answer : List ℕ) where
   abbrev A : Sealed
-  A = sealAnswer method (length key) (sessionIn session) address padding (length payload) (length out)
+  A = sealAnswer method (length key) (length nonce) (sessionIn session) address padding (length payload) (length out)
 
   abbrev text : List ℕ
-  text = datagram key (sessionIn session) clock address padding payload
+  text = datagram (cipherOf method) key nonce (sessionIn session) clock address padding payload
 
   abbrev S : AfterSeal
-  S = sealsDatagram method key session clock address padding payload out answer
+  S = sealsDatagram method key nonce session clock address padding payload out answer
 
   abbrev untouched : AfterSeal
   untouched = record { number = 1; session = session; out = out; answer = answer }

@@ -7,6 +7,7 @@ use Prim.Native.Nat.{ℕ, _+_}
 use lib.Dec.{eqb}
 use lib.ListN.{length, getD, set}
 use Rattle.octets.specs.Buffers.{put}
+use Rattle.protocol.specs.Method.{cipherOf}
 use Rattle.protocol.specs.Refusal.{refusalNumber}
 use Rattle.session_record.specs.declared.Peer.{Peer}
 use Rattle.session_book.specs.Call.{Answer, refused, opened}
@@ -51,12 +52,12 @@ sealed (Datagram n) text session out answer =
     record { number = 0; session = set session 3 (getD session 3 0 + 1); out = put out 0 text; answer = set answer 0 n }
 sealed (Refused r) text session out answer = record { number = refusalNumber r; session = session; out = out; answer = answer }
 
-module _ (method : ℕ) (key session : List ℕ) (clock : ℕ) (address : List ℕ) (padding : ℕ) (payload out answer : List ℕ) where
+module _ (method : ℕ) (key nonce session : List ℕ) (clock : ℕ) (address : List ℕ) (padding : ℕ) (payload out answer : List ℕ) where
   unfoldable pub sealsDatagram : AfterSeal
   sealsDatagram =
       cond (eqb (length answer) answerWords && sessionLawful session)
-      (sealed (sealAnswer method (length key) (sessionIn session) address padding (length payload) (length out))
-      (datagram key (sessionIn session) clock address padding payload) session out answer)
+      (sealed (sealAnswer method (length key) (length nonce) (sessionIn session) address padding (length payload) (length out))
+      (datagram (cipherOf method) key nonce (sessionIn session) clock address padding payload) session out answer)
       (record { number = 1; session = session; out = out; answer = answer })
 
 -- ---- opening

@@ -4,6 +4,7 @@ use mathlib.Core.Bool.{cond}
 use mathlib.Core.List.{List}
 use Prim.Native.Nat.{ℕ}
 use lib.ListN.{length}
+use Rattle.protocol.specs.Method.{cipherOf}
 use Rattle.protocol.specs.declared.Refusal.{Refusal}
 use Rattle.stream_pieces.specs.Framing.{framingOf}
 use Rattle.stream_open_request.specs.declared.RequestOpened.{RequestOpened}
@@ -25,13 +26,13 @@ module _ (method : ℕ) (key salt : List ℕ) (clock : ℕ) (address : List ℕ)
   unfoldable pub sealsRequest : AfterChunk
   sealsRequest =
       seals (requestAnswer method key salt address padding (length payload) (length out))
-      (request key salt clock address padding payload) out stream answer
+      (request (cipherOf method) key salt clock address padding payload) out stream answer
 
 module _ (method : ℕ) (key salt requestSalt : List ℕ) (clock : ℕ) (payload out stream answer : List ℕ) where
   unfoldable pub sealsResponse : AfterChunk
   sealsResponse =
       seals (responseAnswer method key salt requestSalt (length payload) (length out))
-      (response key salt requestSalt clock payload) out stream answer
+      (response (cipherOf method) key salt requestSalt clock payload) out stream answer
 
 -- a chunk: the framing is the method's
 abbrev pub notSealing : (turn method payload : ℕ) → Refusal

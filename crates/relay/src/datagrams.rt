@@ -88,6 +88,7 @@ pub extern "C" fn relay_session_begin_server(
 pub extern "C" fn relay_datagram_seal(
     method: u64,
     key: &[u8],
+    nonce: &[u8],
     session: &mut [u64],
     clock: u64,
     address: &[u8],
@@ -97,7 +98,7 @@ pub extern "C" fn relay_datagram_seal(
     answer: &mut [u64],
 ) -> u64
     ensures { λ r. ⌜ record { number = r; session = now (session .exit); out = now (out .exit); answer = now (answer .exit) }
-        ≡ sealsDatagram method (now (key .entry)) (now (session .entry)) clock (now (address .entry)) padding
+        ≡ sealsDatagram method (now (key .entry)) (now (nonce .entry)) (now (session .entry)) clock (now (address .entry)) padding
         (now (payload .entry)) (now (out .entry)) (now (answer .entry)) ⌝ }
 {
     if answer.len() != ANSWER {
@@ -105,7 +106,17 @@ pub extern "C" fn relay_datagram_seal(
     }
     if is_session(session) {
         let sender = session_in(session);
-        let done = datagram_seal::seal(method, key, sender, clock, address, padding, payload, out);
+        let done = datagram_seal::seal(
+            method,
+            key,
+            nonce,
+            sender,
+            clock,
+            address,
+            padding,
+            payload,
+            out,
+        );
         let sealed = done.answer;
         let next = done.sender;
         return match sealed {

@@ -10,9 +10,8 @@ use lib.Dec.{leb}
 use borrow.Author.Tests.{leb-true}
 use Rattle.session_book.specs.Demand3.{Each, Pairs}
 use Rattle.protocol.specs.Method.{saltLength}
-use Rattle.protocol.specs.Subkey.{subkey}
 use Rattle.protocol.specs.Time.{timeValid}
-use Rattle.stream_pieces.specs.Pieces.{openAt}
+use Rattle.stream_pieces.specs.Pieces.{openAt, saltedKey}
 use Rattle.stream_heads.specs.Heads.{fixedOf}
 use Rattle.stream_open.specs.declared.Receiver.{Receiver}
 use Rattle.stream_open_request.specs.declared.Request.{Request}
@@ -42,14 +41,14 @@ opened (Refused r) e = absurd (false≢true e)
 module _ (method : ℕ) (key : List ℕ) where
   -- the time that a head says
   abbrev stampOf : List ℕ → ℕ
-  stampOf s = timeIn (openAt (subkey key (saltOf method s)) 0 (fixedOf (saltLength method) 0 s))
+  stampOf s = timeIn (openAt (saltedKey method key (saltOf method s)) 0 (fixedOf (saltLength method) 0 s))
 
   same-salt : (s t : List ℕ) → front method t ≡ front method s → saltOf method t ≡ saltOf method s
   same-salt s t e = beginning (frontSize method) s t e (saltLength method) (omega arith)
 
   same-stamp : (s t : List ℕ) → front method t ≡ front method s → stampOf t ≡ stampOf s
   same-stamp s t e =
-      ap₂ (λ (salt fixed : List ℕ). timeIn (openAt (subkey key salt) 0 fixed)) (same-salt s t e)
+      ap₂ (λ (salt fixed : List ℕ). timeIn (openAt (saltedKey method key salt) 0 fixed)) (same-salt s t e)
       (part (frontSize method) s t e (saltLength method) (27 + 0) (omega arith))
 
   -- it is valid at the clock of a call that accepts it

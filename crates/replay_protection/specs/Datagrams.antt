@@ -12,10 +12,11 @@ use Rattle.session_book.specs.Call.{Call, opened}
 use Rattle.session_book.specs.Runs.{tableOutcomes}
 use Rattle.session_book.specs.Demand3.{Each, Forward, PortFits}
 use Rattle.session_book.specs.Once.{Once, Breaks}
+use Rattle.protocol.specs.Method.{cipherOf}
 use Rattle.socks5.specs.declared.Address.{Address}
 use Rattle.socks5.specs.declared.Parsed.the-variants.{Found}
 use Rattle.socks5.specs.Address.{parseAt}
-use Rattle.datagram_parts.specs.Headers.{plaintext}
+use Rattle.datagram_parts.specs.Headers.{mainStart, sealedText}
 use Rattle.datagram_seal.specs.declared.Sender.{Sender}
 use Rattle.datagram_seal.specs.declared.Sealed.the-variants.{Datagram as Written}
 use Rattle.datagram_seal.specs.Sealing.{clientSender, sealAnswer, datagram}
@@ -56,13 +57,13 @@ pub record Twice (plain : List ℕ) : Type 0 where
   pub room : length plain ≤ length out
   pub room-again : length plain ≤ length out-again
 
-module _ (method : ℕ) (key : List ℕ) (sender : Sender) (address : List ℕ) (padding : ℕ) (payload : List ℕ) where
-  -- its plaintext and its bytes, sealed at 1,030
+module _ (method : ℕ) (key nonce : List ℕ) (sender : Sender) (address : List ℕ) (padding : ℕ) (payload : List ℕ) where
+  -- its plaintext and its bytes, sealed at 1,030 with that nonce, which methods 1 and 2 do not look at
   abbrev pub text : List ℕ
-  text = plaintext (sender .side) 1030 padding address payload
+  text = sealedText (cipherOf method) (sender .id) (sender .packet) (sender .side) 1030 padding address payload
 
   abbrev pub sent : List ℕ
-  sent = datagram key sender 1030 address padding payload
+  sent = datagram (cipherOf method) key nonce sender 1030 address padding payload
 
   -- the same bytes at 1,000 and at 1,060, opened by the side that they are meant for: a client names its own ID
   abbrev pub first : Twice text → Call
@@ -75,22 +76,24 @@ module _ (method : ℕ) (key : List ℕ) (sender : Sender) (address : List ℕ) 
   pub record SealedBreaks (o : Twice text) : Type 0 where
     pub target : Address
     pub target-sealed : parseAt address 0 ≡ Found target
-    pub breaks : Breaks (decide method key) (first o) (again o) (headerOf (sender .side) (sender .id) (sender .packet) 1030 padding (length address) target) text
+    pub breaks : Breaks (decide method key) (first o) (again o)
+        (headerOf (mainStart (cipherOf method)) (sender .side) (sender .id) (sender .packet) 1030 padding (length address) target) text
 
--- whatever `seal` answered a length n for
+-- whatever `seal` answered a length n for, with whatever nonce
 abbrev pub SealedBreaksAt59 : Type 0
 SealedBreaksAt59 =
-    (method : ℕ) (key : List ℕ) (sender : Sender) (address : List ℕ) (padding : ℕ) (payload : List ℕ) (space n : ℕ)
-    → sealAnswer method (length key) sender address padding (length payload) space ≡ Written n → Fitting key sender 1030
-    → (o : Twice (text method key sender address padding payload)) → SealedBreaks method key sender address padding payload o
+    (method : ℕ) (key nonce : List ℕ) (sender : Sender) (address : List ℕ) (padding : ℕ) (payload : List ℕ) (space n : ℕ)
+    → sealAnswer method (length key) (length nonce) sender address padding (length payload) space ≡ Written n → Fitting key sender 1030
+    → (o : Twice (text method key nonce sender address padding payload)) → SealedBreaks method key nonce sender address padding payload o
 
--- one of them: a client's, method 1, to "a", port 80, without padding and payload
-abbrev pub sampleKey : List ℕ
-sampleKey = replicate 16 0
-
+-- two of them: a client's to "a", port 80, without padding and payload, by methods 1 and 3, with a key and a nonce of zeros
 abbrev pub sampleAddress : List ℕ
 sampleAddress = 3 ∷ 1 ∷ 0x61 ∷ 0 ∷ 0x50 ∷ []
 
+pub record Sample (method : ℕ) (key nonce : List ℕ) : Type 0 where
+  pub calls : Twice (text method key nonce (clientSender 7) sampleAddress 0 [])
+  pub breaks : SealedBreaks method key nonce (clientSender 7) sampleAddress 0 [] calls
+
 pub record SampleBreaks : Type 0 where
-  pub calls : Twice (text 1 sampleKey (clientSender 7) sampleAddress 0 [])
-  pub breaks : SealedBreaks 1 sampleKey (clientSender 7) sampleAddress 0 [] calls
+  pub aes-128 : Sample 1 (replicate 16 0) []
+  pub chacha20 : Sample 3 (replicate 32 0) (replicate 24 0)

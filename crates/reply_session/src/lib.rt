@@ -1,4 +1,4 @@
-// Beginning a server's sending session, in reply to a client's. SIP022 forbids the ID of any client session for it: a subkey comes from
+// Beginning a server's sending session, in reply to a client's. SIP022 forbids the ID of any client session for it: with AES a subkey comes from
 // key and session ID, so two sessions of one ID would use the same subkey and nonces.
 use datagram_parts::Side;
 use datagram_seal::Begun;

@@ -10,12 +10,13 @@ use lib.Dec.{eqb}
 use lib.ListN.{length}
 use borrow.Author.Tests.{lt-ltb, ltb-true, ltb-false}
 use Rattle.aes.specs.Keyed.{nkOf}
+use Rattle.protocol.specs.declared.Cipher.the-variants.{AesGcm}
 use Rattle.protocol.specs.declared.Refusal.{Refusal}
 use Rattle.protocol.specs.declared.Refusal.the-variants.{Settings, Length as TooLong, Room, NotAuthentic, Malformed, WrongType, WrongTime, Replay, Full, More, Counter, Argument, Binding, Empty}
 use Rattle.protocol.specs.Refusal.{refusalNumber, endsStream}
 use Rattle.protocol.specs.Orders.{among}
 use Rattle.stream_pieces.specs.Framing.{under}
-use Rattle.stream_pieces.specs.Pieces.{subkeyWords, keyOf}
+use Rattle.stream_pieces.specs.Pieces.{subkeyWords, keyOf, Keyed, keyed}
 use Rattle.stream_pieces.proofs.KeyLaws.{words-of-aes, subkey-back}
 use Rattle.stream_open.specs.declared.Turn.{Turn}
 use Rattle.stream_open.specs.declared.Turn.the-variants.{Variable, Length, Payload, Ended}
@@ -62,8 +63,8 @@ begins method key salt =
       opens = λ e. sym (open-begun method key salt b refl e (subkeyOf key salt) refl);
       unfit-seals = λ h. sym (seal-refused method key salt b refl (not-so b h));
       unfit-opens = λ h. sym (open-refused method key salt b refl (not-so b h));
-      sealing-key = begun-key method key salt;
-      opening-key = begun-key method key salt;
+      sealing-key = λ e. ap (keyed AesGcm) (begun-key method key salt e);
+      opening-key = λ e. ap (keyed AesGcm) (begun-key method key salt e);
     }
 
 -- ---- exactly when
@@ -75,7 +76,7 @@ too-long st s room =
       λ d. o .1 (d .0, (d .1 .0, (omega arith, lt-ltb 16383 (d .0) (d .1 .1)))),
     )
 
-turn-capped : (turn : Turn) (method : ℕ) (key : List ℕ) (counter : ℕ) (s : List ℕ) (room : ℕ) (c : Chunk)
+turn-capped : (turn : Turn) (method : ℕ) (key : Keyed) (counter : ℕ) (s : List ℕ) (room : ℕ) (c : Chunk)
     → TurnOpens (framingOf method) key counter turn s room c → c .length ≤ 16383
 turn-capped Length method key counter s room c d =
     subst (λ (x : Chunk). x .length ≤ 16383) (sym (d .1 .1)) (ltb-false 16383 _ (d .1 .0 .1))

@@ -8,6 +8,7 @@ use mathlib.Core.Logic.{_↔_}
 use Prim.Native.Nat.{ℕ, _*_, _≤_, _<_}
 use lib.ListN.{length}
 use Rattle.hkdf.specs.Hkdf.{hkdf}
+use Rattle.protocol.specs.declared.Cipher.the-variants.{AesGcm}
 use Rattle.protocol.specs.declared.Refusal.the-variants.{Settings, Malformed}
 use Rattle.stream_seal.specs.declared.Sender.{Sender}
 use Rattle.stream_seal.specs.Sealing.{chunk}
@@ -19,6 +20,7 @@ use Rattle.stream_chunks.specs.Opens.{StepExactlyWhen, ReadsLength}
 use Rattle.stream_chunks.specs.Flows.{sentAll, senderAfter, AllSealed, Fit}
 use Rattle.stream_chunks.specs.Back.{ChunksGivenBack, StreamBack, StreamsGivenBack, OwnNonces, SendersCount}
 use Rattle.stream_chunks.specs.Keeps.{StepKeeps, SealKeeps}
+use Rattle.stream_pieces.specs.Pieces.{keyed}
 use Rattle.sip004.specs.Method.{settingsFit}
 use Rattle.sip004_stream.specs.declared.SenderBegun.the-variants.{Begun as SealBegun, Refused as SealRefused}
 use Rattle.sip004_stream.specs.declared.ReceiverBegun.the-variants.{Begun as OpenBegun, Refused as OpenRefused}
@@ -26,16 +28,16 @@ use Rattle.sip004_stream.specs.Streams.{framingOf, subkeyOf, sender, receiver, 
 
 -- ---- a stream is begun with its salt
 
--- 1 where the settings do not fit; else the key is HKDF_SHA1(key, salt, "ss-subkey"), and the counter 0
+-- 1 where the settings do not fit; else the key, which is AES-GCM's, is HKDF_SHA1(key, salt, "ss-subkey"), and the counter 0
 pub record Begins (method : ℕ) (key salt : List ℕ) : Type 0 where
   pub seals : settingsFit method (length key) (length salt) ≡ true → senderBegun method key salt ≡ SealBegun (sender method (subkeyOf key salt))
   pub opens : settingsFit method (length key) (length salt) ≡ true → receiverBegun method key salt ≡ OpenBegun (receiver method (subkeyOf key salt))
   pub unfit-seals : (settingsFit method (length key) (length salt) ≡ true → ⊥) → senderBegun method key salt ≡ SealRefused Settings
   pub unfit-opens : (settingsFit method (length key) (length salt) ≡ true → ⊥) → receiverBegun method key salt ≡ OpenRefused Settings
   pub sealing-key : settingsFit method (length key) (length salt) ≡ true
-      → senderKey (sender method (subkeyOf key salt)) ≡ hkdf salt key (115 ∷ 115 ∷ 45 ∷ 115 ∷ 117 ∷ 98 ∷ 107 ∷ 101 ∷ 121 ∷ []) (length key)
+      → senderKey (sender method (subkeyOf key salt)) ≡ keyed AesGcm (hkdf salt key (115 ∷ 115 ∷ 45 ∷ 115 ∷ 117 ∷ 98 ∷ 107 ∷ 101 ∷ 121 ∷ []) (length key))
   pub opening-key : settingsFit method (length key) (length salt) ≡ true
-      → streamKey (receiver method (subkeyOf key salt)) ≡ hkdf salt key (115 ∷ 115 ∷ 45 ∷ 115 ∷ 117 ∷ 98 ∷ 107 ∷ 101 ∷ 121 ∷ []) (length key)
+      → streamKey (receiver method (subkeyOf key salt)) ≡ keyed AesGcm (hkdf salt key (115 ∷ 115 ∷ 45 ∷ 115 ∷ 117 ∷ 98 ∷ 107 ∷ 101 ∷ 121 ∷ []) (length key))
 
 -- ---- a piece is opened exactly when, and 5
 

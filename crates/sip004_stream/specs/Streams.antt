@@ -4,10 +4,11 @@ use mathlib.Core.Bool.{cond}
 use mathlib.Core.List.{List}
 use Prim.Native.Nat.{ℕ}
 use lib.ListN.{length}
+use Rattle.protocol.specs.declared.Cipher.the-variants.{AesGcm}
 use Rattle.protocol.specs.declared.Refusal.the-variants.{Settings}
 use Rattle.stream_pieces.specs.declared.Framing.{Framing}
 use Rattle.stream_pieces.specs.declared.Subkey.{Subkey}
-use Rattle.stream_pieces.specs.Pieces.{subkeyWords, keyOf}
+use Rattle.stream_pieces.specs.Pieces.{subkeyWords, keyOf, Keyed, keyed}
 use Rattle.stream_seal.specs.declared.Sender.{Sender}
 use Rattle.stream_seal.specs.declared.Sealed.{Sealed}
 use Rattle.stream_seal.specs.Sealing.{framedAnswer}
@@ -28,7 +29,7 @@ maxPayload = 16383
 
 -- by the number of the method; a payload may be empty. The key has no bytes where there is no such method.
 abbrev pub framingOf : ℕ → Framing
-framingOf method = record { key = keyLength method; least = 0; greatest = maxPayload }
+framingOf method = record { cipher = AesGcm; key = keyLength method; least = 0; greatest = maxPayload }
 
 -- ---- beginning: refusal 1, or the stream behind its salt, which has its first length next and no piece sealed
 
@@ -51,14 +52,14 @@ receiverBegun method key salt =
 
 -- ---- chunks: the framing is the method's
 
-abbrev pub senderKey : Sender → List ℕ
-senderKey s = keyOf (s .subkey) (keyLength (s .method))
+abbrev pub senderKey : Sender → Keyed
+senderKey s = keyed AesGcm (keyOf (s .subkey) (keyLength (s .method)))
 
 abbrev pub chunkAnswer : Sender → ℕ → ℕ → Sealed
 chunkAnswer s payload room = framedAnswer (framingOf (s .method)) s payload room
 
-abbrev pub streamKey : Receiver → List ℕ
-streamKey st = keyOf (st .subkey) (keyLength (st .method))
+abbrev pub streamKey : Receiver → Keyed
+streamKey st = keyed AesGcm (keyOf (st .subkey) (keyLength (st .method)))
 
 abbrev pub stepAnswer : Receiver → List ℕ → ℕ → Stepped
 stepAnswer st s room = steps.stepAnswer (framingOf (st .method)) st s room

@@ -1,5 +1,6 @@
 // Streams of the 2017 edition of Shadowsocks (SIP004): begun with a salt that the host carries, and then chunks, which are both
 // editions' code, under this edition's framing.
+use protocol::Cipher;
 use protocol::MAX_KEY;
 use protocol::Refusal;
 use stream_open::Receiver;
@@ -37,6 +38,7 @@ pub fn framing_of(method: u64) -> Framing
     ensures { λ r. ⌜ r ≡ framingOf method ⌝ }
 {
     Framing {
+        cipher: Cipher::AesGcm,
         key: sip004::key_length(method),
         least: 0,
         greatest: MAX_PAYLOAD,

@@ -9,7 +9,7 @@ use Rattle.protocol.specs.declared.Refusal.{Refusal}
 use Rattle.protocol.specs.declared.Refusal.the-variants.{Settings, NotAuthentic, Empty}
 use Rattle.stream_pieces.specs.declared.Framing.{Framing}
 use Rattle.stream_pieces.specs.Framing.{under}
-use Rattle.stream_pieces.specs.Pieces.{keyOf}
+use Rattle.stream_pieces.specs.Pieces.{keyOf, keyed}
 use Rattle.stream_seal.specs.declared.Sealed.{Sealed}
 use Rattle.stream_seal.specs.declared.Sealed.the-variants.{Refused}
 use Rattle.stream_seal.specs.Sealing.{framedAnswer, chunk, sealOut}
@@ -51,7 +51,7 @@ module _ (f : Framing) where
   unfoldable pub sealsChunk : (stream payload out answer : List ℕ) → AfterChunk
   sealsChunk stream payload out answer =
       seals (chunkSealed stream (length payload) (length out))
-      (chunk (keyOf (senderIn stream .subkey) (f .key)) (senderIn stream .counter) payload) out stream answer
+      (chunk (keyed (f .cipher) (keyOf (senderIn stream .subkey) (f .key))) (senderIn stream .counter) payload) out stream answer
 
 -- ---- opening
 

@@ -13,14 +13,11 @@ use borrow.Author.Tests.{le-leb, leb-true, ltb-true, ltb-false, eqb-false}
 use Rattle.octets.specs.Buffers.{put}
 use Rattle.octets.specs.Numbers.{be, toBe}
 use Rattle.octets.proofs.NumberLaws.{length-toBe, be-toBe}
-use Rattle.gcm.specs.Gcm.{seal}
-use Rattle.gcm.specs.Keyed.{ciphOf}
-use Rattle.gcm.proofs.GcmLaws.{seal-authentic, open-seal, authentic-exactly}
 use Rattle.protocol.specs.declared.Refusal.{Refusal}
 use Rattle.stream_pieces.specs.declared.Framing.{Framing}
 use Rattle.stream_pieces.specs.declared.Subkey.{Subkey}
 use Rattle.stream_pieces.specs.Framing.{under}
-use Rattle.stream_pieces.specs.Pieces.{nonce, sealAt, authenticAt, openAt, keyOf, maxChunk, lastCounter}
+use Rattle.stream_pieces.specs.Pieces.{Keyed, keyed, sealAt, authenticAt, openAt, keyOf, maxChunk, lastCounter}
 use Rattle.stream_pieces.proofs.FramingLaws.{not-over}
 use Rattle.stream_pieces.proofs.LengthLaws.{length-sealAt}
 use Rattle.stream_seal.specs.declared.Sender.{Sender}
@@ -33,24 +30,13 @@ use Rattle.stream_open.specs.declared.Turn.the-variants.{Length, Payload}
 use Rattle.stream_open.specs.declared.Receiver.{Receiver}
 use Rattle.stream_open.specs.declared.Stepped.the-variants.{Opened}
 use Rattle.stream_open.specs.Chunks.{receiver}
+use Rattle.stream_pieces.proofs.PieceLaws.{piece-back}
 use Rattle.stream_open.specs.Steps.{stepAnswer, stepOut}
 use Rattle.stream_open.proofs.ChunkLaws.{length-kept}
 use Rattle.stream_chunks.specs.Opens.{Edition, PieceOpens, Within}
 use Rattle.stream_chunks.specs.Flows.{keyFor, sealing}
 use Rattle.stream_chunks.specs.Back.{partner, midway, ChunkBack, ChunksGivenBack}
 use Rattle.stream_chunks.proofs.StepLaws.{step-given, step-text}
-
--- ---- a piece
-
--- what was sealed is authentic under its key and counter, and opens to its text
-pub piece-back : (key : List ℕ) (counter : ℕ) (text : List ℕ)
-    → (authenticAt key counter (sealAt key counter text) ≡ true) × (openAt key counter (sealAt key counter text) ≡ text)
-unfolding authenticAt openAt sealAt
-piece-back key counter text =
-    let ciph = ciphOf key in
-    let n = nonce counter in
-    let s = seal ciph n text in
-    (authentic-exactly ciph n s .1 (seal-authentic ciph n text), open-seal ciph n text)
 
 -- ---- what an answered length says
 
@@ -130,8 +116,8 @@ chunkable f s payload room n next e =
 
 -- a stream with a key, at a counter that is not the last
 module _ (f : Framing) (method counter : ℕ) (w : Subkey) (known : eqb (f .key) 0 ≡ false) (usable : counter ≡ lastCounter → ⊥) where
-  abbrev key : List ℕ
-  key = keyOf w (f .key)
+  abbrev key : Keyed
+  key = keyed (f .cipher) (keyOf w (f .key))
 
   abbrev at : Turn → Receiver
   at turn = receiver method turn counter w
@@ -210,7 +196,7 @@ module _ (edition : Edition) (capped : (method : ℕ) → edition method .greate
   abbrev f : Framing
   f = edition (s .method)
 
-  abbrev key-here : List ℕ
+  abbrev key-here : Keyed
   key-here = keyFor edition s
 
   facts : Chunkable f s (length payload) space n next

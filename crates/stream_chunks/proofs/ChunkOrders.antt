@@ -8,7 +8,7 @@ use lib.Dec.{eqb, leb, ltb}
 use lib.ListN.{length, take}
 use Rattle.protocol.specs.Orders.{Rule, rule, more, first}
 use Rattle.protocol.proofs.OrderLaws.{next, unless, done, under}
-use Rattle.stream_pieces.specs.Pieces.{authenticAt}
+use Rattle.stream_pieces.specs.Pieces.{authenticAt, Keyed}
 use Rattle.stream_seal.specs.declared.Sender.{Sender}
 use Rattle.stream_seal.specs.Sealing.{sizeAnswer}
 use Rattle.stream_open.specs.declared.Chunk.{Chunk}
@@ -16,7 +16,7 @@ use Rattle.stream_open.specs.declared.Stepped.{Stepped}
 use Rattle.stream_open.specs.Steps.{pieceAnswer}
 use Rattle.stream_chunks.specs.Orders.{saidStep, saidPiece}
 
-module _ (key : List ℕ) (counter : ℕ) (s : List ℕ) (room : ℕ) where
+module _ (key : Keyed) (counter : ℕ) (s : List ℕ) (room : ℕ) where
   -- 11, 10, 3, 4 of a piece of n bytes of plaintext, and what is said of it then
   pub piece-order : (n asked : ℕ) (good : Stepped) (rs : List Rule) (c : Chunk) → saidStep good ≡ first rs c
       → saidStep (pieceAnswer key counter n s asked room good)

@@ -19,7 +19,7 @@ use Rattle.protocol.specs.Refusal.{refusalNumber, endsStream}
 use Rattle.protocol.specs.Orders.{among}
 use Rattle.stream_pieces.specs.declared.Framing.{Framing}
 use Rattle.stream_pieces.specs.Framing.{under, over, unframed}
-use Rattle.stream_pieces.specs.Pieces.{authenticAt, openAt, keyOf, lastCounter}
+use Rattle.stream_pieces.specs.Pieces.{authenticAt, openAt, keyOf, lastCounter, Keyed, keyed}
 use Rattle.stream_pieces.proofs.LengthLaws.{length-openAt}
 use Rattle.stream_seal.specs.declared.Sender.{Sender}
 use Rattle.stream_seal.specs.declared.Sealed.{Sealed}
@@ -96,7 +96,7 @@ module _ (ks : List ℕ) where
   step-either b x r e (inr g) = step-denied b x r e g
 
 module _ (ks ending : List ℕ) (f : Framing) (l : StepNumbers ks ending f) where
-  piece-among : (key : List ℕ) (counter n : ℕ) (s : List ℕ) (asked room : ℕ) (good : Stepped) → amongSteps ks good ≡ true
+  piece-among : (key : Keyed) (counter n : ℕ) (s : List ℕ) (asked room : ℕ) (good : Stepped) → amongSteps ks good ≡ true
       → amongSteps ks (pieceAnswer key counter n s asked room good) ≡ true
   unfolding pieceAnswer
   piece-among key counter n s asked room good g =
@@ -121,7 +121,7 @@ module _ (ks ending : List ℕ) (f : Framing) (l : StepNumbers ks ending f) wher
   unfolding stepAnswer
   among-step st s room = step-denied ks (eqb (f .key) 0) _ Settings (turn-among (st .turn) st s room) (l .settings)
 
-turn-front : (f : Framing) (turn : Turn) (key : List ℕ) (counter : ℕ) (s out : List ℕ) (c : Chunk)
+turn-front : (f : Framing) (turn : Turn) (key : Keyed) (counter : ℕ) (s out : List ℕ) (c : Chunk)
     → TurnOpens f key counter turn s (length out) c → Front (dueAt turn) (turnText key counter turn s out) out
 turn-front f Length key counter s out c d = front-none 0 out out refl
 turn-front f (Payload n) key counter s out c d =
@@ -256,9 +256,9 @@ module _ (ks : List ℕ) (f : Framing) where
 
   pub chunk-keeps : among ks 1 ≡ true → among ks 2 ≡ true → among ks 3 ≡ true → among ks 11 ≡ true
       → ((n : ℕ) → (under f n ≡ false) ⊎ (among ks 14 ≡ true)) → (s : Sender) (payload out : List ℕ)
-      → SealKeeps ks (framedAnswer f s (length payload) (length out)) (chunk (keyOf (s .subkey) (f .key)) (s .counter) payload) out
+      → SealKeeps ks (framedAnswer f s (length payload) (length out)) (chunk (keyed (f .cipher) (keyOf (s .subkey) (f .key))) (s .counter) payload) out
   chunk-keeps one two three eleven empty s payload out =
-      keeps ks (framedAnswer f s (length payload) (length out)) (chunk (keyOf (s .subkey) (f .key)) (s .counter) payload) out
+      keeps ks (framedAnswer f s (length payload) (length out)) (chunk (keyed (f .cipher) (keyOf (s .subkey) (f .key))) (s .counter) payload) out
       (chunk-among one two three eleven empty s (length payload) (length out))
-      (λ n next e. sized-length _ _ _ _ _ n next (chunk (keyOf (s .subkey) (f .key)) (s .counter) payload)
-      (chunkable f s (length payload) (length out) n next e .sizes) (length-chunk (keyOf (s .subkey) (f .key)) (s .counter) payload))
+      (λ n next e. sized-length _ _ _ _ _ n next (chunk (keyed (f .cipher) (keyOf (s .subkey) (f .key))) (s .counter) payload)
+      (chunkable f s (length payload) (length out) n next e .sizes) (length-chunk (keyed (f .cipher) (keyOf (s .subkey) (f .key))) (s .counter) payload))

@@ -18,7 +18,7 @@ use Rattle.protocol.specs.declared.Refusal.the-variants.{Settings, Room, NotAut
 use Rattle.stream_pieces.specs.declared.Framing.{Framing}
 use Rattle.stream_pieces.specs.declared.Subkey.{Subkey}
 use Rattle.stream_pieces.specs.Framing.{under, over, unframed}
-use Rattle.stream_pieces.specs.Pieces.{nonce, authenticAt, openAt, keyOf, lastCounter}
+use Rattle.stream_pieces.specs.Pieces.{nonce, authenticAt, openAt, keyOf, lastCounter, Keyed, keyed}
 use Rattle.stream_open.specs.declared.Turn.{Turn}
 use Rattle.stream_open.specs.declared.Turn.the-variants.{Variable, Length, Payload, Ended}
 use Rattle.stream_open.specs.declared.Receiver.{Receiver}
@@ -53,7 +53,7 @@ denied true x r c e = absurd (not-opened r c e)
 
 -- ---- a piece
 
-module _ (key : List ℕ) (counter n : ℕ) (s : List ℕ) (asked room : ℕ) (good : Stepped) where
+module _ (key : Keyed) (counter n : ℕ) (s : List ℕ) (asked room : ℕ) (good : Stepped) where
   -- what is not one of the piece's own refusals stands behind all of them
   pub piece-passed : (own : Refusal → ℕ) (is : Stepped → ℕ) → ((r : Refusal) → is (Refused r) ≡ own r) → own Counter ≡ 0 → own Room ≡ 0
       → own NotAuthentic ≡ 0 → own (More (n + 16)) ≡ 0 → is (pieceAnswer key counter n s asked room good) ≡ 1
@@ -151,7 +151,7 @@ module _ (f : Framing) where
   turn-given Ended st s room c p = absurd p
   turn-given (Variable n) st s room c p = absurd p
 
-written : (turn : Turn) (key : List ℕ) (counter : ℕ) (s out : List ℕ) (c : Chunk)
+written : (turn : Turn) (key : Keyed) (counter : ℕ) (s out : List ℕ) (c : Chunk)
     → writtenBy (Opened c) turn (openAt key counter (payloadPiece turn s)) out ≡ turnText key counter turn s out
 written Length key counter s out c = refl
 written (Payload n) key counter s out c = refl
@@ -243,7 +243,7 @@ module _ (r : Refusal) (d : OwnRefusal r) where
   other-refusal q o e = other (Refused q) (d .by-own q ∙ o) e
 
   -- where a piece's answer is that refusal, the piece opens, and what is good then is the refusal
-  module _ (key : List ℕ) (counter n : ℕ) (s : List ℕ) (asked room : ℕ) (good : Stepped) (e : pieceAnswer key counter n s asked room good ≡ Refused r) where
+  module _ (key : Keyed) (counter n : ℕ) (s : List ℕ) (asked room : ℕ) (good : Stepped) (e : pieceAnswer key counter n s asked room good ≡ Refused r) where
     piece-is : PieceOpens key counter n s asked room
     piece-is =
         piece-passed key counter n s asked room good (d .own) (d .is) (d .by-own) (d .not-counter) (d .not-room) (d .not-forged)
@@ -386,17 +386,17 @@ module _ (edition : Edition) where
       let ew = same-subkey k w o in
       let en = counts k w o in
       let f = edition (w .stream .method) in
-      let ek : keyIn f (g .stream) ≡ keyIn f (w .stream) = ap (λ (x : Subkey). keyOf x (f .key)) ew in
+      let ek : keyIn f (g .stream) ≡ keyIn f (w .stream) = ap (λ (x : Subkey). keyed (f .cipher) (keyOf x (f .key))) ew in
       let here = edition (g .stream .method) in
       record {
         counts = en;
         same-method = em;
         same-key = ek;
-        opens-there = λ c e. subst (λ (x : List ℕ). TurnOpens f x (w .stream .counter + k) (g .stream .turn) (g .bytes) (length (g .buffer)) c) ek
+        opens-there = λ c e. subst (λ (x : Keyed). TurnOpens f x (w .stream .counter + k) (g .stream .turn) (g .bytes) (length (g .buffer)) c) ek
             (subst (λ (n : ℕ). TurnOpens f (keyIn f (g .stream)) n (g .stream .turn) (g .bytes) (length (g .buffer)) c) en
             (subst (λ (m : ℕ). TurnOpens (edition m) (keyIn (edition m) (g .stream)) (g .stream .counter) (g .stream .turn) (g .bytes) (length (g .buffer)) c) em
             (step-tells here (g .stream) (g .bytes) (length (g .buffer)) c e .opens)));
         text-there = λ c e. step-text here (g .stream) (g .bytes) (g .buffer) c e
             ∙ ap (λ (m : ℕ). turnText (keyIn (edition m) (g .stream)) (g .stream .counter) (g .stream .turn) (g .bytes) (g .buffer)) em
-            ∙ ap₂ (λ (x : List ℕ) (n : ℕ). turnText x n (g .stream .turn) (g .bytes) (g .buffer)) ek en;
+            ∙ ap₂ (λ (x : Keyed) (n : ℕ). turnText x n (g .stream .turn) (g .bytes) (g .buffer)) ek en;
       }

@@ -3,7 +3,7 @@ use mathlib.Core.Path.{_≡_}
 use mathlib.Core.List.{List, [], _∷_, _++_}
 use Prim.Native.Nat.{ℕ, zero, suc, _+_, _≤_}
 use lib.ListN.{length, take, drop}
-use Rattle.stream_pieces.specs.Pieces.{keyOf}
+use Rattle.stream_pieces.specs.Pieces.{keyOf, Keyed, keyed}
 use Rattle.stream_seal.specs.declared.Sender.{Sender}
 use Rattle.stream_seal.specs.declared.Sealed.{Sealed}
 use Rattle.stream_seal.specs.declared.Sealed.the-variants.{Bytes, Refused as Unsealed}
@@ -80,14 +80,14 @@ Fit room [] = Unit {0}
 Fit room (p ∷ ps) = (length p ≤ room) × Fit room ps
 
 -- chunks under one key, each two counters past the one before it
-abbrev pub chunksFrom : (key : List ℕ) (counter : ℕ) → List (List ℕ) → List ℕ
+abbrev pub chunksFrom : (key : Keyed) (counter : ℕ) → List (List ℕ) → List ℕ
 chunksFrom key counter [] = []
 chunksFrom key counter (p ∷ ps) = chunk key counter p ++ chunksFrom key (counter + 2) ps
 
 module _ (edition : Edition) where
   -- the key of a sender
-  abbrev pub keyFor : Sender → List ℕ
-  keyFor s = keyOf (s .subkey) (edition (s .method) .key)
+  abbrev pub keyFor : Sender → Keyed
+  keyFor s = keyed (edition (s .method) .cipher) (keyOf (s .subkey) (edition (s .method) .key))
 
   -- what the sealer answers to n bytes, on a buffer with `space` bytes
   abbrev pub sealing : Sender → (n space : ℕ) → Sealed

@@ -11,7 +11,7 @@ use Rattle.octets.specs.Numbers.{be}
 use Rattle.protocol.specs.declared.Refusal.the-variants.{Malformed, Empty}
 use Rattle.stream_pieces.specs.declared.Framing.{Framing}
 use Rattle.stream_pieces.specs.Framing.{over}
-use Rattle.stream_pieces.specs.Pieces.{authenticAt, openAt, lastCounter}
+use Rattle.stream_pieces.specs.Pieces.{authenticAt, openAt, lastCounter, Keyed}
 use Rattle.stream_open.specs.declared.Turn.{Turn}
 use Rattle.stream_open.specs.declared.Turn.the-variants.{Variable, Length, Payload, Ended}
 use Rattle.stream_open.specs.declared.Receiver.{Receiver}
@@ -24,7 +24,7 @@ abbrev pub Edition : Type 0
 Edition = ℕ → Framing
 
 -- a piece of n bytes of plaintext can be opened under a key and a counter, into room for as many bytes as are asked
-pub record PieceOpens (key : List ℕ) (counter n : ℕ) (s : List ℕ) (asked room : ℕ) : Type 0 where
+pub record PieceOpens (key : Keyed) (counter n : ℕ) (s : List ℕ) (asked room : ℕ) : Type 0 where
   pub usable : counter ≡ lastCounter → ⊥
   pub whole : n + 16 ≤ length s
   pub has-room : asked ≤ room
@@ -35,7 +35,7 @@ abbrev pub Within : Framing → ℕ → Type 0
 Within f n = (f .least ≤ n) × (over f n ≡ false)
 
 -- by turns: a length is what the piece says; a payload is as long as the length before it said; both within the framing
-abbrev pub TurnOpens : Framing → (key : List ℕ) (counter : ℕ) → Turn → List ℕ → (room : ℕ) → Chunk → Type 0
+abbrev pub TurnOpens : Framing → (key : Keyed) (counter : ℕ) → Turn → List ℕ → (room : ℕ) → Chunk → Type 0
 TurnOpens f key counter Length s room c =
     PieceOpens key counter 2 s 0 room
     × (Within f (be 2 (openAt key counter (take 18 s)))
@@ -45,7 +45,7 @@ TurnOpens f key counter Ended s room c = ⊥
 TurnOpens f key counter (Variable n) s room c = ⊥
 
 -- what the buffer holds then
-abbrev pub turnText : (key : List ℕ) (counter : ℕ) → Turn → List ℕ → List ℕ → List ℕ
+abbrev pub turnText : (key : Keyed) (counter : ℕ) → Turn → List ℕ → List ℕ → List ℕ
 turnText key counter Length s out = out
 turnText key counter (Payload n) s out = put out 0 (openAt key counter (take (n + 16) s))
 turnText key counter Ended s out = out

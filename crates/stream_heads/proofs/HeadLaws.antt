@@ -13,7 +13,7 @@ use Rattle.octets.specs.Numbers.{be}
 use Rattle.octets.proofs.BufferLaws.{put-whole}
 use Rattle.protocol.specs.declared.Refusal.the-variants.{NotAuthentic, WrongType, WrongTime}
 use Rattle.protocol.specs.Time.{timeValid}
-use Rattle.stream_pieces.specs.Pieces.{authenticAt, openAt}
+use Rattle.stream_pieces.specs.Pieces.{authenticAt, openAt, Keyed}
 use Rattle.stream_pieces.proofs.LengthLaws.{length-openAt}
 use Rattle.stream_heads.specs.declared.FixedRead.{FixedRead}
 use Rattle.stream_heads.specs.declared.FixedRead.the-variants.{Read, Refused as Unread}
@@ -44,7 +44,7 @@ module _ (kind clock : ℕ) (plain : List ℕ) where
 
 -- ---- opened, into a buffer that its plaintext fills
 
-module _ (key : List ℕ) (kind clock : ℕ) (s plain : List ℕ) (b : Bool) (o : List ℕ) (eb : b ≡ authenticAt key 0 s)
+module _ (key : Keyed) (kind clock : ℕ) (s plain : List ℕ) (b : Bool) (o : List ℕ) (eb : b ≡ authenticAt key 0 s)
     (eo : o ≡ cond b (put plain 0 (openAt key 0 s)) plain) (size : length s ≡ length plain + 16)
   where
     fixed-filled : (d : Bool) → b ≡ d → o ≡ cond d (openAt key 0 s) plain

@@ -7,7 +7,7 @@ use lib.ListN.{length, getD, take, drop}
 use Rattle.octets.specs.Numbers.{be}
 use Rattle.protocol.specs.declared.Refusal.the-variants.{NotAuthentic, WrongType, WrongTime}
 use Rattle.protocol.specs.Time.{timeValid}
-use Rattle.stream_pieces.specs.Pieces.{fixedPiece, authenticAt, openAt}
+use Rattle.stream_pieces.specs.Pieces.{fixedPiece, authenticAt, openAt, Keyed}
 use Rattle.stream_heads.specs.declared.Fixed.{Fixed}
 use Rattle.stream_heads.specs.declared.FixedRead.{FixedRead}
 use Rattle.stream_heads.specs.declared.FixedRead.the-variants.{Read, Refused as Unread}
@@ -34,6 +34,6 @@ readFixed kind clock plain =
     cond (eqb (getD plain 0 0) kind)
     (cond (timeValid (be 8 (drop 1 plain)) clock) (Read (fieldsOf plain)) (Unread WrongTime)) (Unread WrongType)
 
-unfoldable pub openFixed : List ℕ → (kind clock : ℕ) → List ℕ → FixedRead
+unfoldable pub openFixed : Keyed → (kind clock : ℕ) → List ℕ → FixedRead
 openFixed key kind clock s =
     cond (authenticAt key 0 s) (readFixed kind clock (openAt key 0 s)) (Unread NotAuthentic)

@@ -1,13 +1,14 @@
 // What both directions share of the heads of streams of SIP022, section 3.1: the cap of a request's padding, and the fixed header,
 // opened.
+use protocol::Cipher;
 use protocol::Refusal;
 use stream_pieces::Subkey;
 use stream_pieces::open_piece;
 ghost use mathlib.Core.Path.{_≡_};
-ghost use Prim.Native.Nat.{_+_, _-_, _<_, _≤_};
+ghost use Prim.Native.Nat.{_+_, _-_, _≤_};
 ghost use lib.ListN.{length};
 ghost use mathlib.Core.Bool.{cond};
-ghost use Rattle.aes.specs.Keyed.{nkOf};
+ghost use Rattle.aead.specs.Aead.{KeyFor, keyed};
 ghost use Rattle.stream_pieces.specs.Pieces.{tagLength, authenticAt, openAt, keyOf, maxChunk};
 ghost use Rattle.stream_heads.specs.Heads.{readFixed, openFixed};
 
@@ -45,6 +46,7 @@ fn read_fixed(kind: u8, clock: u64, plain: &[u8]) -> FixedRead
 
 // Refusals 4, 6 and 7, in this order, or what the header says; its plaintext fills the lent buffer where its tag is good.
 pub fn open_fixed(
+    cipher: Cipher,
     w: Subkey,
     k: usize,
     kind: u8,
@@ -52,15 +54,15 @@ pub fn open_fixed(
     s: &[u8],
     plain: &mut [u8],
 ) -> FixedRead
-    requires { ⌜ 0 < nkOf k ⌝ }
+    requires { ⌜ KeyFor cipher k ⌝ }
     requires { ⌜ 2 ≤ length (now plain) ⌝ }
     requires { ⌜ length (now plain) ≤ maxChunk ⌝ }
     requires { ⌜ length (now s) ≡ length (now plain) + tagLength ⌝ }
-    ensures { λ r. ⌜ r ≡ openFixed (keyOf w k) kind clock (now (s .entry)) ⌝ }
+    ensures { λ r. ⌜ r ≡ openFixed (keyed cipher (keyOf w k)) kind clock (now (s .entry)) ⌝ }
     ensures { λ r. ⌜ now (plain .exit)
-        ≡ cond (authenticAt (keyOf w k) 0 (now (s .entry))) (openAt (keyOf w k) 0 (now (s .entry))) (now (plain .entry)) ⌝ }
+        ≡ cond (authenticAt (keyed cipher (keyOf w k)) 0 (now (s .entry))) (openAt (keyed cipher (keyOf w k)) 0 (now (s .entry))) (now (plain .entry)) ⌝ }
 {
-    if open_piece(w, k, 0, s, plain) {
+    if open_piece(cipher, w, k, 0, s, plain) {
         return read_fixed(kind, clock, plain);
     }
     FixedRead::Refused(Refusal::NotAuthentic)

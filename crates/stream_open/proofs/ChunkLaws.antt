@@ -17,7 +17,7 @@ use Rattle.protocol.specs.declared.Refusal.the-variants.{Settings, Room, NotAut
 use Rattle.protocol.specs.Refusal.{endsStream}
 use Rattle.stream_pieces.specs.declared.Framing.{Framing}
 use Rattle.stream_pieces.specs.Framing.{under, over, unframed}
-use Rattle.stream_pieces.specs.Pieces.{maxChunk, authenticAt, openAt, lastCounter}
+use Rattle.stream_pieces.specs.Pieces.{maxChunk, authenticAt, openAt, lastCounter, Keyed}
 use Rattle.stream_pieces.proofs.FramingLaws.{is-over, not-over, over-unframed, under-unframed, is-framed}
 use Rattle.stream_pieces.proofs.LengthLaws.{length-openAt}
 use Rattle.stream_open.specs.declared.Turn.{Turn}
@@ -30,7 +30,7 @@ use Rattle.stream_open.specs.Steps.{keyIn, pieceAnswer, lengthRead, leng
 
 -- ---- one piece, by the four tests
 
-module _ (key : List ℕ) (counter n : ℕ) (s : List ℕ) (asked room : ℕ) (good : Stepped) where
+module _ (key : Keyed) (counter n : ℕ) (s : List ℕ) (asked room : ℕ) (good : Stepped) where
   piece-at : (a b c d : Bool) → eqb counter lastCounter ≡ a → leb (n + 16) (length s) ≡ b → leb asked room ≡ c
       → authenticAt key counter (take (n + 16) s) ≡ d
       → cond a (Refused Counter)

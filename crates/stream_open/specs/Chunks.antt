@@ -1,10 +1,10 @@
 -- Opening a stream of SIP022 behind its head (section 3.1).
 use mathlib.Core.List.{List}
 use Prim.Native.Nat.{ℕ}
-use Rattle.protocol.specs.Method.{keyLength}
+use Rattle.protocol.specs.Method.{keyLength, cipherOf}
 use Rattle.stream_pieces.specs.declared.Subkey.{Subkey}
 use Rattle.stream_pieces.specs.Framing.{framingOf}
-use Rattle.stream_pieces.specs.Pieces.{keyOf}
+use Rattle.stream_pieces.specs.Pieces.{keyOf, Keyed, keyed}
 use Rattle.stream_open.specs.declared.Turn.{Turn}
 use Rattle.stream_open.specs.declared.Receiver.{Receiver}
 use Rattle.stream_open.specs.declared.Stepped.{Stepped}
@@ -12,8 +12,8 @@ use Rattle.stream_open.specs.Steps as steps
 pub use Rattle.stream_open.specs.Steps.{ended, refusedNext, stepNext}
 
 -- the key of a stream, by its method
-abbrev pub streamKey : Receiver → List ℕ
-streamKey st = keyOf (st .subkey) (keyLength (st .method))
+abbrev pub streamKey : Receiver → Keyed
+streamKey st = keyed (cipherOf (st .method)) (keyOf (st .subkey) (keyLength (st .method)))
 
 -- the state of a stream that was begun by a head
 abbrev pub receiver : ℕ → Turn → ℕ → Subkey → Receiver

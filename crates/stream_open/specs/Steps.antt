@@ -12,7 +12,7 @@ use Rattle.protocol.specs.declared.Refusal.the-variants.{Settings, Room, NotAut
 use Rattle.protocol.specs.Refusal.{endsStream}
 use Rattle.stream_pieces.specs.declared.Framing.{Framing}
 use Rattle.stream_pieces.specs.Framing.{under, over, unframed}
-use Rattle.stream_pieces.specs.Pieces.{tagLength, lengthPiece, authenticAt, openAt, keyOf, lastCounter}
+use Rattle.stream_pieces.specs.Pieces.{tagLength, lengthPiece, authenticAt, openAt, keyOf, lastCounter, Keyed, keyed}
 use Rattle.stream_open.specs.declared.Turn.{Turn}
 use Rattle.stream_open.specs.declared.Turn.the-variants.{Variable, Length, Payload, Ended}
 use Rattle.stream_open.specs.declared.Receiver.{Receiver}
@@ -21,7 +21,7 @@ use Rattle.stream_open.specs.declared.Stepped.the-variants.{Opened, Refu
 
 -- ---- one piece of n bytes of plaintext: 11, 10, 3, 4; a length asks for no room
 
-unfoldable pub pieceAnswer : (key : List ℕ) (counter n : ℕ) → List ℕ → (asked room : ℕ) → Stepped → Stepped
+unfoldable pub pieceAnswer : (key : Keyed) (counter n : ℕ) → List ℕ → (asked room : ℕ) → Stepped → Stepped
 pieceAnswer key counter n s asked room good =
     cond (eqb counter lastCounter) (Refused Counter)
     (cond (leb (n + tagLength) (length s))
@@ -29,7 +29,7 @@ pieceAnswer key counter n s asked room good =
     (Refused (More (n + tagLength))))
 
 -- what was read as a length
-unfoldable pub lengthRead : (key : List ℕ) (counter : ℕ) → List ℕ → ℕ
+unfoldable pub lengthRead : (key : Keyed) (counter : ℕ) → List ℕ → ℕ
 lengthRead key counter s = be 2 (openAt key counter (take lengthPiece s))
 
 -- ---- a step
@@ -41,8 +41,8 @@ lengthAnswer f n =
 
 module _ (f : Framing) where
   -- the key of a stream
-  abbrev pub keyIn : Receiver → List ℕ
-  keyIn st = keyOf (st .subkey) (f .key)
+  abbrev pub keyIn : Receiver → Keyed
+  keyIn st = keyed (f .cipher) (keyOf (st .subkey) (f .key))
 
   -- no length was opened that such a payload would follow, so a stream at one is none of ours
   abbrev pub turnAnswer : Turn → Receiver → List ℕ → ℕ → Stepped

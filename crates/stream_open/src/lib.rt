@@ -8,9 +8,9 @@ use stream_pieces::TAG;
 use stream_pieces::framing_of;
 use stream_pieces::open_piece;
 ghost use mathlib.Core.Path.{_≡_};
-ghost use Prim.Native.Nat.{_+_, _<_};
+ghost use Prim.Native.Nat.{_+_};
 ghost use lib.ListN.{length, take};
-ghost use Rattle.aes.specs.Keyed.{nkOf};
+ghost use Rattle.aead.specs.Aead.{KeyFor};
 ghost use Rattle.stream_pieces.specs.Framing.{HasCipher, framingOf};
 ghost use Rattle.stream_pieces.specs.Pieces.{tagLength, openAt, lastCounter};
 ghost use Rattle.stream_open.specs.declared.Turn.the-variants.{Length, Payload};
@@ -69,7 +69,7 @@ fn length_answer(f: Framing, n: u16) -> Stepped
 
 // A length: refusals 11, 10, 4, 14 and 5, in this order, or what it says. Nothing is written.
 fn open_length(f: Framing, stream: Receiver, s: &[u8], room: usize) -> Stepped
-    requires { ⌜ 0 < nkOf (f .key) ⌝ }
+    requires { ⌜ KeyFor (f .cipher) (f .key) ⌝ }
     ensures { λ r. ⌜ r ≡ turnAnswer f Length stream (now (s .entry)) room ⌝ }
 {
     if stream.counter == LAST_COUNTER {
@@ -79,8 +79,16 @@ fn open_length(f: Framing, stream: Receiver, s: &[u8], room: usize) -> Stepped
         return Stepped::Refused(Refusal::More(LENGTH_PIECE as u64));
     }
     let mut text = [0u8; 2];
+    let cipher = f.cipher;
     let w = stream.subkey;
-    if open_piece(w, f.key, stream.counter, &s[..LENGTH_PIECE], &mut text) {
+    if open_piece(
+        cipher,
+        w,
+        f.key,
+        stream.counter,
+        &s[..LENGTH_PIECE],
+        &mut text,
+    ) {
         return length_answer(f, octets::read_u16_be(&text, 0));
     }
     Stepped::Refused(Refusal::NotAuthentic)
@@ -88,7 +96,7 @@ fn open_length(f: Framing, stream: Receiver, s: &[u8], room: usize) -> Stepped
 
 // A payload of n bytes: refusals 1, 11, 10, 3 and 4, in this order, or it is in the buffer.
 fn open_payload(f: Framing, stream: Receiver, n: u16, s: &[u8], out: &mut [u8]) -> Stepped
-    requires { ⌜ 0 < nkOf (f .key) ⌝ }
+    requires { ⌜ KeyFor (f .cipher) (f .key) ⌝ }
     ensures { λ r. ⌜ r ≡ turnAnswer f (Payload n) stream (now (s .entry)) (length (now (out .entry))) ⌝ }
     ensures { λ r. ⌜ now (out .exit)
         ≡ writtenBy r (Payload n) (openAt (keyIn f stream) (stream .counter) (take (n + tagLength) (now (s .entry))))
@@ -110,8 +118,9 @@ fn open_payload(f: Framing, stream: Receiver, n: u16, s: &[u8], out: &mut [u8]) 
     if out.len() < due {
         return Stepped::Refused(Refusal::Room);
     }
+    let cipher = f.cipher;
     let w = stream.subkey;
-    if open_piece(w, f.key, stream.counter, &s[..due + TAG], out) {
+    if open_piece(cipher, w, f.key, stream.counter, &s[..due + TAG], out) {
         return Stepped::Opened(Chunk {
             used: due + TAG,
             length: n,

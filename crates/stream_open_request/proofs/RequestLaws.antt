@@ -9,17 +9,18 @@ use native.Mathlib.Omega.{arith}
 use lib.Dec.{eqb, leb}
 use lib.ListN.{length, getD, take, drop}
 use borrow.Author.Tests.{le-leb, lt-leb, eqb-true}
-use Rattle.aes.specs.Keyed.{nkOf}
+use Rattle.aead.specs.Aead.{KeyFor}
+use Rattle.protocol.specs.declared.Cipher.{Cipher}
 use Rattle.protocol.specs.declared.Refusal.{Refusal}
 use Rattle.protocol.specs.declared.Refusal.the-variants.{Settings, Replay, Full, More}
-use Rattle.protocol.specs.Method.{keyFits, saltLength}
+use Rattle.protocol.specs.Method.{keyFits, saltLength, cipherOf}
 use Rattle.protocol.specs.Subkey.{subkey}
 use Rattle.protocol.proofs.MethodLaws.{fits-sizes}
 use Rattle.salt_pool.specs.declared.Met.{Met}
 use Rattle.salt_pool.specs.declared.Met.the-variants.{Room as Free, Replay as Known, Full as NoRoom}
 use Rattle.salt_pool.specs.Pool.{poolWords, lawful, meet, store}
 use Rattle.stream_pieces.specs.declared.Subkey.{Subkey}
-use Rattle.stream_pieces.specs.Pieces.{subkeyWords, keyOf}
+use Rattle.stream_pieces.specs.Pieces.{subkeyWords, keyOf, Keyed, keyed}
 use Rattle.stream_pieces.proofs.KeyLaws.{key-of-method, length-subkey, octets-subkey, words-of-either, subkey-back}
 use Rattle.stream_heads.specs.Heads.{frontLength, fixedOf, openFixed}
 use Rattle.stream_heads.specs.declared.Fixed.{Fixed}
@@ -54,7 +55,7 @@ module _ (pool : List ℕ) (clock : ℕ) (salt : List ℕ) (f : Fixed) (m : Met)
 pub fixed-part : (n : ℕ) (s : List ℕ) → take (n + 27 - n) (drop n s) ≡ fixedOf n 0 s
 fixed-part n s = let a : n + 27 - n ≡ 27 + 0 = omega arith in ap (λ (k : ℕ). take k (drop n s)) a
 
-module _ (key : List ℕ) (clock n : ℕ) (s pool part : List ℕ) (ep : part ≡ fixedOf n 0 s) (x : FixedRead)
+module _ (key : Keyed) (clock n : ℕ) (s pool part : List ℕ) (ep : part ≡ fixedOf n 0 s) (x : FixedRead)
     (ex : x ≡ openFixed key 0 clock part)
   where
     abbrev met : Met
@@ -85,7 +86,7 @@ settings-law method k pool b c x eb e ec = λ i. (sym e ∙ eb) i && ec i
 pub record Lawful (method k : ℕ) (pool : List ℕ) (n : ℕ) : Type 0 where
   pub salt : n ≡ k
   pub either : (k ≡ 16) ⊎ (k ≡ 32)
-  pub aes : 0 < nkOf n
+  pub good : (c : Cipher) → c ≡ cipherOf method → KeyFor c n
   pub most : n ≤ 32
   pub words : length pool ≡ poolWords
 
@@ -101,7 +102,7 @@ lawful-settings method k pool b n eb e en =
     record {
       salt = same;
       either = z .either;
-      aes = subst (λ (m : ℕ). 0 < nkOf m) (sym same) (key-of-method method k fits);
+      good = λ c e. subst (λ (x : Cipher). KeyFor x n) (sym e) (subst (KeyFor (cipherOf method)) (sym same) (key-of-method method k fits));
       most = either-most same (z .either);
       words = eqb-true (length pool) poolWords (and-eq-true-iff (eqb (length pool) poolWords) (eqb (getD pool 0 0) method) .0 (both .1) .0);
     }
@@ -120,16 +121,16 @@ module _ (method : ℕ) (key : List ℕ) (clock : ℕ) (s pool : List ℕ) where
   -- by the tests of the settings and of the front
   request-at : (a l : Bool) → settings method (length key) pool ≡ a → leb (frontLength saltBytes 0) (length s) ≡ l
       → (cond a
-      (cond l (openedAs method (subkeyWords k) (frontLength saltBytes 0) (readFront k clock saltBytes s pool)) (Refused (More (frontLength saltBytes 0))))
+      (cond l (openedAs method (subkeyWords k) (frontLength saltBytes 0) (readFront (keyed (cipherOf method) k) clock saltBytes s pool)) (Refused (More (frontLength saltBytes 0))))
       (Refused Settings)
       ≡ openedRequest method key clock s pool)
-      × (cond (a && l) (frontPool k clock saltBytes s pool) pool ≡ requestPool method key clock s pool)
+      × (cond (a && l) (frontPool (keyed (cipherOf method) k) clock saltBytes s pool) pool ≡ requestPool method key clock s pool)
   unfolding openedRequest requestPool
   request-at a l ea el = (
     λ i. cond (sym ea i)
-        (cond (sym el i) (openedAs method (subkeyWords k) (frontLength saltBytes 0) (readFront k clock saltBytes s pool)) (Refused (More (frontLength saltBytes 0))))
+        (cond (sym el i) (openedAs method (subkeyWords k) (frontLength saltBytes 0) (readFront (keyed (cipherOf method) k) clock saltBytes s pool)) (Refused (More (frontLength saltBytes 0))))
         (Refused Settings),
-    λ i. cond (sym ea i && sym el i) (frontPool k clock saltBytes s pool) pool,
+    λ i. cond (sym ea i && sym el i) (frontPool (keyed (cipherOf method) k) clock saltBytes s pool) pool,
   )
 
   module _ (b : Bool) (eb : b ≡ settings method (length key) pool) where
@@ -156,16 +157,16 @@ module _ (method : ℕ) (key : List ℕ) (clock : ℕ) (s pool : List ℕ) where
           ∙ subkey-back (subkey key (take n s)) (octets-subkey key (take n s))
           (words-of-either _ (subst (λ (m : ℕ). (m ≡ 16) ⊎ (m ≡ 32)) (sym size) (d .either)))
 
-      pub request-done : n + 27 ≤ length s → (w : Subkey) → w ≡ subkeyWords (subkey key (take n s)) → (r : FixedRead) (p : List ℕ)
-          → r ≡ readFront (keyOf w n) clock n s pool → p ≡ frontPool (keyOf w n) clock n s pool → (x : RequestOpened)
+      pub request-done : n + 27 ≤ length s → (w : Subkey) → w ≡ subkeyWords (subkey key (take n s)) → (c : Cipher) → c ≡ cipherOf method → (r : FixedRead) (p : List ℕ)
+          → r ≡ readFront (keyed c (keyOf w n)) clock n s pool → p ≡ frontPool (keyed c (keyOf w n)) clock n s pool → (x : RequestOpened)
           → x ≡ openedAs method w (n + 27) r
           → (x ≡ openedRequest method key clock s pool) × (p ≡ requestPool method key clock s pool)
-      request-done h w ew r p er ep x ex =
+      request-done h w ew c ec r p er ep x ex =
           let l : frontLength saltBytes 0 ≤ length s = omega (arith, en) in
           let u : n + 27 ≡ frontLength saltBytes 0 = omega (arith, en) in
           let d = request-at true true (sym eb ∙ fits) (le-leb (frontLength saltBytes 0) (length s) l) in
           let kn = ap (λ (m : ℕ). subkey key (take m s)) en in
           let ks = key-back w ew ∙ kn in (
-            ex ∙ (λ i. openedAs method ((ew ∙ ap subkeyWords kn) i) (u i) ((er ∙ (λ j. readFront (ks j) clock (en j) s pool)) i)) ∙ d .0,
-            ep ∙ (λ i. frontPool (ks i) clock (en i) s pool) ∙ d .1,
+            ex ∙ (λ i. openedAs method ((ew ∙ ap subkeyWords kn) i) (u i) ((er ∙ (λ j. readFront (keyed (ec j) (ks j)) clock (en j) s pool)) i)) ∙ d .0,
+            ep ∙ (λ i. frontPool (keyed (ec i) (ks i)) clock (en i) s pool) ∙ d .1,
           )

@@ -5,13 +5,13 @@ use Prim.Native.Nat.{ℕ}
 use lib.Dec.{leb}
 use lib.ListN.{length, take}
 use Rattle.protocol.specs.declared.Refusal.the-variants.{Settings, Replay, Full, More}
-use Rattle.protocol.specs.Method.{keyFits, saltLength}
+use Rattle.protocol.specs.Method.{keyFits, saltLength, cipherOf}
 use Rattle.protocol.specs.Subkey.{subkey}
 use Rattle.salt_pool.specs.declared.Met.{Met}
 use Rattle.salt_pool.specs.declared.Met.the-variants.{Room as Free, Replay as Known, Full as NoRoom}
 use Rattle.salt_pool.specs.Pool.{lawful, meet, store}
 use Rattle.stream_pieces.specs.declared.Subkey.{Subkey}
-use Rattle.stream_pieces.specs.Pieces.{subkeyWords}
+use Rattle.stream_pieces.specs.Pieces.{subkeyWords, Keyed, keyed}
 use Rattle.stream_heads.specs.declared.Fixed.{Fixed}
 use Rattle.stream_heads.specs.declared.FixedRead.{FixedRead}
 use Rattle.stream_heads.specs.declared.FixedRead.the-variants.{Read, Refused as Unread}
@@ -40,14 +40,14 @@ abbrev pub fixedAs : Met → FixedRead → FixedRead
 fixedAs m (Read f) = metAs m f
 fixedAs m (Unread r) = Unread r
 
-unfoldable pub readFront : List ℕ → (clock n : ℕ) → List ℕ → List ℕ → FixedRead
+unfoldable pub readFront : Keyed → (clock n : ℕ) → List ℕ → List ℕ → FixedRead
 readFront key clock n s pool = fixedAs (meet pool clock (take n s)) (openFixed key 0 clock (fixedOf n 0 s))
 
 abbrev pub fixedPool : Met → FixedRead → (clock : ℕ) → List ℕ → List ℕ → List ℕ
 fixedPool m (Read f) clock salt pool = storedIn m clock salt pool
 fixedPool m (Unread r) clock salt pool = pool
 
-unfoldable pub frontPool : List ℕ → (clock n : ℕ) → List ℕ → List ℕ → List ℕ
+unfoldable pub frontPool : Keyed → (clock n : ℕ) → List ℕ → List ℕ → List ℕ
 frontPool key clock n s pool =
     fixedPool (meet pool clock (take n s)) (openFixed key 0 clock (fixedOf n 0 s)) clock (take n s) pool
 
@@ -76,8 +76,8 @@ module _ (method : ℕ) (key : List ℕ) (clock : ℕ) (s pool : List ℕ) where
   unfoldable pub openedRequest : RequestOpened
   openedRequest =
       cond (settings method (length key) pool)
-      (cond whole (openedAs method (subkeyWords k) (frontLength n 0) (readFront k clock n s pool)) (Refused (More (frontLength n 0))))
+      (cond whole (openedAs method (subkeyWords k) (frontLength n 0) (readFront (keyed (cipherOf method) k) clock n s pool)) (Refused (More (frontLength n 0))))
       (Refused Settings)
 
   unfoldable pub requestPool : List ℕ
-  requestPool = cond (settings method (length key) pool && whole) (frontPool k clock n s pool) pool
+  requestPool = cond (settings method (length key) pool && whole) (frontPool (keyed (cipherOf method) k) clock n s pool) pool

@@ -1,5 +1,6 @@
 // Opening the front of a request's head of SIP022, section 3.1, on a salt pool: the salt and the fixed header. Its variable header
 // is another call's, of crate `stream_open_variable`, on the stream that this one hands on.
+use protocol::Cipher;
 use protocol::Refusal;
 use salt_pool::Met;
 use stream_heads::Fixed;
@@ -12,9 +13,9 @@ use stream_pieces::FIXED_PIECE;
 use stream_pieces::Subkey;
 use stream_pieces::derive;
 ghost use mathlib.Core.Path.{_≡_};
-ghost use Prim.Native.Nat.{_<_, _≤_};
+ghost use Prim.Native.Nat.{_≤_};
 ghost use lib.ListN.{length};
-ghost use Rattle.aes.specs.Keyed.{nkOf};
+ghost use Rattle.aead.specs.Aead.{KeyFor, keyed};
 ghost use Rattle.salt_pool.specs.Pool.{poolWords, meet};
 ghost use Rattle.stream_pieces.specs.Pieces.{keyOf};
 ghost use Rattle.stream_heads.specs.Heads.{frontLength};
@@ -51,15 +52,22 @@ fn store_if_new(fixed: Fixed, clock: u64, salt: &[u8], pool: &mut [u64]) -> Fixe
 
 // The front of a head whose salt and key have n bytes, behind refusals 1 and 10. The pool is asked, and the salt stored, once
 // the fixed header is good.
-fn read_front(w: Subkey, n: usize, clock: u64, s: &[u8], pool: &mut [u64]) -> FixedRead
-    requires { ⌜ 0 < nkOf n ⌝ }
+fn read_front(
+    cipher: Cipher,
+    w: Subkey,
+    n: usize,
+    clock: u64,
+    s: &[u8],
+    pool: &mut [u64],
+) -> FixedRead
+    requires { ⌜ KeyFor cipher n ⌝ }
     requires { ⌜ frontLength n 0 ≤ length (now s) ⌝ }
     requires { ⌜ length (now pool) ≡ poolWords ⌝ }
-    ensures { λ r. ⌜ r ≡ readFront (keyOf w n) clock n (now (s .entry)) (now (pool .entry)) ⌝ }
-    ensures { λ r. ⌜ now (pool .exit) ≡ frontPool (keyOf w n) clock n (now (s .entry)) (now (pool .entry)) ⌝ }
+    ensures { λ r. ⌜ r ≡ readFront (keyed cipher (keyOf w n)) clock n (now (s .entry)) (now (pool .entry)) ⌝ }
+    ensures { λ r. ⌜ now (pool .exit) ≡ frontPool (keyed cipher (keyOf w n)) clock n (now (s .entry)) (now (pool .entry)) ⌝ }
 {
     let mut plain = [0u8; FIXED];
-    match open_fixed(w, n, 0, clock, &s[n..n + FIXED_PIECE], &mut plain) {
+    match open_fixed(cipher, w, n, 0, clock, &s[n..n + FIXED_PIECE], &mut plain) {
         FixedRead::Read(fixed) => store_if_new(fixed, clock, &s[..n], pool),
         FixedRead::Refused(r) => FixedRead::Refused(r),
     }
@@ -115,7 +123,13 @@ pub fn open_request(
             return RequestOpened::Refused(Refusal::More((n + FIXED_PIECE) as u64));
         }
         let w = derive(key, &s[..n]);
-        return opened_as(method, w, n + FIXED_PIECE, read_front(w, n, clock, s, pool));
+        let cipher = protocol::cipher_of(method);
+        return opened_as(
+            method,
+            w,
+            n + FIXED_PIECE,
+            read_front(cipher, w, n, clock, s, pool),
+        );
     }
     RequestOpened::Refused(Refusal::Settings)
 }

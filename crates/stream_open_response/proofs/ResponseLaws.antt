@@ -11,16 +11,17 @@ use lib.ListN.{length, take, drop, length-drop}
 use lib.Seq.{length-take-le}
 use borrow.Author.Tests.{eq-eqb, ne-eqb, le-leb, lt-leb}
 use Rattle.octets.specs.Buffers.{same}
-use Rattle.aes.specs.Keyed.{nkOf}
-use Rattle.aes.proofs.KeyedLaws.{key-most}
+use Rattle.aead.specs.Aead.{KeyFor}
+use Rattle.aead.proofs.AeadLaws.{key-for-most}
+use Rattle.protocol.specs.declared.Cipher.{Cipher}
 use Rattle.protocol.specs.declared.Refusal.{Refusal}
 use Rattle.protocol.specs.declared.Refusal.the-variants.{Settings, NotAuthentic, More, Binding, Empty}
-use Rattle.protocol.specs.Method.{keyFits, saltLength}
+use Rattle.protocol.specs.Method.{keyFits, saltLength, cipherOf}
 use Rattle.protocol.specs.Subkey.{subkey}
 use Rattle.protocol.proofs.MethodLaws.{fits-sizes}
 use Rattle.stream_pieces.specs.declared.Subkey.{Subkey}
 use Rattle.stream_pieces.specs.Framing.{isEmpty}
-use Rattle.stream_pieces.specs.Pieces.{authenticAt, openAt, subkeyWords, keyOf}
+use Rattle.stream_pieces.specs.Pieces.{authenticAt, openAt, subkeyWords, keyOf, Keyed, keyed}
 use Rattle.stream_pieces.proofs.KeyLaws.{key-of-method, length-subkey, octets-subkey, words-of-either, subkey-back}
 use Rattle.stream_pieces.proofs.FramingLaws.{zero-empty, not-zero-some}
 use Rattle.stream_open.specs.declared.Turn.the-variants.{Payload}
@@ -40,7 +41,7 @@ read-authentic : (b : Bool) (x : FixedRead) (f : Fixed) → cond b x (Unread Not
 read-authentic true x f e = refl
 read-authentic false x f e = absurd (let z : _≡_ {A = ℕ} 0 1 = cc in omega arith)
 
-module _ (method : ℕ) (w : Subkey) (key : List ℕ) (clock n : ℕ) (salt s : List ℕ) (r : FixedRead) (er : r ≡ openFixed key 1 clock s)
+module _ (method : ℕ) (w : Subkey) (key : Keyed) (clock n : ℕ) (salt s : List ℕ) (r : FixedRead) (er : r ≡ openFixed key 1 clock s)
   where
     pub bound-refused : (q : Refusal) → r ≡ Unread q → Refused q ≡ boundOf method w key clock n salt s
     unfolding boundOf
@@ -84,7 +85,7 @@ length-fixed n s h =
     let l : n + 27 + n - n ≤ length (drop n s) = omega (arith, length-drop n s) in
     length-take-le (n + 27 + n - n) (drop n s) l ∙ m
 
-pub response-at : (method : ℕ) (w : Subkey) (key : List ℕ) (clock n : ℕ) (salt s : List ℕ) (r : ResponseOpened)
+pub response-at : (method : ℕ) (w : Subkey) (key : Keyed) (clock n : ℕ) (salt s : List ℕ) (r : ResponseOpened)
     → r ≡ boundOf method w key clock n salt (take (n + 27 + n - n) (drop n s)) → r ≡ responseAt method w key clock n salt s
 unfolding responseAt boundOf
 response-at method w key clock n salt s r e =
@@ -94,17 +95,17 @@ response-at method w key clock n salt s r e =
 -- ---- the whole
 
 -- a salt as long as the key
-pub record Salted (key : List ℕ) (n : ℕ) : Type 0 where
+pub record Salted (method : ℕ) (key : List ℕ) (n : ℕ) : Type 0 where
   pub as-key : n ≡ length key
   pub most : n ≤ 32
-  pub lawful : 0 < nkOf n
+  pub lawful : (c : Cipher) → c ≡ cipherOf method → KeyFor c n
 
-pub salted : (method : ℕ) (key : List ℕ) (k : Bool) (n : ℕ) → k ≡ keyFits method (length key) → k ≡ true → n ≡ saltLength method → Salted key n
+pub salted : (method : ℕ) (key : List ℕ) (k : Bool) (n : ℕ) → k ≡ keyFits method (length key) → k ≡ true → n ≡ saltLength method → Salted method key n
 salted method key k n ek e en =
     let fits = sym ek ∙ e in
     let alike : n ≡ length key = en ∙ fits-sizes method (length key) fits .salt-is in
-    let h : 0 < nkOf n = subst (λ (m : ℕ). 0 < nkOf m) (sym alike) (key-of-method method (length key) fits) in
-    record { as-key = alike; most = key-most n h; lawful = h }
+    let h : KeyFor (cipherOf method) n = subst (KeyFor (cipherOf method)) (sym alike) (key-of-method method (length key) fits) in
+    record { as-key = alike; most = key-for-most (cipherOf method) n h; lawful = λ c e. subst (λ (x : Cipher). KeyFor x n) (sym e) h }
 
 module _ (method : ℕ) (key : List ℕ) (clock : ℕ) (salt s : List ℕ) (k : Bool) (ek : k ≡ keyFits method (length key)) where
   abbrev sub : List ℕ
@@ -113,13 +114,13 @@ module _ (method : ℕ) (key : List ℕ) (clock : ℕ) (salt s : List ℕ) (k : 
   opened-at : (a b c : Bool) → k ≡ a → eqb (length salt) (saltLength method) ≡ b
       → leb (frontLength (saltLength method) (saltLength method)) (length s) ≡ c
       → cond (a && b)
-      (cond c (responseAt method (subkeyWords sub) sub clock (saltLength method) salt s)
+      (cond c (responseAt method (subkeyWords sub) (keyed (cipherOf method) sub) clock (saltLength method) salt s)
       (Refused (More (frontLength (saltLength method) (saltLength method))))) (Refused Settings)
       ≡ openedResponse method key clock salt s
   unfolding openedResponse
   opened-at a b c ea eb ec =
       λ i. cond ((sym ea ∙ ek) i && sym eb i)
-      (cond (sym ec i) (responseAt method (subkeyWords sub) sub clock (saltLength method) salt s)
+      (cond (sym ec i) (responseAt method (subkeyWords sub) (keyed (cipherOf method) sub) clock (saltLength method) salt s)
       (Refused (More (frontLength (saltLength method) (saltLength method))))) (Refused Settings)
 
   pub response-settings : k ≡ false → Refused Settings ≡ openedResponse method key clock salt s
@@ -135,9 +136,9 @@ module _ (method : ℕ) (key : List ℕ) (clock : ℕ) (salt s : List ℕ) (k : 
           let l : length s < frontLength (saltLength method) (saltLength method) = omega (arith, sym en) in
           ap (λ (m : ℕ). Refused (More (m + 27 + m))) en ∙ opened-at true true false fits (eq-eqb _ _ (same-salt ∙ en)) (lt-leb _ _ l)
 
-      pub response-done : n + 27 + n ≤ length s → (w : Subkey) (r : ResponseOpened) → w ≡ subkeyWords (subkey key (take n s))
-          → r ≡ responseAt method w (keyOf w n) clock n salt s → r ≡ openedResponse method key clock salt s
-      response-done h w r ew er =
+      pub response-done : n + 27 + n ≤ length s → (w : Subkey) (c : Cipher) (r : ResponseOpened) → w ≡ subkeyWords (subkey key (take n s)) → c ≡ cipherOf method
+          → r ≡ responseAt method w (keyed c (keyOf w n)) clock n salt s → r ≡ openedResponse method key clock salt s
+      response-done h w c r ew ec er =
           let salt-of = salted method key k n ek fits en in
           let most : length key ≤ 32 = omega (arith, salt-of .as-key, salt-of .most) in
           let l : frontLength (saltLength method) (saltLength method) ≤ length s = omega (arith, sym en) in
@@ -146,5 +147,5 @@ module _ (method : ℕ) (key : List ℕ) (clock : ℕ) (salt s : List ℕ) (k : 
           let both-sizes = ⊎-elim (λ e. inl (size ∙ e)) (λ e. inr (size ∙ e)) (fits-sizes method (length key) (sym ek ∙ fits) .either) in
           let back : keyOf w n ≡ sub =
           ap₂ keyOf words (salt-of .as-key ∙ sym size) ∙ subkey-back sub (octets-subkey key (take (saltLength method) s)) (words-of-either _ both-sizes) in
-          er ∙ (λ i. responseAt method (words i) (back i) clock (en i) salt s)
+          er ∙ (λ i. responseAt method (words i) (keyed (ec i) (back i)) clock (en i) salt s)
           ∙ opened-at true true true fits (eq-eqb _ _ (same-salt ∙ en)) (le-leb _ _ l)

@@ -6,11 +6,11 @@ use lib.Dec.{eqb, leb}
 use lib.ListN.{length, take, drop}
 use Rattle.octets.specs.Buffers.{same}
 use Rattle.protocol.specs.declared.Refusal.the-variants.{Settings, More, Binding, Empty}
-use Rattle.protocol.specs.Method.{keyFits, saltLength}
+use Rattle.protocol.specs.Method.{keyFits, saltLength, cipherOf}
 use Rattle.protocol.specs.Subkey.{subkey}
 use Rattle.stream_pieces.specs.declared.Subkey.{Subkey}
 use Rattle.stream_pieces.specs.Framing.{isEmpty}
-use Rattle.stream_pieces.specs.Pieces.{openAt, subkeyWords}
+use Rattle.stream_pieces.specs.Pieces.{openAt, subkeyWords, Keyed, keyed}
 use Rattle.stream_open.specs.declared.Turn.the-variants.{Payload}
 use Rattle.stream_heads.specs.declared.FixedRead.{FixedRead}
 use Rattle.stream_heads.specs.declared.FixedRead.the-variants.{Read, Refused as Unread}
@@ -34,11 +34,11 @@ boundAs method w used ours (Read f) =
 boundAs method w used ours (Unread r) = Refused r
 
 -- the fixed header alone, under a key, which the stream's state has as words
-unfoldable pub boundOf : ℕ → Subkey → List ℕ → (clock n : ℕ) → List ℕ → List ℕ → ResponseOpened
+unfoldable pub boundOf : ℕ → Subkey → Keyed → (clock n : ℕ) → List ℕ → List ℕ → ResponseOpened
 boundOf method w key clock n requestSalt s =
     boundAs method w (frontLength n n) (same (bindingOf n (openAt key 0 s)) requestSalt) (openFixed key 1 clock s)
 
-unfoldable pub responseAt : ℕ → Subkey → List ℕ → (clock n : ℕ) → List ℕ → List ℕ → ResponseOpened
+unfoldable pub responseAt : ℕ → Subkey → Keyed → (clock n : ℕ) → List ℕ → List ℕ → ResponseOpened
 responseAt method w key clock n requestSalt s = boundOf method w key clock n requestSalt (fixedOf n n s)
 
 module _ (method : ℕ) (key : List ℕ) (clock : ℕ) (requestSalt s : List ℕ) where
@@ -51,5 +51,5 @@ module _ (method : ℕ) (key : List ℕ) (clock : ℕ) (requestSalt s : List ℕ
   unfoldable pub openedResponse : ResponseOpened
   openedResponse =
       cond (keyFits method (length key) && eqb (length requestSalt) n)
-      (cond (leb (frontLength n n) (length s)) (responseAt method (subkeyWords k) k clock n requestSalt s)
+      (cond (leb (frontLength n n) (length s)) (responseAt method (subkeyWords k) (keyed (cipherOf method) k) clock n requestSalt s)
       (Refused (More (frontLength n n)))) (Refused Settings)

@@ -1,4 +1,5 @@
 // Opening the head of a response of SIP022, section 3.1.
+use protocol::Cipher;
 use protocol::Refusal;
 use stream_heads::FixedRead;
 use stream_heads::open_fixed;
@@ -12,7 +13,7 @@ use stream_pieces::derive;
 ghost use mathlib.Core.Path.{_≡_};
 ghost use Prim.Native.Nat.{_+_, _-_, _<_, _≤_};
 ghost use lib.ListN.{length};
-ghost use Rattle.aes.specs.Keyed.{nkOf};
+ghost use Rattle.aead.specs.Aead.{KeyFor, keyed};
 ghost use Rattle.stream_pieces.specs.Pieces.{fixedLength, fixedPiece, keyOf};
 ghost use Rattle.stream_heads.specs.Heads.{frontLength};
 ghost use Rattle.stream_open_response.specs.Responses.{boundOf, responseAt, openedResponse};
@@ -33,6 +34,7 @@ pub enum ResponseOpened {
 // it says. Its plaintext fills the lent buffer.
 fn open_bound(
     method: u64,
+    cipher: Cipher,
     w: Subkey,
     n: usize,
     clock: u64,
@@ -40,13 +42,13 @@ fn open_bound(
     s: &[u8],
     plain: &mut [u8],
 ) -> ResponseOpened
-    requires { ⌜ 0 < nkOf n ⌝ }
+    requires { ⌜ KeyFor cipher n ⌝ }
     requires { ⌜ length (now «request_salt») ≡ n ⌝ }
     requires { ⌜ length (now plain) ≡ fixedLength + n ⌝ }
     requires { ⌜ length (now s) ≡ fixedPiece + n ⌝ }
-    ensures { λ r. ⌜ r ≡ boundOf method w (keyOf w n) clock n (now («request_salt» .entry)) (now (s .entry)) ⌝ }
+    ensures { λ r. ⌜ r ≡ boundOf method w (keyed cipher (keyOf w n)) clock n (now («request_salt» .entry)) (now (s .entry)) ⌝ }
 {
-    match open_fixed(w, n, 1, clock, s, plain) {
+    match open_fixed(cipher, w, n, 1, clock, s, plain) {
         FixedRead::Read(fixed) => {
             let binding = &plain[9..9 + n];
             if octets::equal(binding, request_salt) {
@@ -76,20 +78,22 @@ fn open_bound(
 // The head of a response, behind refusals 1 and 10.
 fn open_response_at(
     method: u64,
+    cipher: Cipher,
     w: Subkey,
     n: usize,
     clock: u64,
     request_salt: &[u8],
     s: &[u8],
 ) -> ResponseOpened
-    requires { ⌜ 0 < nkOf n ⌝ }
+    requires { ⌜ KeyFor cipher n ⌝ }
     requires { ⌜ length (now «request_salt») ≡ n ⌝ }
     requires { ⌜ frontLength n n ≤ length (now s) ⌝ }
-    ensures { λ r. ⌜ r ≡ responseAt method w (keyOf w n) clock n (now («request_salt» .entry)) (now (s .entry)) ⌝ }
+    ensures { λ r. ⌜ r ≡ responseAt method w (keyed cipher (keyOf w n)) clock n (now («request_salt» .entry)) (now (s .entry)) ⌝ }
 {
     let mut plain = [0u8; MAX_FIXED];
     open_bound(
         method,
+        cipher,
         w,
         n,
         clock,
@@ -119,7 +123,8 @@ pub fn open_response(
             return ResponseOpened::Refused(Refusal::More((n + FIXED_PIECE + n) as u64));
         }
         let w = derive(key, &s[..n]);
-        return open_response_at(method, w, n, clock, request_salt, s);
+        let cipher = protocol::cipher_of(method);
+        return open_response_at(method, cipher, w, n, clock, request_salt, s);
     }
     ResponseOpened::Refused(Refusal::Settings)
 }

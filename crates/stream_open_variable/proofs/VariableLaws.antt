@@ -14,12 +14,13 @@ use Rattle.octets.specs.Buffers.{put}
 use Rattle.octets.proofs.BufferLaws.{take-put}
 use Rattle.protocol.specs.declared.Refusal.{Refusal}
 use Rattle.protocol.specs.declared.Refusal.the-variants.{Settings, Room, NotAuthentic, Malformed, More}
-use Rattle.protocol.specs.Method.{keyLength}
+use Rattle.protocol.specs.declared.Cipher.{Cipher}
+use Rattle.protocol.specs.Method.{keyLength, cipherOf}
 use Rattle.socks5.specs.declared.Address.{Address}
 use Rattle.socks5.specs.declared.Parsed.{Parsed}
 use Rattle.socks5.specs.declared.Parsed.the-variants.{Found, Malformed as NoAddress}
 use Rattle.socks5.specs.Address.{parseAt}
-use Rattle.stream_pieces.specs.Pieces.{authenticAt, openAt, keyOf}
+use Rattle.stream_pieces.specs.Pieces.{authenticAt, openAt, keyOf, Keyed, keyed}
 use Rattle.stream_pieces.proofs.LengthLaws.{length-openAt}
 use Rattle.stream_heads.specs.Heads.{maxPadding}
 use Rattle.stream_open.specs.declared.Turn.{Turn}
@@ -136,7 +137,7 @@ settled-law answer r due out o e eo = eo ∙ ap (λ (a : VariableOpened). settle
 
 -- ---- the piece
 
-module _ (key : List ℕ) (n : ℕ) (s out : List ℕ) where
+module _ (key : Keyed) (n : ℕ) (s out : List ℕ) where
   abbrev text : List ℕ
   text = openAt key 1 (variablePiece n s)
 
@@ -229,11 +230,11 @@ module _ (st : Receiver) (s out : List ℕ) (k : ℕ) (ek : k ≡ keyLength (st 
       pub call-counter : (st .counter ≡ 1 → ⊥) → (Refused Settings ≡ variableAnswer st s (length out)) × (out ≡ variableOut st s out)
       call-counter h = counter-at false (ne-eqb _ _ h)
 
-      pub call-header : st .counter ≡ 1 → (r : VariableOpened) (o : List ℕ) → r ≡ headerAnswer (keyOf (st .subkey) k) n s (length out)
-          → o ≡ headerOut (keyOf (st .subkey) k) n s out
+      pub call-header : st .counter ≡ 1 → (c : Cipher) → c ≡ cipherOf (st .method) → (r : VariableOpened) (o : List ℕ) → r ≡ headerAnswer (keyed c (keyOf (st .subkey) k)) n s (length out)
+          → o ≡ headerOut (keyed c (keyOf (st .subkey) k)) n s out
           → (r ≡ variableAnswer st s (length out)) × (o ≡ variableOut st s out)
-      call-header h r o er eo =
+      call-header h c ec r o er eo =
           let d = counter-at true (eq-eqb _ _ h) in (
-            er ∙ ap (λ (m : ℕ). headerAnswer (keyOf (st .subkey) m) n s (length out)) ek ∙ d .0,
-            eo ∙ ap (λ (m : ℕ). headerOut (keyOf (st .subkey) m) n s out) ek ∙ d .1,
+            er ∙ (λ i. headerAnswer (keyed (ec i) (keyOf (st .subkey) (ek i))) n s (length out)) ∙ d .0,
+            eo ∙ (λ i. headerOut (keyed (ec i) (keyOf (st .subkey) (ek i))) n s out) ∙ d .1,
           )

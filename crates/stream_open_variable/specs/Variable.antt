@@ -12,7 +12,7 @@ use Rattle.protocol.specs.Method.{keyLength}
 use Rattle.socks5.specs.declared.Parsed.{Parsed}
 use Rattle.socks5.specs.declared.Parsed.the-variants.{Found, Malformed as NoAddress}
 use Rattle.socks5.specs.Address.{parseAt}
-use Rattle.stream_pieces.specs.Pieces.{tagLength, authenticAt, openAt}
+use Rattle.stream_pieces.specs.Pieces.{tagLength, authenticAt, openAt, Keyed}
 use Rattle.stream_heads.specs.Heads.{maxPadding}
 use Rattle.stream_open.specs.declared.Turn.{Turn}
 use Rattle.stream_open.specs.declared.Turn.the-variants.{Variable, Length, Payload, Ended}
@@ -56,7 +56,7 @@ readVariable n plain = headerWith n plain (parseAt plain 0)
 abbrev pub variablePiece : (n : ℕ) → List ℕ → List ℕ
 variablePiece n s = take (n + tagLength) s
 
-unfoldable pub headerAnswer : List ℕ → (n : ℕ) → List ℕ → (room : ℕ) → VariableOpened
+unfoldable pub headerAnswer : Keyed → (n : ℕ) → List ℕ → (room : ℕ) → VariableOpened
 headerAnswer key n s room =
     cond (leb (n + tagLength) (length s))
     (cond (leb n room)
@@ -69,7 +69,7 @@ settled (Header h) due out = out
 settled (Refused r) due out = put out 0 (replicate due 0)
 
 -- a good tag lets the plaintext into the buffer, and then a refusal clears it
-unfoldable pub headerOut : List ℕ → (n : ℕ) → List ℕ → List ℕ → List ℕ
+unfoldable pub headerOut : Keyed → (n : ℕ) → List ℕ → List ℕ → List ℕ
 headerOut key n s out =
     cond (leb (n + tagLength) (length s) && (leb n (length out) && authenticAt key 1 (variablePiece n s)))
     (settled (readVariable n (openAt key 1 (variablePiece n s))) n (put out 0 (openAt key 1 (variablePiece n s)))) out

@@ -1,4 +1,5 @@
 // Opening the variable header of a request of SIP022, section 3.1, behind its fixed header, whose call handed on the stream.
+use protocol::Cipher;
 use protocol::Refusal;
 use socks5::Parsed;
 use socks5::Target;
@@ -10,9 +11,9 @@ use stream_pieces::Subkey;
 use stream_pieces::TAG;
 use stream_pieces::open_piece;
 ghost use mathlib.Core.Path.{_≡_};
-ghost use Prim.Native.Nat.{_<_, _≤_};
+ghost use Prim.Native.Nat.{_≤_};
 ghost use lib.ListN.{length};
-ghost use Rattle.aes.specs.Keyed.{nkOf};
+ghost use Rattle.aead.specs.Aead.{KeyFor, keyed};
 ghost use Rattle.stream_pieces.specs.Pieces.{keyOf};
 ghost use Rattle.stream_open_variable.specs.Variable.{paddingFits, readVariable, headerAnswer, settled, headerOut, variableAnswer, variableOut, variableNext};
 
@@ -93,10 +94,17 @@ fn clear_refused(answer: VariableOpened, due: usize, out: &mut [u8])
 }
 
 // The piece with a variable header of n bytes, with counter 1: refusals 10, 3, 4 and 5, in this order, or the header.
-fn open_header(w: Subkey, k: usize, n: u16, s: &[u8], out: &mut [u8]) -> VariableOpened
-    requires { ⌜ 0 < nkOf k ⌝ }
-    ensures { λ r. ⌜ r ≡ headerAnswer (keyOf w k) n (now (s .entry)) (length (now (out .entry))) ⌝ }
-    ensures { λ r. ⌜ now (out .exit) ≡ headerOut (keyOf w k) n (now (s .entry)) (now (out .entry)) ⌝ }
+fn open_header(
+    cipher: Cipher,
+    w: Subkey,
+    k: usize,
+    n: u16,
+    s: &[u8],
+    out: &mut [u8],
+) -> VariableOpened
+    requires { ⌜ KeyFor cipher k ⌝ }
+    ensures { λ r. ⌜ r ≡ headerAnswer (keyed cipher (keyOf w k)) n (now (s .entry)) (length (now (out .entry))) ⌝ }
+    ensures { λ r. ⌜ now (out .exit) ≡ headerOut (keyed cipher (keyOf w k)) n (now (s .entry)) (now (out .entry)) ⌝ }
 {
     let due = n as usize;
     if s.len() < due + TAG {
@@ -105,7 +113,7 @@ fn open_header(w: Subkey, k: usize, n: u16, s: &[u8], out: &mut [u8]) -> Variabl
     if out.len() < due {
         return VariableOpened::Refused(Refusal::Room);
     }
-    if open_piece(w, k, 1, &s[..due + TAG], out) {
+    if open_piece(cipher, w, k, 1, &s[..due + TAG], out) {
         let answer = read_variable(n, &out[..due]);
         clear_refused(answer, due, out);
         return answer;
@@ -129,8 +137,9 @@ fn open_turn(stream: Receiver, s: &[u8], out: &mut [u8]) -> VariableOpened
             if stream.counter != 1 {
                 return VariableOpened::Refused(Refusal::Settings);
             }
+            let cipher = protocol::cipher_of(stream.method);
             let w = stream.subkey;
-            open_header(w, k, n, s, out)
+            open_header(cipher, w, k, n, s, out)
         }
         Turn::Length => VariableOpened::Refused(Refusal::Settings),
         Turn::Payload(_) => VariableOpened::Refused(Refusal::Settings),

@@ -11,7 +11,7 @@ use Rattle.stream_pieces.specs.Framing.{under, over, unframed, framingOf
 use Rattle.stream_pieces.specs.Pieces.{maxChunk}
 use Rattle.stream_pieces.proofs.KeyLaws.{key-of-length}
 
--- the keys of SIP022 are AES's
+-- the keys of SIP022 are those of its ciphers
 pub framing-cipher : (method : ℕ) → HasCipher (framingOf method)
 framing-cipher method h = key-of-length method h
 

@@ -19,19 +19,26 @@ use Rattle.aes.proofs.KeyedLaws.{key-of-size}
 use Rattle.blake3.specs.Derivation.{subkeyContext}
 use Rattle.blake3.specs.Tree.{deriveKey}
 use Rattle.blake3.proofs.DerivationLaws.{length-deriveKey, octets-deriveKey}
-use Rattle.protocol.specs.Method.{keyFits, keyLength}
+use Rattle.aead.specs.Aead.{KeyFor}
+use Rattle.protocol.specs.declared.Cipher.{Cipher}
+use Rattle.protocol.specs.declared.Cipher.the-variants.{AesGcm, ChaChaPoly}
+use Rattle.protocol.specs.Method.{keyFits, keyLength, cipherOf}
 use Rattle.protocol.specs.Subkey.{subkey}
-use Rattle.protocol.proofs.MethodLaws.{fits-sizes, length-fits}
+use Rattle.protocol.proofs.MethodLaws.{OfChaCha, fits-sizes, fits-cipher, length-fits}
 use Rattle.stream_pieces.specs.Pieces.{subkeyWords, subkeyBytes, keyOf}
 
 -- ---- methods
 
--- a key of its method's length is a key of AES
-pub key-of-method : (method k : ℕ) → keyFits method k ≡ true → 0 < nkOf k
-key-of-method method k h = key-of-size k (fits-sizes method k h .either)
+-- a key of its method's length is one of its cipher
+pub key-of-method : (method k : ℕ) → keyFits method k ≡ true → KeyFor (cipherOf method) k
+key-of-method method k h = by-cipher (cipherOf method) (fits-cipher method k h)
+  where
+    by-cipher : (c : Cipher) → OfChaCha c k → KeyFor c k
+    by-cipher AesGcm o = key-of-size k (fits-sizes method k h .either)
+    by-cipher (ChaChaPoly n) o = o
 
 -- so is a key as long as a known method's
-pub key-of-length : (method : ℕ) → (keyLength method ≡ 0 → ⊥) → 0 < nkOf (keyLength method)
+pub key-of-length : (method : ℕ) → (keyLength method ≡ 0 → ⊥) → KeyFor (cipherOf method) (keyLength method)
 key-of-length method h = key-of-method method (keyLength method) (length-fits method h)
 
 -- ---- the subkey
@@ -71,6 +78,11 @@ words-of-aes n = go (eqb n 16) (eqb n 24) (eqb n 32) (eqb→eq n 16) (eqb→eq n
     go false true c e f g h = record { words = 3; most = lit≤ tt; size = f tt }
     go false false true e f g h = record { words = 4; most = lit≤ tt; size = g tt }
     go false false false e f g h = absurd (omega (arith, h))
+
+-- so has every key for a cipher
+pub words-of-cipher : (c : Cipher) (n : ℕ) → KeyFor c n → Words n
+words-of-cipher AesGcm n h = words-of-aes n h
+words-of-cipher (ChaChaPoly k) n e = record { words = 4; most = lit≤ tt; size = e }
 
 -- a string's first n words, and their bytes one behind the other
 abbrev bytesOf : ℕ → List ℕ → List ℕ

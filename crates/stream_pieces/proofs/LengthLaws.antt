@@ -7,8 +7,8 @@ use native.Mathlib.Omega.{arith}
 use lib.ListN.{length, length-append}
 use Rattle.octets.specs.Numbers.{toBe}
 use Rattle.octets.proofs.NumberLaws.{length-toBe, length-toLe}
-use Rattle.gcm.specs.Keyed.{ciphOf}
-use Rattle.gcm.proofs.GcmLaws.{length-seal, length-opened}
+use Rattle.aead.specs.Aead.{Keyed}
+use Rattle.aead.proofs.AeadLaws.{length-sealBy, length-openedBy}
 use Rattle.stream_pieces.specs.declared.Subkey.{Subkey}
 use Rattle.stream_pieces.specs.Pieces.{nonce, sealAt, openAt, subkeyBytes}
 
@@ -32,11 +32,11 @@ length-subkeyBytes w =
       length-toBe 8 (w .d),
     )
 
-module _ (key : List ℕ) (counter : ℕ) where
+module _ (key : Keyed) (counter : ℕ) where
   pub length-sealAt : (text : List ℕ) → length (sealAt key counter text) ≡ length text + 16
   unfolding sealAt
-  length-sealAt text = length-seal (ciphOf key) (nonce counter) text
+  length-sealAt text = length-sealBy (key .cipher) (key .bytes) (nonce counter) text
 
   pub length-openAt : (s : List ℕ) → length (openAt key counter s) ≡ length s - 16
   unfolding openAt
-  length-openAt s = length-opened (ciphOf key) (nonce counter) s
+  length-openAt s = length-openedBy (key .cipher) (key .bytes) (nonce counter) s

@@ -1,29 +1,22 @@
 -- One piece of a stream: its nonce, its subkey in words and in bytes, sealed and opened.
 -- Assumes nothing.
 use mathlib.Core.Path.{_≡_, sym, ap, _∙_, subst}
-use mathlib.Core.Bool.{Bool, true, false, cond}
-use mathlib.Core.List.{List, [], _++_, map, append-assoc, append-nil}
-use Prim.Native.Nat.{ℕ, _+_, _-_, _*_, _/_, _<_, _≤_}
+use mathlib.Core.Bool.{Bool, true, cond}
+use mathlib.Core.List.{List, _++_, append-assoc}
+use Prim.Native.Nat.{ℕ, _+_, _-_, _/_, _<_, _≤_}
 use native.Mathlib.Omega.{arith}
 use lib.ListN.{length, take, drop, replicate, length-append, length-drop}
-use lib.Seq.{length-take-le, getD-drop, take-at, drop-at, take-take, drop-length}
+use lib.Seq.{length-take-le, getD-drop, take-at, drop-at, take-take}
 use Rattle.octets.specs.Buffers.{put}
 use Rattle.octets.specs.Numbers.{be, toBe, toLe}
-use Rattle.octets.proofs.BufferLaws.{put-behind, put-whole, getD-padded, rest, length-put, take-put}
+use Rattle.octets.proofs.BufferLaws.{put-behind, put-whole, getD-padded, length-put, take-put}
 use Rattle.octets.proofs.NumberLaws.{be-same, toLe-add, length-toBe, length-toLe}
-use Rattle.aes.specs.KeyExpansion.{keyExpansion}
-use Rattle.aes.specs.Keyed.{nkOf}
-use Rattle.aes.specs.Words.{bytes}
-use Rattle.aes.proofs.KeyedLaws.{KeyLength, key-length, key-most}
-use Rattle.ctr.specs.Gctr.{ciphAt}
-use Rattle.gcm.specs.Gcm.{seal, textOf}
-use Rattle.gcm.specs.Keyed.{maxText, ciphOf, answer, openAnswer, openOut}
-use Rattle.gcm.specs.declared.Opened.{Opened as Answer}
-use Rattle.gcm.specs.declared.Opened.the-variants.{Text, Forged, Unlawful}
-use Rattle.gcm.proofs.KeyedLaws.{ciph-key, open-lawful, open-decided, answer-text, answer-forged, answer-lawful}
+use Rattle.protocol.specs.declared.Cipher.{Cipher}
+use Rattle.aead.specs.Aead.{Keyed, keyed, KeyFor, textOf, sealBy, authenticBy, openedBy}
+use Rattle.aead.proofs.AeadLaws.{key-for-most, sealed-authentic, sealed-opens}
 use Rattle.stream_pieces.specs.declared.Subkey.{Subkey}
 use Rattle.stream_pieces.specs.Pieces.{nonce, sealAt, authenticAt, openAt, subkeyWords, subkeyBytes, keyOf}
-use Rattle.stream_pieces.proofs.LengthLaws.{length-nonce, length-subkeyBytes}
+use Rattle.stream_pieces.proofs.LengthLaws.{length-subkeyBytes}
 
 -- ---- the nonce
 
@@ -77,45 +70,28 @@ bytes-law d v u t r w l ev eu et er =
 
 -- ---- the key of a piece
 
-module _ (w : Subkey) (k : ℕ) (has-key : 0 < nkOf k) where
+module _ (c : Cipher) (w : Subkey) (k : ℕ) (has-key : KeyFor c k) where
   pub key-inside : k ≤ length (subkeyBytes w)
-  key-inside = omega (arith, key-most k has-key, length-subkeyBytes w)
+  key-inside = omega (arith, key-for-most c k has-key, length-subkeyBytes w)
 
   pub length-keyOf : length (keyOf w k) ≡ k
   unfolding keyOf
   length-keyOf = length-take-le k (subkeyBytes w) key-inside
 
-  key-lawful : 0 < nkOf (length (keyOf w k))
-  key-lawful = subst (λ (m : ℕ). 0 < nkOf m) (sym length-keyOf) has-key
-
-  -- what its length says of Nk
-  pub key-facts : KeyLength k (nkOf k)
-  key-facts = key-length k (λ e. let z : 0 < nkOf k = has-key in omega (arith, e, z))
-
-  -- the cipher at the words of its expansion
-  pub expanded : (nk : ℕ) (key r : List ℕ) → nk ≡ nkOf k → key ≡ subkeyBytes w
-      → map bytes (take (4 * nk + 28) r) ≡ keyExpansion nk (take k key) → ciphAt (nkOf k + 6) r ≡ ciphOf (keyOf w k)
+  -- in the buffer that the bytes were written to
+  pub key-there : (key : List ℕ) → key ≡ subkeyBytes w → KeyFor c (length (take k key))
   unfolding keyOf
-  expanded nk key r en ek er =
-      ap (λ (m : ℕ). ciphAt (m + 6) r) (sym en)
-      ∙ ciph-key nk (keyOf w k) r (en ∙ ap nkOf (sym length-keyOf)) (er ∙ ap (λ (x : List ℕ). keyExpansion nk (take k x)) ek)
+  key-there key e = subst (KeyFor c) (sym (ap (λ (x : List ℕ). length (take k x)) e ∙ length-keyOf)) has-key
 
 -- ---- two pieces, one behind the other
 
--- sealed one after the other in their buffer, under one cipher
-pub pair-sealed : (rounds : ℕ) (words key d n m a b : List ℕ) (counter at : ℕ) → ciphAt rounds words ≡ ciphOf key → n ≡ nonce counter
-    → m ≡ nonce (counter + 1) → a ≡ seal (ciphAt rounds words) n (textOf (take at d)) → length a ≡ at → let v = a ++ drop at d in
-    b ≡ seal (ciphAt rounds words) m (textOf (take (length v - at) (drop at v)))
-    → take at v ++ (b ++ drop (length v - at) (drop at v))
-    ≡ sealAt key counter (textOf (take at d)) ++ sealAt key (counter + 1) (textOf (drop at d))
-unfolding sealAt
-pair-sealed rounds words key d n m a b counter at ec en em ea la eb =
-    let v = a ++ drop at d in
-    let back : take (length v - at) (drop at v) ≡ drop at d = rest v at ∙ drop-at a (drop at d) at la in
-    let nothing : drop (length v - at) (drop at v) ≡ [] = ap (λ (x : ℕ). drop x (drop at v)) (sym (length-drop at v)) ∙ drop-length (drop at v) in
-    (λ i. take-at a (drop at d) at la i ++ (b ++ nothing i))
-    ∙ ap (λ (x : List ℕ). a ++ x) (append-nil b)
-    ∙ (λ i. (ea ∙ (λ j. seal (ec j) (en j) (textOf (take at d)))) i ++ (eb ∙ (λ j. seal (ec j) (em j) (textOf (back j)))) i)
+-- sealed one after the other in their buffer, under one key
+pub pair-sealed : (c : Cipher) (w : Subkey) (k counter at : ℕ) (key n m d r : List ℕ) → key ≡ subkeyBytes w → n ≡ nonce counter
+    → m ≡ nonce (counter + 1) → r ≡ sealBy c (take k key) n (textOf (take at d)) ++ sealBy c (take k key) m (textOf (drop at d))
+    → r ≡ sealAt (keyed c (keyOf w k)) counter (textOf (take at d)) ++ sealAt (keyed c (keyOf w k)) (counter + 1) (textOf (drop at d))
+unfolding sealAt keyOf
+pair-sealed c w k counter at key n m d r ek en em er =
+    er ∙ (λ i. sealBy c (take k (ek i)) (en i) (textOf (take at d)) ++ sealBy c (take k (ek i)) (em i) (textOf (drop at d)))
 
 -- two texts, each with room for its tag behind it
 module _ (d p q v o : List ℕ) (at : ℕ) (front : at ≡ length p + 16) (whole : length d ≡ at + length q + 16) (ev : v ≡ put d 0 p)
@@ -148,42 +124,23 @@ module _ (d p q v o : List ℕ) (at : ℕ) (front : at ≡ length p + 16) (whole
       ap textOf (ap (drop at) parts ∙ drop-at (take at v) (q ++ r) at long) ∙ take-at q r (length (q ++ r) - 16) n
 
   -- so the two are sealed
-  pub pair-law : (key r : List ℕ) (counter : ℕ)
+  pub pair-law : (key : Keyed) (r : List ℕ) (counter : ℕ)
       → r ≡ sealAt key counter (textOf (take at o)) ++ sealAt key (counter + 1) (textOf (drop at o))
       → r ≡ sealAt key counter p ++ sealAt key (counter + 1) q
   pair-law key r counter er = er ∙ (λ i. sealAt key counter (first-text i) ++ sealAt key (counter + 1) (second-text i))
 
 -- ---- opened
 
--- GCM's answer and what it leaves in the buffer, by the piece's tag
-pub record PieceOpened (key : List ℕ) (counter : ℕ) (s out : List ℕ) (a : Answer) (o : List ℕ) : Type 0 where
-  pub answers : answer true (authenticAt key counter s) ≡ a
-  pub leaves : cond (authenticAt key counter s) (put out 0 (openAt key counter s)) out ≡ o
-
-pub piece-opened : (w : Subkey) (k counter : ℕ) (s out : List ℕ) → 0 < nkOf k → 16 ≤ length s → length s ≤ 65551 → length s - 16 ≤ length out
-    → (key n : List ℕ) → key ≡ subkeyBytes w → n ≡ nonce counter → (a : Answer) (o : List ℕ) → a ≡ openAnswer (take k key) n s out
-    → o ≡ openOut (take k key) n s out → PieceOpened (keyOf w k) counter s out a o
+pub piece-opened : (c : Cipher) (w : Subkey) (k counter : ℕ) (s out key n : List ℕ) (b : Bool) (o : List ℕ) → key ≡ subkeyBytes w → n ≡ nonce counter
+    → b ≡ authenticBy c (take k key) n s → o ≡ cond b (put out 0 (openedBy c (take k key) n s)) out
+    → (b ≡ authenticAt (keyed c (keyOf w k)) counter s) × (o ≡ cond b (put out 0 (openAt (keyed c (keyOf w k)) counter s)) out)
 unfolding authenticAt openAt keyOf
-piece-opened w k counter s out has-key tagged small room key n ek en a o ea eo =
-    let long : length s - 16 ≤ maxText = omega arith in
-    let l = open-lawful (keyOf w k) (nonce counter) s out (key-lawful w k has-key) (length-nonce counter) tagged long room in
-    let d = open-decided (keyOf w k) (nonce counter) s out l in
-    record {
-      answers = d .0 ∙ sym (ea ∙ (λ i. openAnswer (take k (ek i)) (en i) s out));
-      leaves = d .1 ∙ sym (eo ∙ (λ i. openOut (take k (ek i)) (en i) s out));
-    }
+piece-opened c w k counter s out key n b o ek en eb eo =
+    (eb ∙ (λ i. authenticBy c (take k (ek i)) (en i) s), eo ∙ (λ i. cond b (put out 0 (openedBy c (take k (ek i)) (en i) s)) out))
 
-module _ (key : List ℕ) (counter : ℕ) (s out : List ℕ) (a : Answer) (o : List ℕ) (d : PieceOpened key counter s out a o) where
-  piece-decided : (b : Bool) → authenticAt key counter s ≡ b
-      → (b ≡ authenticAt key counter s) × (o ≡ cond b (put out 0 (openAt key counter s)) out)
-  piece-decided b e = (sym e, sym (d .leaves) ∙ ap (λ (t : Bool). cond t (put out 0 (openAt key counter s)) out) e)
-
-  pub piece-text : a ≡ Text → (true ≡ authenticAt key counter s) × (o ≡ put out 0 (openAt key counter s))
-  piece-text e = piece-decided true (answer-text (authenticAt key counter s) (d .answers ∙ e))
-
-  pub piece-forged : a ≡ Forged → (false ≡ authenticAt key counter s) × (o ≡ out)
-  piece-forged e = piece-decided false (answer-forged (authenticAt key counter s) (d .answers ∙ e))
-
-  -- GCM refuses no length here
-  pub piece-lawful : a ≡ Unlawful → ⊥
-  piece-lawful e = answer-lawful (authenticAt key counter s) (d .answers ∙ e)
+-- what is sealed is authentic, and opens to the same text
+pub piece-back : (key : Keyed) (counter : ℕ) (text : List ℕ)
+    → (authenticAt key counter (sealAt key counter text) ≡ true) × (openAt key counter (sealAt key counter text) ≡ text)
+unfolding authenticAt openAt sealAt
+piece-back key counter text =
+    (sealed-authentic (key .cipher) (key .bytes) (nonce counter) text, sealed-opens (key .cipher) (key .bytes) (nonce counter) text)

@@ -1,13 +1,13 @@
--- SIP022, section 3.1: a stream is made of pieces, each sealed in AES-GCM under the stream's subkey and a nonce that counts
--- them from 0.
+-- SIP022, section 3.1: a stream is made of pieces, each sealed under the stream's subkey and a nonce that counts them from 0.
 use mathlib.Core.Bool.{Bool}
 use mathlib.Core.List.{List, _++_}
 use Prim.Native.Nat.{ℕ, _+_, _-_, _^_}
 use lib.ListN.{take, drop}
 use Rattle.octets.specs.Numbers.{be, toBe, toLe}
-use Rattle.gcm.specs.Gcm as gcm
-pub use Rattle.gcm.specs.Gcm.{tagLength}
-use Rattle.gcm.specs.Keyed.{ciphOf, authentic}
+use Rattle.aead.specs.Aead as aead
+pub use Rattle.aead.specs.Aead.{tagLength, Keyed, keyed}
+use Rattle.protocol.specs.Method.{cipherOf}
+use Rattle.protocol.specs.Subkey.{subkey}
 use Rattle.stream_pieces.specs.declared.Subkey.{Subkey}
 
 -- the nonce: the counter in 12 bytes, little-endian
@@ -37,14 +37,14 @@ lastCounter = 2 ^ 64 - 1
 
 -- ---- one piece, under a key and a counter
 
-unfoldable pub sealAt : List ℕ → ℕ → List ℕ → List ℕ
-sealAt key counter text = gcm.seal (ciphOf key) (nonce counter) text
+unfoldable pub sealAt : Keyed → ℕ → List ℕ → List ℕ
+sealAt key counter text = aead.seal key (nonce counter) text
 
-unfoldable pub authenticAt : List ℕ → ℕ → List ℕ → Bool
-authenticAt key counter s = authentic (ciphOf key) (nonce counter) s
+unfoldable pub authenticAt : Keyed → ℕ → List ℕ → Bool
+authenticAt key counter s = aead.authentic key (nonce counter) s
 
-unfoldable pub openAt : List ℕ → ℕ → List ℕ → List ℕ
-openAt key counter s = gcm.opened (ciphOf key) (nonce counter) s
+unfoldable pub openAt : Keyed → ℕ → List ℕ → List ℕ
+openAt key counter s = aead.opened key (nonce counter) s
 
 -- ---- a subkey in four words, big-endian, as the state of a stream has it
 
@@ -58,3 +58,7 @@ subkeyBytes w = toBe 8 (w .a) ++ (toBe 8 (w .b) ++ (toBe 8 (w .c) ++ toBe 8 (w .
 -- the key of k bytes
 unfoldable pub keyOf : Subkey → ℕ → List ℕ
 keyOf w k = take k (subkeyBytes w)
+
+-- the key of a stream of a method, under a key and its salt
+abbrev pub saltedKey : ℕ → (key salt : List ℕ) → Keyed
+saltedKey method key salt = keyed (cipherOf method) (subkey key salt)

@@ -1,6 +1,7 @@
-// One piece of a stream of SIP022, section 3.1: a text sealed in AES-GCM under the stream's subkey and its own counter. A head, a
-// length and a payload are pieces; what both directions share of them is here.
-pub use gcm::TAG;
+// One piece of a stream of SIP022, section 3.1: a text sealed under the stream's subkey and its own counter. A head, a length and a
+// payload are pieces; what both directions share of them is here.
+pub use aead::TAG;
+use protocol::Cipher;
 use protocol::MAX_KEY;
 ghost use mathlib.Core.Path.{_≡_};
 ghost use mathlib.Core.List.{_++_};
@@ -8,13 +9,8 @@ ghost use Prim.Native.Nat.{_+_, _-_, _*_, _<_, _≤_};
 ghost use lib.ListN.{length, take, drop};
 ghost use Rattle.octets.specs.Buffers.{put};
 ghost use mathlib.Core.Bool.{cond};
-ghost use Rattle.aes_tables.specs.SBox.{sBox};
-ghost use Rattle.aes_tables.specs.Tables.{IsTable};
-ghost use Rattle.aes.specs.Keyed.{nkOf};
-ghost use Rattle.ctr.specs.Gctr.{ciphAt};
-ghost use Rattle.gcm.specs.Gcm.{textOf};
+ghost use Rattle.aead.specs.Aead.{KeyFor, textOf, keyed};
 ghost use Rattle.protocol.specs.Method.{maxKey};
-ghost use Rattle.gcm.specs.Keyed.{ciphOf};
 ghost use Rattle.protocol.specs.Subkey.{subkey as subkeyOf};
 ghost use Rattle.stream_pieces.specs.Framing.{framingOf};
 ghost use Rattle.stream_pieces.specs.Pieces.{nonce as nonceOf, tagLength, sealAt, authenticAt, openAt, subkeyWords, subkeyBytes, keyOf, maxChunk, lastCounter};
@@ -35,8 +31,10 @@ pub const MAX_FIXED: usize = FIXED + MAX_KEY;
 // The counter that is never used.
 pub const LAST_COUNTER: u64 = 0xffff_ffff_ffff_ffff;
 
-// How an edition frames the payloads of a stream: the length of its key, and the least and the greatest length of a payload.
+// How an edition frames the payloads of a stream: its cipher, the length of its key, and the least and the greatest length of a
+// payload.
 pub struct Framing {
+    pub cipher: Cipher,
     pub key: usize,
     pub least: usize,
     pub greatest: usize,
@@ -55,6 +53,7 @@ pub fn framing_of(method: u64) -> Framing
     ensures { λ r. ⌜ r ≡ framingOf method ⌝ }
 {
     Framing {
+        cipher: protocol::cipher_of(method),
         key: protocol::key_length(method),
         least: 1,
         greatest: MAX_CHUNK,
@@ -104,55 +103,42 @@ pub fn derive(key: &[u8], salt: &[u8]) -> Subkey
     subkey_words(&s)
 }
 
-// The words of the key expansion, for a subkey of k bytes.
-fn expand(sbox: &[u8; 256], w: Subkey, k: usize) -> [u32; 60]
-    requires { ⌜ 0 < nkOf k ⌝ }
-    requires { ⌜ IsTable sBox (now sbox) ⌝ }
-    ensures { λ r. ⌜ ciphAt (nkOf k + 6) r ≡ ciphOf (keyOf w k) ⌝ }
-{
-    let key = subkey_bytes(w);
-    aes::key::expand(sbox, &key[..k], aes::key::key_words(k))
-}
-
 // Seals the two pieces of one call in place, the first up to a place and the second from there on; the last bytes of each
-// are room for its tag. The key is expanded and its tables are made once for both.
-pub fn seal_pair(w: Subkey, k: usize, counter: u64, at: usize, body: &mut [u8])
-    requires { ⌜ 0 < nkOf k ⌝ }
+// are room for its tag.
+pub fn seal_pair(cipher: Cipher, w: Subkey, k: usize, counter: u64, at: usize, body: &mut [u8])
+    requires { ⌜ KeyFor cipher k ⌝ }
     requires { ⌜ counter < lastCounter ⌝ }
     requires { ⌜ tagLength ≤ at ⌝ }
     requires { ⌜ at + tagLength ≤ length (now body) ⌝ }
     requires { ⌜ length (now body) ≤ 2 * (maxChunk + tagLength) ⌝ }
     ensures { λ _. ⌜ now (body .exit)
-        ≡ sealAt (keyOf w k) counter (textOf (take at (now (body .entry))))
-        ++ sealAt (keyOf w k) (counter + 1) (textOf (drop at (now (body .entry)))) ⌝ }
+        ≡ sealAt (keyed cipher (keyOf w k)) counter (textOf (take at (now (body .entry))))
+        ++ sealAt (keyed cipher (keyOf w k)) (counter + 1) (textOf (drop at (now (body .entry)))) ⌝ }
 {
-    let sbox = aes_tables::sbox();
-    let t = aes_tables::mix_table();
-    let words = expand(&sbox, w, k);
-    let rounds = aes::key::key_words(k) + 6;
-    let mut g = [0u64; 128];
-    gcm::write_hash_table(&mut g, &t, &sbox, &words, rounds);
+    let key = subkey_bytes(w);
     let first = nonce(counter);
-    gcm::seal_in_place_at(&t, &sbox, &words, rounds, &g, &first, &mut body[..at]);
     let second = nonce(counter + 1);
-    gcm::seal_in_place_at(&t, &sbox, &words, rounds, &g, &second, &mut body[at..]);
+    aead::seal_pair(cipher, &key[..k], &first, &second, at, body);
 }
 
 // Opens a piece to the front of a buffer: whether its tag is good; if not, nothing is written.
-pub fn open_piece(w: Subkey, k: usize, counter: u64, s: &[u8], out: &mut [u8]) -> bool
-    requires { ⌜ 0 < nkOf k ⌝ }
+pub fn open_piece(
+    cipher: Cipher,
+    w: Subkey,
+    k: usize,
+    counter: u64,
+    s: &[u8],
+    out: &mut [u8],
+) -> bool
+    requires { ⌜ KeyFor cipher k ⌝ }
     requires { ⌜ tagLength ≤ length (now s) ⌝ }
     requires { ⌜ length (now s) ≤ maxChunk + tagLength ⌝ }
     requires { ⌜ length (now s) - tagLength ≤ length (now out) ⌝ }
-    ensures { λ r. ⌜ r ≡ authenticAt (keyOf w k) counter (now (s .entry)) ⌝ }
+    ensures { λ r. ⌜ r ≡ authenticAt (keyed cipher (keyOf w k)) counter (now (s .entry)) ⌝ }
     ensures { λ r. ⌜ now (out .exit)
-        ≡ cond r (put (now (out .entry)) 0 (openAt (keyOf w k) counter (now (s .entry)))) (now (out .entry)) ⌝ }
+        ≡ cond r (put (now (out .entry)) 0 (openAt (keyed cipher (keyOf w k)) counter (now (s .entry)))) (now (out .entry)) ⌝ }
 {
     let key = subkey_bytes(w);
     let n = nonce(counter);
-    match gcm::open(&key[..k], &n, s, out) {
-        gcm::Opened::Text => true,
-        gcm::Opened::Forged => false,
-        gcm::Opened::Unlawful => false,
-    }
+    aead::open(cipher, &key[..k], &n, s, out)
 }

@@ -7,11 +7,11 @@ use native.Mathlib.Omega.{arith}
 use lib.ListN.{length, length-append}
 use Rattle.octets.specs.Numbers.{toBe}
 use Rattle.octets.proofs.NumberLaws.{length-toBe}
-use Rattle.stream_pieces.specs.Pieces.{sealAt}
+use Rattle.stream_pieces.specs.Pieces.{sealAt, Keyed}
 use Rattle.stream_seal.specs.Sealing.{chunk}
 use Rattle.stream_pieces.proofs.LengthLaws.{length-sealAt}
 
-pub length-chunk : (key : List ℕ) (counter : ℕ) (payload : List ℕ) → length (chunk key counter payload) ≡ 18 + length payload + 16
+pub length-chunk : (key : Keyed) (counter : ℕ) (payload : List ℕ) → length (chunk key counter payload) ≡ 18 + length payload + 16
 unfolding chunk
 length-chunk key counter payload =
     omega (

@@ -8,18 +8,18 @@ use lib.ListN.{length}
 use Rattle.octets.specs.Buffers.{put}
 use Rattle.octets.specs.Numbers.{toBe}
 use Rattle.protocol.specs.declared.Refusal.the-variants.{Settings, Length, Room, Counter, Empty}
-use Rattle.protocol.specs.Method.{keyLength}
+use Rattle.protocol.specs.Method.{keyLength, cipherOf}
 use Rattle.stream_seal.specs.declared.Sender.{Sender}
 use Rattle.stream_seal.specs.declared.Sealed.{Sealed}
 use Rattle.stream_seal.specs.declared.Sealed.the-variants.{Bytes, Refused}
 use Rattle.stream_pieces.specs.declared.Framing.{Framing}
 use Rattle.stream_pieces.specs.Framing.{under, framingOf}
-use Rattle.stream_pieces.specs.Pieces.{tagLength, lengthPiece, sealAt, keyOf, lastCounter}
+use Rattle.stream_pieces.specs.Pieces.{tagLength, lengthPiece, sealAt, keyOf, lastCounter, Keyed, keyed}
 
 -- ---- what is written
 
 -- a length with its payload
-unfoldable pub chunk : List ℕ → ℕ → List ℕ → List ℕ
+unfoldable pub chunk : Keyed → ℕ → List ℕ → List ℕ
 chunk key counter payload = sealAt key counter (toBe 2 (length payload)) ++ sealAt key (counter + 1) payload
 
 -- ---- what is answered
@@ -47,8 +47,8 @@ sealOut (Refused r) text out = out
 
 -- ---- SIP022: the framing is the method's
 
-abbrev pub senderKey : Sender → List ℕ
-senderKey s = keyOf (s .subkey) (keyLength (s .method))
+abbrev pub senderKey : Sender → Keyed
+senderKey s = keyed (cipherOf (s .method)) (keyOf (s .subkey) (keyLength (s .method)))
 
 abbrev pub chunkAnswer : Sender → ℕ → ℕ → Sealed
 chunkAnswer s payload room = framedAnswer (framingOf (s .method)) s payload room

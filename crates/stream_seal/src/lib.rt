@@ -1,16 +1,17 @@
 // The sending half of a stream behind its head: lengths and payloads, sealed one chunk after another.
-use gcm::TAG;
+use protocol::Cipher;
 use protocol::Refusal;
 use stream_pieces::Framing;
 use stream_pieces::LAST_COUNTER;
 use stream_pieces::LENGTH_PIECE;
 use stream_pieces::Subkey;
+use stream_pieces::TAG;
 use stream_pieces::framing_of;
 use stream_pieces::seal_pair;
 ghost use mathlib.Core.Path.{_≡_};
 ghost use Prim.Native.Nat.{_+_, _-_, _<_, _≤_};
 ghost use lib.ListN.{length};
-ghost use Rattle.aes.specs.Keyed.{nkOf};
+ghost use Rattle.aead.specs.Aead.{KeyFor, keyed};
 ghost use Rattle.stream_pieces.specs.Framing.{HasCipher};
 ghost use Rattle.stream_pieces.specs.Pieces.{tagLength, lengthPiece, keyOf, maxChunk, lastCounter};
 ghost use Rattle.stream_seal.specs.Sealing.{chunk, moved as movedOf, senderKey, sizeAnswer, framedAnswer, chunkAnswer, sealOut};
@@ -85,16 +86,16 @@ fn framed_answer(f: Framing, stream: Sender, payload: usize, room: usize) -> Sea
 // ---- what is written
 
 // A length with its payload, into a buffer that they fill.
-fn write_chunk(body: &mut [u8], w: Subkey, k: usize, counter: u64, payload: &[u8])
-    requires { ⌜ 0 < nkOf k ⌝ }
+fn write_chunk(body: &mut [u8], cipher: Cipher, w: Subkey, k: usize, counter: u64, payload: &[u8])
+    requires { ⌜ KeyFor cipher k ⌝ }
     requires { ⌜ counter < lastCounter ⌝ }
     requires { ⌜ length (now payload) ≤ maxChunk ⌝ }
     requires { ⌜ length (now body) ≡ lengthPiece + length (now payload) + tagLength ⌝ }
-    ensures { λ _. ⌜ now (body .exit) ≡ chunk (keyOf w k) counter (now (payload .entry)) ⌝ }
+    ensures { λ _. ⌜ now (body .exit) ≡ chunk (keyed cipher (keyOf w k)) counter (now (payload .entry)) ⌝ }
 {
     octets::write_u16_be(body, 0, payload.len() as u16);
     octets::copy(body, LENGTH_PIECE, payload);
-    seal_pair(w, k, counter, LENGTH_PIECE, body);
+    seal_pair(cipher, w, k, counter, LENGTH_PIECE, body);
 }
 
 // Seals a length with its payload, framed so, to the front of the lent buffer. A refusal writes nothing, and the stream stays as
@@ -104,13 +105,14 @@ pub fn seal_framed(f: Framing, stream: Sender, payload: &[u8], out: &mut [u8]) -
     requires { ⌜ f .greatest ≤ maxChunk ⌝ }
     ensures { λ r. ⌜ r ≡ framedAnswer f stream (length (now (payload .entry))) (length (now (out .entry))) ⌝ }
     ensures { λ r. ⌜ now (out .exit)
-        ≡ sealOut r (chunk (keyOf (stream .subkey) (f .key)) (stream .counter) (now (payload .entry))) (now (out .entry)) ⌝ }
+        ≡ sealOut r (chunk (keyed (f .cipher) (keyOf (stream .subkey) (f .key))) (stream .counter) (now (payload .entry))) (now (out .entry)) ⌝ }
 {
     let answer = framed_answer(f, stream, payload.len(), out.len());
     match answer {
         Sealed::Bytes(n, _) => {
+            let cipher = f.cipher;
             let w = stream.subkey;
-            write_chunk(&mut out[..n], w, f.key, stream.counter, payload);
+            write_chunk(&mut out[..n], cipher, w, f.key, stream.counter, payload);
             answer
         }
         Sealed::Refused(_) => answer,

@@ -3,17 +3,17 @@
 use mathlib.Core.Path.{_≡_, refl, sym, ap, ap₂, _∙_, subst}
 use mathlib.Core.Bool.{Bool, true, false, cond, _&&_, and-eq-true-iff}
 use mathlib.Core.List.{List}
-use mathlib.Core.Logic.{_⊎_}
+use mathlib.Core.Logic.{_⊎_, inl, inr}
 use Prim.Native.Nat.{ℕ, _+_, _≤_, _<_, min}
 use native.Mathlib.Decide.{decLe}
 use native.Mathlib.Omega.{arith}
 use lib.Dec.{eqb, leb, ltb}
 use lib.ListN.{length}
 use borrow.Author.Tests.{ne-eqb, eq-eqb, le-leb, lt-leb, lt-ltb, eqb-true}
-use Rattle.aes.specs.Keyed.{nkOf}
-use Rattle.aes.proofs.KeyedLaws.{key-most}
+use Rattle.aead.specs.Aead.{KeyFor}
+use Rattle.protocol.specs.declared.Cipher.{Cipher}
 use Rattle.protocol.specs.declared.Refusal.the-variants.{Settings, Argument, Empty}
-use Rattle.protocol.specs.Method.{keyFits, saltLength}
+use Rattle.protocol.specs.Method.{keyFits, saltLength, cipherOf}
 use Rattle.protocol.specs.Subkey.{subkey}
 use Rattle.protocol.proofs.MethodLaws.{fits-sizes}
 use Rattle.socks5.specs.Address.{isAddress}
@@ -49,13 +49,17 @@ module _ (method key salt : ℕ) where
   unfolding sizesFit
   salt-decides e n en = ap (eqb salt) en ∙ sym (ap (λ (b : Bool). b && eqb salt (saltLength method)) e)
 
+  most-of : (key ≡ 16) ⊎ (key ≡ 32) → key ≤ 32
+  most-of (inl e) = omega (arith, e)
+  most-of (inr e) = omega (arith, e)
+
   pub suited : sizesFit method key salt ≡ true → Suited method key salt
   unfolding sizesFit
   suited e =
       let p = and-eq-true-iff (keyFits method key) (eqb salt (saltLength method)) .0 e in
       let s = fits-sizes method key (p .0) in
       let is : salt ≡ key = eqb-true salt (saltLength method) (p .1) ∙ s .salt-is in
-      let most : key ≤ 32 = key-most key (key-of-method method key (p .0)) in
+      let most : key ≤ 32 = most-of (s .either) in
       record { fits = p .0; same = is; either = s .either; key-within = most; salt-within = omega (arith, is, most) }
 
 -- ---- padding
@@ -174,21 +178,21 @@ key-back key salt w same either within ew =
     ∙ subkey-back (subkey key salt) (octets-subkey key salt) (words-of-either _ (subst (λ (n : ℕ). (n ≡ 16) ⊎ (n ≡ 32)) (sym l) either))
 
 module _ (method : ℕ) (key salt : List ℕ) (fit : Suited method (length key) (length salt)) where
-  key-good : 0 < nkOf (length salt)
-  key-good = subst (λ (n : ℕ). 0 < nkOf n) (sym (fit .same)) (key-of-method method (length key) (fit .fits))
+  key-good : KeyFor (cipherOf method) (length salt)
+  key-good = subst (KeyFor (cipherOf method)) (sym (fit .same)) (key-of-method method (length key) (fit .fits))
 
   key-held : (w : Subkey) → w ≡ subkeyWords (subkey key salt) → keyOf w (length salt) ≡ subkey key salt
   key-held w = key-back key salt w (fit .same) (fit .either) (fit .key-within)
 
-pub record SealableRequest (key salt address : List ℕ) (padding payload room n : ℕ) (s : Sender) : Type 0 where
-  pub good : 0 < nkOf (length salt)
+pub record SealableRequest (method : ℕ) (key salt address : List ℕ) (padding payload room n : ℕ) (s : Sender) : Type 0 where
+  pub good : (c : Cipher) → c ≡ cipherOf method → KeyFor c (length salt)
   pub most : variableLength (length address) padding payload ≤ maxChunk
   pub size : n ≡ length salt + 27 + variableLength (length address) padding payload + 16
   pub space : n ≤ room
   pub held : keyOf (s .subkey) (length salt) ≡ subkey key salt
 
 pub request-sealable : (method : ℕ) (key salt address : List ℕ) (padding payload room n : ℕ) (s : Sender)
-    → requestAnswer method key salt address padding payload room ≡ Bytes n s → SealableRequest key salt address padding payload room n s
+    → requestAnswer method key salt address padding payload room ≡ Bytes n s → SealableRequest method key salt address padding payload room n s
 unfolding requestAnswer
 request-sealable method key salt address padding payload room n s e =
     let e₁ = passed (sizesFit method (length key) (length salt)) _ _ n s e in
@@ -196,15 +200,15 @@ request-sealable method key salt address padding payload room n s e =
     let fit = suited method (length key) (length salt) (e₁ .0) in
     let z = sized maxChunk (variableLength (length address) padding payload) (length salt + 27) room (begun method key salt) n s (e₂ .1) in
     record {
-      good = key-good method key salt fit;
+      good = λ c e. subst (λ (x : Cipher). KeyFor x (length salt)) (sym e) (key-good method key salt fit);
       most = z .most;
       size = z .size;
       space = z .space;
       held = key-held method key salt fit (s .subkey) (z .words);
     }
 
-pub record SealableResponse (key salt binding : List ℕ) (payload room n : ℕ) (s : Sender) : Type 0 where
-  pub good : 0 < nkOf (length salt)
+pub record SealableResponse (method : ℕ) (key salt binding : List ℕ) (payload room n : ℕ) (s : Sender) : Type 0 where
+  pub good : (c : Cipher) → c ≡ cipherOf method → KeyFor c (length salt)
   pub bound : length binding ≡ length salt
   pub most : payload ≤ maxChunk
   pub size : n ≡ length salt + 27 + length binding + payload + 16
@@ -212,7 +216,7 @@ pub record SealableResponse (key salt binding : List ℕ) (payload room n : ℕ)
   pub held : keyOf (s .subkey) (length salt) ≡ subkey key salt
 
 pub response-sealable : (method : ℕ) (key salt binding : List ℕ) (payload room n : ℕ) (s : Sender)
-    → responseAnswer method key salt binding payload room ≡ Bytes n s → SealableResponse key salt binding payload room n s
+    → responseAnswer method key salt binding payload room ≡ Bytes n s → SealableResponse method key salt binding payload room n s
 unfolding responseAnswer
 response-sealable method key salt binding payload room n s e =
     let e₁ = passed (sizesFit method (length key) (length salt) && eqb (length binding) (length salt)) _ _ n s e in
@@ -221,7 +225,7 @@ response-sealable method key salt binding payload room n s e =
     let e₂ = escaped (isEmpty payload) _ _ n s (e₁ .1) in
     let z = sized maxChunk payload (length salt + 27 + length binding) room (begun method key salt) n s (e₂ .1) in
     record {
-      good = key-good method key salt fit;
+      good = λ c e. subst (λ (x : Cipher). KeyFor x (length salt)) (sym e) (key-good method key salt fit);
       bound = eqb-true (length binding) (length salt) (p .1);
       most = z .most;
       size = z .size;

@@ -7,7 +7,7 @@ use native.Mathlib.Omega.{arith}
 use lib.ListN.{length, replicate, length-append, length-replicate}
 use Rattle.octets.specs.Numbers.{toBe}
 use Rattle.octets.proofs.NumberLaws.{length-toBe}
-use Rattle.stream_pieces.specs.Pieces.{sealAt}
+use Rattle.stream_pieces.specs.Pieces.{sealAt, Keyed}
 use Rattle.stream_pieces.proofs.LengthLaws.{length-sealAt}
 use Rattle.stream_seal_heads.specs.HeadSealing.{fixedPart, front, variablePart, variableLength, requestAt, responseOf}
 
@@ -22,7 +22,7 @@ length-fixedPart kind time binding n =
       length-toBe 2 n,
     )
 
-pub length-front : (key salt : List ℕ) (kind time : ℕ) (binding : List ℕ) (n : ℕ)
+pub length-front : (key : Keyed) (salt : List ℕ) (kind time : ℕ) (binding : List ℕ) (n : ℕ)
     → length (front key salt kind time binding n) ≡ length salt + 27 + length binding
 unfolding front
 length-front key salt kind time binding n =
@@ -47,7 +47,7 @@ length-variablePart address padding payload =
       length-replicate {A = ℕ} padding 0,
     )
 
-pub length-requestAt : (k salt : List ℕ) (time : ℕ) (address : List ℕ) (padding : ℕ) (payload : List ℕ)
+pub length-requestAt : (k : Keyed) (salt : List ℕ) (time : ℕ) (address : List ℕ) (padding : ℕ) (payload : List ℕ)
     → length (requestAt k salt time address padding payload) ≡ length salt + 27 + variableLength (length address) padding (length payload) + 16
 unfolding requestAt
 length-requestAt k salt time address padding payload =
@@ -60,7 +60,7 @@ length-requestAt k salt time address padding payload =
       length-variablePart address padding payload,
     )
 
-pub length-responseOf : (k salt binding : List ℕ) (time : ℕ) (payload : List ℕ)
+pub length-responseOf : (k : Keyed) (salt binding : List ℕ) (time : ℕ) (payload : List ℕ)
     → length (responseOf k salt binding time payload) ≡ length salt + 27 + length binding + length payload + 16
 unfolding responseOf
 length-responseOf k salt binding time payload =

@@ -9,9 +9,10 @@ use Rattle.octets.specs.Buffers.{put}
 use Rattle.octets.specs.Numbers.{toBe}
 use Rattle.octets.proofs.BufferLaws.{put-behind, put-one}
 use Rattle.octets.proofs.NumberLaws.{length-toBe}
-use Rattle.gcm.specs.Gcm.{textOf}
+use Rattle.aead.specs.Aead.{textOf}
+use Rattle.protocol.specs.declared.Cipher.{Cipher}
 use Rattle.protocol.specs.Subkey.{subkey}
-use Rattle.stream_pieces.specs.Pieces.{sealAt}
+use Rattle.stream_pieces.specs.Pieces.{sealAt, Keyed, keyed}
 use Rattle.stream_pieces.proofs.PieceLaws.{pair-law}
 use Rattle.stream_seal_heads.specs.HeadSealing.{fixedPart, front, variablePart, variableLength, requestAt, request, responseOf, response}
 use Rattle.stream_seal_heads.proofs.HeadLengthLaws.{length-fixedPart, length-variablePart}
@@ -57,7 +58,7 @@ variable-law d v u t w address at padding payload h ev eu et ew =
 
 -- ---- the two pieces, where they stand
 
-pub request-pieces : (key d v o r address : List ℕ) (clock m padding : ℕ) (payload : List ℕ)
+pub request-pieces : (key : Keyed) (d v o r address : List ℕ) (clock m padding : ℕ) (payload : List ℕ)
     → length d ≡ 27 + variableLength (length address) padding (length payload) + 16 → m ≡ length d - 43 → v ≡ put d 0 (fixedPart 0 clock [] m)
     → o ≡ put v 27 (variablePart address padding payload)
     → r ≡ sealAt key 0 (textOf (take 27 o)) ++ sealAt key 1 (textOf (drop 27 o)) → let q = variablePart address padding payload in
@@ -70,7 +71,7 @@ request-pieces key d v o r address clock m padding payload l em ev eo er =
     let front : 27 ≡ length p + 16 = omega (arith, length-fixedPart 0 clock [] (length q)) in
     pair-law d p q v o 27 front (omega (arith, l, lq)) (ev ∙ ap (λ (x : ℕ). put d 0 (fixedPart 0 clock [] x)) n) eo key r 0 er
 
-pub response-pieces : (key d v o r binding : List ℕ) (clock : ℕ) (payload : List ℕ)
+pub response-pieces : (key : Keyed) (d v o r binding : List ℕ) (clock : ℕ) (payload : List ℕ)
     → length d ≡ 27 + length binding + length payload + 16 → v ≡ put d 0 (fixedPart 1 clock binding (length payload))
     → let at = 27 + length binding in o ≡ put v at payload
     → r ≡ sealAt key 0 (textOf (take at o)) ++ sealAt key 1 (textOf (drop at o))
@@ -82,7 +83,7 @@ response-pieces key d v o r binding clock payload l ev eo er =
 
 -- ---- the whole: the pieces behind the salt
 
-module _ (key d v b w salt : List ℕ) (clock : ℕ) (h : length salt ≤ length d) (ev : v ≡ put d 0 salt) (ew : w ≡ put v (length salt) b) where
+module _ (key : Keyed) (d v b w salt : List ℕ) (clock : ℕ) (h : length salt ≤ length d) (ev : v ≡ put d 0 salt) (ew : w ≡ put v (length salt) b) where
   behind : (x y : List ℕ) → b ≡ x ++ y → w ≡ put d 0 (salt ++ x ++ y)
   behind x y eb =
       let n : length salt ≡ 0 + length salt = omega arith in
@@ -101,13 +102,16 @@ module _ (key d v b w salt : List ℕ) (clock : ℕ) (h : length salt ≤ length
   response-law binding payload eb = behind (sealAt key 0 (fixedPart 1 clock binding (length payload))) (sealAt key 1 payload) eb
 
 -- under the subkey of a key and the salt
-module _ (k key salt d w : List ℕ) (clock : ℕ) (e : k ≡ subkey key salt) where
-  pub request-under : (address : List ℕ) (padding : ℕ) (payload : List ℕ) → w ≡ put d 0 (requestAt k salt clock address padding payload)
-      → w ≡ put d 0 (request key salt clock address padding payload)
-  unfolding request
-  request-under address padding payload ew = ew ∙ ap (λ (x : List ℕ). put d 0 (requestAt x salt clock address padding payload)) e
+module _ (c f : Cipher) (same : c ≡ f) (k key salt d w : List ℕ) (clock : ℕ) (e : k ≡ subkey key salt) where
+  under : keyed c k ≡ keyed f (subkey key salt)
+  under = λ i. keyed (same i) (e i)
 
-  pub response-under : (binding payload : List ℕ) → w ≡ put d 0 (responseOf k salt binding clock payload)
-      → w ≡ put d 0 (response key salt binding clock payload)
+  pub request-under : (address : List ℕ) (padding : ℕ) (payload : List ℕ) → w ≡ put d 0 (requestAt (keyed c k) salt clock address padding payload)
+      → w ≡ put d 0 (request f key salt clock address padding payload)
+  unfolding request
+  request-under address padding payload ew = ew ∙ ap (λ (x : Keyed). put d 0 (requestAt x salt clock address padding payload)) under
+
+  pub response-under : (binding payload : List ℕ) → w ≡ put d 0 (responseOf (keyed c k) salt binding clock payload)
+      → w ≡ put d 0 (response f key salt binding clock payload)
   unfolding response
-  response-under binding payload ew = ew ∙ ap (λ (x : List ℕ). put d 0 (responseOf x salt binding clock payload)) e
+  response-under binding payload ew = ew ∙ ap (λ (x : Keyed). put d 0 (responseOf x salt binding clock payload)) under

@@ -5,6 +5,7 @@ use Prim.Native.Nat.{ℕ, _+_}
 use lib.Dec.{eqb, leb, ltb}
 use lib.ListN.{length, replicate}
 use Rattle.octets.specs.Numbers.{toBe}
+use Rattle.protocol.specs.declared.Cipher.{Cipher}
 use Rattle.protocol.specs.declared.Refusal.the-variants.{Settings, Argument, Empty}
 use Rattle.protocol.specs.Method.{keyFits, saltLength}
 use Rattle.protocol.specs.Subkey.{subkey}
@@ -13,7 +14,7 @@ use Rattle.stream_seal.specs.declared.Sender.{Sender}
 use Rattle.stream_seal.specs.declared.Sealed.{Sealed}
 use Rattle.stream_seal.specs.declared.Sealed.the-variants.{Refused}
 use Rattle.stream_pieces.specs.Framing.{isEmpty}
-use Rattle.stream_pieces.specs.Pieces.{fixedPiece, sealAt, subkeyWords, maxChunk}
+use Rattle.stream_pieces.specs.Pieces.{fixedPiece, sealAt, subkeyWords, maxChunk, Keyed, keyed}
 use Rattle.stream_seal.specs.Sealing.{sizeAnswer}
 use Rattle.stream_heads.specs.Heads.{maxPadding}
 
@@ -24,7 +25,7 @@ unfoldable pub fixedPart : (kind time : ℕ) → List ℕ → ℕ → List ℕ
 fixedPart kind time binding n = kind ∷ (toBe 8 time ++ (binding ++ toBe 2 n))
 
 -- the salt and the fixed header: the first piece
-unfoldable pub front : List ℕ → List ℕ → (kind time : ℕ) → List ℕ → ℕ → List ℕ
+unfoldable pub front : Keyed → List ℕ → (kind time : ℕ) → List ℕ → ℕ → List ℕ
 front key salt kind time binding n = salt ++ sealAt key 0 (fixedPart kind time binding n)
 
 -- the variable header of a request: address, padding of zeros, and the first payload
@@ -35,18 +36,18 @@ unfoldable pub variableLength : ℕ → ℕ → ℕ → ℕ
 variableLength address padding payload = address + 2 + padding + payload
 
 -- under the subkey of a key and the salt
-unfoldable pub requestAt : List ℕ → List ℕ → ℕ → List ℕ → ℕ → List ℕ → List ℕ
+unfoldable pub requestAt : Keyed → List ℕ → ℕ → List ℕ → ℕ → List ℕ → List ℕ
 requestAt k salt time address padding payload =
     front k salt 0 time [] (length (variablePart address padding payload)) ++ sealAt k 1 (variablePart address padding payload)
 
-unfoldable pub request : List ℕ → List ℕ → ℕ → List ℕ → ℕ → List ℕ → List ℕ
-request key salt time address padding payload = requestAt (subkey key salt) salt time address padding payload
+unfoldable pub request : Cipher → List ℕ → List ℕ → ℕ → List ℕ → ℕ → List ℕ → List ℕ
+request cipher key salt time address padding payload = requestAt (keyed cipher (subkey key salt)) salt time address padding payload
 
-unfoldable pub responseOf : List ℕ → List ℕ → List ℕ → ℕ → List ℕ → List ℕ
+unfoldable pub responseOf : Keyed → List ℕ → List ℕ → ℕ → List ℕ → List ℕ
 responseOf k salt binding time payload = front k salt 1 time binding (length payload) ++ sealAt k 1 payload
 
-unfoldable pub response : List ℕ → List ℕ → List ℕ → ℕ → List ℕ → List ℕ
-response key salt binding time payload = responseOf (subkey key salt) salt binding time payload
+unfoldable pub response : Cipher → List ℕ → List ℕ → List ℕ → ℕ → List ℕ → List ℕ
+response cipher key salt binding time payload = responseOf (keyed cipher (subkey key salt)) salt binding time payload
 
 -- ---- what is answered
 

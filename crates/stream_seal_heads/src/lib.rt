@@ -1,5 +1,6 @@
 // Sealing the heads of streams of SIP022, section 3.1: the salt, a piece with the fixed header, and a piece behind it, which is a
 // request's variable header or a response's first payload.
+use protocol::Cipher;
 use protocol::Refusal;
 use stream_heads::MAX_PADDING;
 use stream_pieces::FIXED_PIECE;
@@ -13,11 +14,11 @@ use stream_seal::Sender;
 use stream_seal::size_answer;
 ghost use mathlib.Core.Path.{_≡_};
 ghost use mathlib.Core.List.{[], _++_};
-ghost use Prim.Native.Nat.{_+_, _<_, _≤_, min};
+ghost use Prim.Native.Nat.{_+_, _≤_, min};
 ghost use lib.ListN.{length};
 ghost use Rattle.octets.specs.Buffers.{put};
-ghost use Rattle.aes.specs.Keyed.{nkOf};
-ghost use Rattle.protocol.specs.Method.{maxKey};
+ghost use Rattle.aead.specs.Aead.{KeyFor, keyed};
+ghost use Rattle.protocol.specs.Method.{maxKey, cipherOf};
 ghost use Rattle.stream_pieces.specs.Pieces.{tagLength, fixedLength, fixedPiece, sealAt, keyOf, maxChunk};
 ghost use Rattle.stream_seal.specs.Sealing.{sealOut};
 ghost use Rattle.stream_seal_heads.specs.HeadSealing.{fixedPart, variablePart, variableLength, requestAt, request, responseOf, response, begun, sizesFit, paddingLawful, requestAnswer, responseAnswer};
@@ -165,6 +166,7 @@ fn write_variable(out: &mut [u8], at: usize, address: &[u8], padding: usize, pay
 // A request's two headers, sealed in the buffer that they fill, under a key of k bytes.
 fn seal_request_headers(
     body: &mut [u8],
+    cipher: Cipher,
     w: Subkey,
     k: usize,
     clock: u64,
@@ -172,48 +174,50 @@ fn seal_request_headers(
     padding: usize,
     payload: &[u8],
 )
-    requires { ⌜ 0 < nkOf k ⌝ }
+    requires { ⌜ KeyFor cipher k ⌝ }
     requires { ⌜ variableLength (length (now address)) padding (length (now payload)) ≤ maxChunk ⌝ }
     requires { ⌜ length (now body)
         ≡ fixedPiece + variableLength (length (now address)) padding (length (now payload)) + tagLength ⌝ }
     ensures { λ _. ⌜ now (body .exit)
-        ≡ sealAt (keyOf w k) 0
+        ≡ sealAt (keyed cipher (keyOf w k)) 0
         (fixedPart 0 clock [] (length (variablePart (now (address .entry)) padding (now (payload .entry)))))
-        ++ sealAt (keyOf w k) 1 (variablePart (now (address .entry)) padding (now (payload .entry))) ⌝ }
+        ++ sealAt (keyed cipher (keyOf w k)) 1 (variablePart (now (address .entry)) padding (now (payload .entry))) ⌝ }
 {
     let v = body.len() - OVERHEAD;
     write_fixed(body, 0, clock, &address[..0], v as u16);
     write_variable(body, FIXED_PIECE, address, padding, payload);
-    seal_pair(w, k, 0, FIXED_PIECE, body);
+    seal_pair(cipher, w, k, 0, FIXED_PIECE, body);
 }
 
 // A response's header and first payload, sealed in the buffer that they fill, under a key of k bytes.
 fn seal_response_headers(
     body: &mut [u8],
+    cipher: Cipher,
     w: Subkey,
     k: usize,
     clock: u64,
     binding: &[u8],
     payload: &[u8],
 )
-    requires { ⌜ 0 < nkOf k ⌝ }
+    requires { ⌜ KeyFor cipher k ⌝ }
     requires { ⌜ length (now binding) ≤ maxKey ⌝ }
     requires { ⌜ length (now payload) ≤ maxChunk ⌝ }
     requires { ⌜ length (now body) ≡ fixedPiece + length (now binding) + length (now payload) + tagLength ⌝ }
     ensures { λ _. ⌜ now (body .exit)
-        ≡ sealAt (keyOf w k) 0 (fixedPart 1 clock (now (binding .entry)) (length (now (payload .entry))))
-        ++ sealAt (keyOf w k) 1 (now (payload .entry)) ⌝ }
+        ≡ sealAt (keyed cipher (keyOf w k)) 0 (fixedPart 1 clock (now (binding .entry)) (length (now (payload .entry))))
+        ++ sealAt (keyed cipher (keyOf w k)) 1 (now (payload .entry)) ⌝ }
 {
     let at = FIXED_PIECE + binding.len();
     write_fixed(body, 1, clock, binding, payload.len() as u16);
     octets::copy(body, at, payload);
-    seal_pair(w, k, 0, at, body);
+    seal_pair(cipher, w, k, 0, at, body);
 }
 
 // The head of a request, of n bytes, to the front of a buffer. The key is as long as the salt.
 fn write_request(
     out: &mut [u8],
     n: usize,
+    cipher: Cipher,
     w: Subkey,
     salt: &[u8],
     clock: u64,
@@ -221,42 +225,52 @@ fn write_request(
     padding: usize,
     payload: &[u8],
 )
-    requires { ⌜ 0 < nkOf (length (now salt)) ⌝ }
+    requires { ⌜ KeyFor cipher (length (now salt)) ⌝ }
     requires { ⌜ variableLength (length (now address)) padding (length (now payload)) ≤ maxChunk ⌝ }
     requires { ⌜ n ≡ length (now salt) + fixedPiece + variableLength (length (now address)) padding (length (now payload)) +
         tagLength ⌝ }
     requires { ⌜ n ≤ length (now out) ⌝ }
     ensures { λ _. ⌜ now (out .exit)
-        ≡ put (now (out .entry)) 0 (requestAt (keyOf w (length (now (salt .entry)))) (now (salt .entry)) clock
+        ≡ put (now (out .entry)) 0 (requestAt (keyed cipher (keyOf w (length (now (salt .entry))))) (now (salt .entry)) clock
         (now (address .entry)) padding (now (payload .entry))) ⌝ }
 {
     let k = salt.len();
     octets::copy(out, 0, salt);
-    seal_request_headers(&mut out[k..n], w, k, clock, address, padding, payload);
+    seal_request_headers(
+        &mut out[k..n],
+        cipher,
+        w,
+        k,
+        clock,
+        address,
+        padding,
+        payload,
+    );
 }
 
 // The head of a response with its first payload, of n bytes, to the front of a buffer.
 fn write_response(
     out: &mut [u8],
     n: usize,
+    cipher: Cipher,
     w: Subkey,
     salt: &[u8],
     binding: &[u8],
     clock: u64,
     payload: &[u8],
 )
-    requires { ⌜ 0 < nkOf (length (now salt)) ⌝ }
+    requires { ⌜ KeyFor cipher (length (now salt)) ⌝ }
     requires { ⌜ length (now binding) ≡ length (now salt) ⌝ }
     requires { ⌜ length (now payload) ≤ maxChunk ⌝ }
     requires { ⌜ n ≡ length (now salt) + fixedPiece + length (now binding) + length (now payload) + tagLength ⌝ }
     requires { ⌜ n ≤ length (now out) ⌝ }
     ensures { λ _. ⌜ now (out .exit)
-        ≡ put (now (out .entry)) 0 (responseOf (keyOf w (length (now (salt .entry)))) (now (salt .entry)) (now (binding .entry))
+        ≡ put (now (out .entry)) 0 (responseOf (keyed cipher (keyOf w (length (now (salt .entry))))) (now (salt .entry)) (now (binding .entry))
         clock (now (payload .entry))) ⌝ }
 {
     let k = salt.len();
     octets::copy(out, 0, salt);
-    seal_response_headers(&mut out[k..n], w, k, clock, binding, payload);
+    seal_response_headers(&mut out[k..n], cipher, w, k, clock, binding, payload);
 }
 
 // ---- the whole
@@ -276,7 +290,7 @@ pub fn seal_request(
     ensures { λ r. ⌜ r ≡ requestAnswer method (now (key .entry)) (now (salt .entry)) (now (address .entry)) padding
         (length (now (payload .entry))) (length (now (out .entry))) ⌝ }
     ensures { λ r. ⌜ now (out .exit)
-        ≡ sealOut r (request (now (key .entry)) (now (salt .entry)) clock (now (address .entry)) padding (now (payload .entry)))
+        ≡ sealOut r (request (cipherOf method) (now (key .entry)) (now (salt .entry)) clock (now (address .entry)) padding (now (payload .entry)))
         (now (out .entry)) ⌝ }
 {
     let answer = request_answer(
@@ -290,8 +304,9 @@ pub fn seal_request(
     );
     match answer {
         Sealed::Bytes(n, stream) => {
+            let cipher = protocol::cipher_of(method);
             let w = stream.subkey;
-            write_request(out, n, w, salt, clock, address, padding, payload);
+            write_request(out, n, cipher, w, salt, clock, address, padding, payload);
             answer
         }
         Sealed::Refused(_) => answer,
@@ -312,14 +327,15 @@ pub fn seal_response(
     ensures { λ r. ⌜ r ≡ responseAnswer method (now (key .entry)) (now (salt .entry)) (now (binding .entry))
         (length (now (payload .entry))) (length (now (out .entry))) ⌝ }
     ensures { λ r. ⌜ now (out .exit)
-        ≡ sealOut r (response (now (key .entry)) (now (salt .entry)) (now (binding .entry)) clock (now (payload .entry)))
+        ≡ sealOut r (response (cipherOf method) (now (key .entry)) (now (salt .entry)) (now (binding .entry)) clock (now (payload .entry)))
         (now (out .entry)) ⌝ }
 {
     let answer = response_answer(method, key, salt, binding, payload.len(), out.len());
     match answer {
         Sealed::Bytes(n, stream) => {
+            let cipher = protocol::cipher_of(method);
             let w = stream.subkey;
-            write_response(out, n, w, salt, binding, clock, payload);
+            write_response(out, n, cipher, w, salt, binding, clock, payload);
             answer
         }
         Sealed::Refused(_) => answer,

@@ -4,6 +4,7 @@ use crate::case::DATA;
 use crate::case::KEY;
 use crate::case::METHOD;
 use crate::case::OTHER;
+use crate::case::SALT;
 use crate::case::field;
 use crate::case::number;
 use crate::case::size;
@@ -59,6 +60,7 @@ fn seal(c: &[u8], out: &mut [u8]) -> Sealing {
     datagram_seal::seal(
         number(c, METHOD),
         field(c, KEY),
+        field(c, SALT),
         sender(c),
         number(c, CLOCK),
         field(c, OTHER),

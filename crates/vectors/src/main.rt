@@ -2,6 +2,7 @@
 // whole lent output, every lent word and the answer are compared. For each group, and for each file, it prints how many cases came
 // to what, and how many differ.
 mod case;
+mod chacha_ciphers;
 mod ciphers;
 mod datagrams;
 mod edition_2017;
@@ -49,6 +50,8 @@ const DATAGRAMS: u64 = 31;
 
 const STREAMS: u64 = 47;
 
+const EDITION_2017: u64 = 63;
+
 // The longest group.
 const GROUP: usize = 350000;
 
@@ -79,7 +82,10 @@ fn answer_to(
     if kind <= STREAMS {
         return streams::call(c, kind, words, out, stream, answer);
     }
-    edition_2017::call(c, kind, out, stream, answer)
+    if kind <= EDITION_2017 {
+        return edition_2017::call(c, kind, out, stream, answer);
+    }
+    chacha_ciphers::call(c, kind, out)
 }
 
 // The same with as many of the words as the call is lent.
@@ -215,6 +221,8 @@ fn main() {
     file(b"blake3.bin");
     file(b"gcm.bin");
     file(b"hashes.bin");
+    file(b"chacha.bin");
+    file(b"chacha_poly.bin");
     file(b"datagram.bin");
     file(b"sessions.bin");
     file(b"streams.bin");

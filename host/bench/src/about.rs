@@ -16,6 +16,9 @@ pub struct About {
     pub without: String,
     /// nettle's version.
     pub nettle: String,
+    /// libsodium's version, and the processor instructions that it found.
+    pub sodium: String,
+    pub sodium_with: String,
     /// How many cases were compared.
     pub compared: usize,
     /// Rounds, and the batches in each.
@@ -29,7 +32,10 @@ Against  OpenSSL, nettle and BearSSL alone for GCM bodies, chunks, AES, and GHAS
          additional data, which is one AES block more
          with plain Rust around them for whole datagrams: headers, addresses, subkey (BLAKE3), sessions and windows
          with their own HKDF and SHA-1 for datagrams of 2017
-         plain Rust for subkeys; the key of their context is computed before the calls";
+         these and libsodium for ChaCha20 and Poly1305, which nettle has with one AES block more; the subkey of a long nonce
+         (HChaCha20) is libsodium's own, and plain Rust's for the others
+         plain Rust for ChaCha12 and ChaCha8, which no library has, and for subkeys; the key of their context is computed before
+         the calls";
 
 const CALLS: &str = "         buffers are warm; keys are expanded and subkeys derived at each call";
 
@@ -39,23 +45,9 @@ Ratio    of speeds in the same round to the best other's, median (quartiles): ab
 impl About {
     /// The lines above the table.
     pub fn lines(&self) -> Vec<String> {
-        let Self { with, without, .. } = self;
-        vec![
-            format!("CPU      {}; one thread", self.cpu),
-            format!("OpenSSL  {}", self.openssl),
-            format!("         with processor instructions:    {with}"),
-            format!("         without processor instructions: {without}"),
-            format!(
-                "nettle   {}; without processor instructions: {}={}",
-                self.nettle,
-                nettle::CAPABILITIES,
-                nettle::NO_CAPABILITIES
-            ),
-            format!(
-                "BearSSL  {}; without processor instructions: {}",
-                bearssl::WITH,
-                bearssl::WITHOUT
-            ),
+        let mut lines = vec![format!("CPU      {}; one thread", self.cpu)];
+        lines.extend(self.libraries());
+        lines.extend([
             AGAINST.to_string(),
             format!(
                 "Outputs  compared byte for byte in {} cases before all else: equal",
@@ -70,6 +62,36 @@ impl About {
             ),
             CALLS.to_string(),
             RATIO.to_string(),
+        ]);
+        lines
+    }
+
+    /// Which ones they are, and with which processor instructions.
+    fn libraries(&self) -> Vec<String> {
+        let Self { with, without, .. } = self;
+        vec![
+            format!("OpenSSL  {}", self.openssl),
+            format!("         with processor instructions:    {with}"),
+            format!("         without processor instructions: {without}"),
+            format!(
+                "nettle   {}; without processor instructions: {}={}",
+                self.nettle,
+                nettle::CAPABILITIES,
+                nettle::NO_CAPABILITIES
+            ),
+            format!(
+                "BearSSL  {}; without processor instructions: {}",
+                bearssl::WITH,
+                bearssl::WITHOUT
+            ),
+            format!(
+                "         ChaCha20 without any that not every such processor has: {}",
+                bearssl::CHACHA
+            ),
+            format!(
+                "sodium   {}; with processor instructions as it finds them, it has no switch: {}",
+                self.sodium, self.sodium_with
+            ),
         ]
     }
 

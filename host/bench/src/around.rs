@@ -4,10 +4,16 @@
 //! A call does the work of one of ours: it is given the key as bytes, expands it
 //! and derives the session's subkey. Refusals come in the same order.
 
-use crate::ciphers::{Block, Ciphers, Gcm, TAG_LENGTH};
-use crate::plain::{Address, DeriveKey, Peer, Refusal, Sessions};
+mod aes;
+mod chacha;
 
-/// The separate header in front of the body.
+pub use aes::{AesBody, SUBKEY_CONTEXT};
+pub use chacha::{ChaChaBody, LONG_NONCE};
+
+use crate::ciphers::TAG_LENGTH;
+use crate::plain::{Address, Peer, Refusal, Sessions};
+
+/// The separate header, and what stands for it in a plaintext.
 pub const SEPARATE_LENGTH: usize = 16;
 
 /// A client's main header before its padding: type, time and padding length.
@@ -21,10 +27,7 @@ const TIME_SPAN: u64 = 30;
 
 const CLIENT_TYPE: u8 = 0;
 
-/// The context under which Shadowsocks 2022 derives its subkeys.
-pub const SUBKEY_CONTEXT: &str = "shadowsocks 2022 session subkey";
-
-/// The separate header's numbers.
+/// A datagram's two IDs.
 #[derive(Clone, Copy, Debug, PartialEq, Eq)]
 pub struct Separate {
     pub session: u64,
@@ -42,23 +45,45 @@ pub struct Header {
     pub padding: u16,
 }
 
-/// Clients' datagrams of the method with one key length.
-pub struct Datagrams<C: Ciphers> {
-    block: C::Block,
-    gcm: C::Gcm,
-    subkeys: DeriveKey,
+/// How a datagram's plaintext is sealed, and where its IDs stand.
+pub trait Body {
+    /// How many bytes stand before the sealed plaintext.
+    const LEAD: usize;
+
+    /// Where the main header begins in the plaintext.
+    const START: usize;
+
+    /// # Panics
+    ///
+    /// If no method has that key length.
+    fn new(key_length: usize) -> Self;
+
+    /// Seals a datagram whose main header and all behind it stand in their place already,
+    /// before room for the tag.
+    fn seal_in_place(&self, key: &[u8], separate: Separate, datagram: &mut [u8]);
+
+    /// Opens a datagram to `plain`, which is as long as its plaintext, and answers its IDs.
+    fn open(&self, key: &[u8], datagram: &[u8], plain: &mut [u8]) -> Result<Separate, Refusal>;
 }
 
-impl<C: Ciphers> Datagrams<C> {
+/// Clients' datagrams of the method with one key length.
+pub struct Datagrams<B: Body> {
+    body: B,
+}
+
+impl<B: Body> Datagrams<B> {
+    /// What a datagram has besides address and payload.
+    pub const OVERHEAD: usize = Self::BEFORE_MAIN + FIXED_LENGTH + TAG_LENGTH;
+
+    /// Where the main header begins in a datagram.
+    const BEFORE_MAIN: usize = B::LEAD + B::START;
+
     /// # Panics
     ///
     /// If no method has that key length.
     pub fn new(key_length: usize) -> Self {
-        Self {
-            block: C::Block::new(key_length),
-            gcm: C::Gcm::new(key_length),
-            subkeys: DeriveKey::new(SUBKEY_CONTEXT),
-        }
+        let body = B::new(key_length);
+        Self { body }
     }
 
     /// Seals a datagram without padding to the front of `out` and answers its
@@ -78,32 +103,24 @@ impl<C: Ciphers> Datagrams<C> {
         if separate.packet == u64::MAX {
             return Err(Refusal::Counter);
         }
-        let text_length = FIXED_LENGTH + address.len() + payload.len();
-        let length = SEPARATE_LENGTH + text_length + TAG_LENGTH;
+        let length = Self::OVERHEAD + address.len() + payload.len();
         if length > LONGEST {
             return Err(Refusal::Length);
         }
         let datagram = out.get_mut(..length).ok_or(Refusal::Room)?;
-        let text = &mut datagram[SEPARATE_LENGTH..][..text_length];
-        write_fixed(text, clock);
-        let (front, rest) = text[FIXED_LENGTH..].split_at_mut(address.len());
+        let main = &mut datagram[Self::BEFORE_MAIN..length - TAG_LENGTH];
+        write_fixed(main, clock);
+        let (front, rest) = main[FIXED_LENGTH..].split_at_mut(address.len());
         front.copy_from_slice(address);
         rest.copy_from_slice(payload);
-        self.seal_in_place(key, separate, datagram);
+        self.body.seal_in_place(key, separate, datagram);
         Ok(length)
     }
 
-    /// Seals a datagram whose plaintext stands in its place already, behind room for
-    /// the separate header and before room for the tag.
-    pub fn seal_in_place(&self, key: &[u8], separate: Separate, datagram: &mut [u8]) {
-        let (front, body) = datagram
-            .split_first_chunk_mut()
-            .expect("the separate header has room");
-        *front = separate.bytes();
-        let mut room = [0; 32];
-        let subkey = self.subkey(key, separate.session, &mut room);
-        self.gcm.seal_in_place(subkey, &nonce(front), body);
-        self.block.encrypt(key, front);
+    /// Seals a datagram of any main header, at its place in the datagram.
+    pub fn seal_main(&self, key: &[u8], separate: Separate, main: &[u8], datagram: &mut [u8]) {
+        datagram[Self::BEFORE_MAIN..][..main.len()].copy_from_slice(main);
+        self.body.seal_in_place(key, separate, datagram);
     }
 
     /// Opens a datagram to the front of `out`. The libraries write the text before
@@ -117,14 +134,14 @@ impl<C: Ciphers> Datagrams<C> {
         sessions: &mut Sessions,
         out: &mut [u8],
     ) -> Result<Header, Refusal> {
-        let (front, body) = datagram.split_first_chunk().ok_or(Refusal::Length)?;
-        let due = body.len().checked_sub(TAG_LENGTH).ok_or(Refusal::Length)?;
+        let due = datagram.len().checked_sub(B::LEAD + TAG_LENGTH);
+        let due = due.ok_or(Refusal::Length)?;
         if datagram.len() > LONGEST {
             return Err(Refusal::Length);
         }
         let plain = out.get_mut(..due).ok_or(Refusal::Room)?;
-        let separate = self.open_body(key, front, body, plain)?;
-        let answer = read_main(separate, clock, plain).and_then(|header| {
+        let separate = self.body.open(key, datagram, plain)?;
+        let answer = read_main(separate, clock, plain, B::START).and_then(|header| {
             sessions.admit(clock, separate.session, separate.packet, peer)?;
             Ok(header)
         });
@@ -132,37 +149,6 @@ impl<C: Ciphers> Datagrams<C> {
             plain.fill(0);
         }
         answer
-    }
-
-    /// Opens the body by the numbers of the separate header, and answers them.
-    fn open_body(
-        &self,
-        key: &[u8],
-        front: &[u8; SEPARATE_LENGTH],
-        body: &[u8],
-        plain: &mut [u8],
-    ) -> Result<Separate, Refusal> {
-        let mut clear = *front;
-        self.block.decrypt(key, &mut clear);
-        let separate = Separate::of(&clear);
-        let mut room = [0; 32];
-        let subkey = self.subkey(key, separate.session, &mut room);
-        if self.gcm.open(subkey, &nonce(&clear), body, plain) {
-            Ok(separate)
-        } else {
-            Err(Refusal::NotAuthentic)
-        }
-    }
-
-    /// The subkey of a session, as long as the key.
-    fn subkey<'a>(&self, key: &[u8], session: u64, room: &'a mut [u8; 32]) -> &'a [u8] {
-        let mut material = [0; 32 + 8];
-        let material = &mut material[..key.len() + 8];
-        material[..key.len()].copy_from_slice(key);
-        material[key.len()..].copy_from_slice(&session.to_be_bytes());
-        let subkey = &mut room[..key.len()];
-        self.subkeys.derive(material, subkey);
-        subkey
     }
 }
 
@@ -181,20 +167,22 @@ impl Separate {
     }
 }
 
-/// A body's nonce: the separate header in the clear without its first four bytes.
-fn nonce(clear: &[u8; SEPARATE_LENGTH]) -> [u8; 12] {
-    *clear.last_chunk().expect("16 bytes have a last 12")
-}
-
 /// Type, time and no padding.
-fn write_fixed(text: &mut [u8], clock: u64) {
-    text[0] = CLIENT_TYPE;
-    text[1..9].copy_from_slice(&clock.to_be_bytes());
-    text[9..FIXED_LENGTH].fill(0);
+fn write_fixed(main: &mut [u8], clock: u64) {
+    main[0] = CLIENT_TYPE;
+    main[1..9].copy_from_slice(&clock.to_be_bytes());
+    main[9..FIXED_LENGTH].fill(0);
 }
 
-fn read_main(separate: Separate, clock: u64, plain: &[u8]) -> Result<Header, Refusal> {
-    let fixed: &[u8; FIXED_LENGTH] = plain.first_chunk().ok_or(Refusal::Malformed)?;
+/// The main header begins at `start`.
+fn read_main(
+    separate: Separate,
+    clock: u64,
+    plain: &[u8],
+    start: usize,
+) -> Result<Header, Refusal> {
+    let main = plain.get(start..).ok_or(Refusal::Malformed)?;
+    let fixed: &[u8; FIXED_LENGTH] = main.first_chunk().ok_or(Refusal::Malformed)?;
     let [kind, time @ .., high, low] = *fixed;
     if kind != CLIENT_TYPE {
         return Err(Refusal::Type);
@@ -204,7 +192,7 @@ fn read_main(separate: Separate, clock: u64, plain: &[u8]) -> Result<Header, Ref
         return Err(Refusal::Time);
     }
     let padding = u16::from_be_bytes([high, low]);
-    let address = Address::parse(plain, FIXED_LENGTH + usize::from(padding));
+    let address = Address::parse(plain, start + FIXED_LENGTH + usize::from(padding));
     Ok(Header {
         separate,
         time,
@@ -215,12 +203,12 @@ fn read_main(separate: Separate, clock: u64, plain: &[u8]) -> Result<Header, Ref
 
 #[cfg(test)]
 mod tests {
-    use super::{Datagrams, Separate};
+    use super::{AesBody, Body, ChaChaBody, Datagrams, Separate};
     use crate::bearssl::BearSslWithout;
-    use crate::ciphers::Ciphers;
     use crate::nettle::Nettle;
     use crate::openssl::OpenSsl;
-    use crate::plain::{Address, Peer, Refusal, Sessions};
+    use crate::plain::{Address, Peer, Plain, Refusal, Sessions};
+    use crate::sodium::Sodium;
 
     const KEY: [u8; 32] = [7; 32];
     const ADDRESS: [u8; 7] = [1, 192, 0, 2, 1, 0, 80];
@@ -229,53 +217,77 @@ mod tests {
         packet: 5,
     };
 
-    fn what_is_sealed_opens_once<C: Ciphers>() {
-        for key in [&KEY[..16], &KEY] {
-            let datagrams = Datagrams::<C>::new(key.len());
-            let mut sealed = [0; 64];
-            let length = datagrams.seal(key, SEPARATE, 1_000, &ADDRESS, b"hello", &mut sealed);
-            let sealed = &sealed[..length.expect("it is sealed")];
-            let mut sessions = Sessions::new(60);
-            let mut out = [1; 64];
-            let mut open = |out: &mut [u8]| {
-                datagrams.open(key, 1_030, Peer::default(), sealed, &mut sessions, out)
-            };
-            let header = open(&mut out).expect("it is opened");
-            assert_eq!((header.separate, header.time), (SEPARATE, 1_000));
-            assert_eq!((header.padding, header.address.port), (0, 80));
-            let address = Address::parse(&ADDRESS, 0).expect("an address");
-            assert_eq!(header.address.target, address.target);
-            let payload = header.address.end..sealed.len() - 32;
-            assert_eq!(&out[payload], b"hello");
-            assert_eq!(open(&mut out).unwrap_err(), Refusal::Replay);
-            assert_eq!(out[..sealed.len() - 32], [0; 23]);
-            assert_eq!(out[sealed.len() - 32..], [1; 64 - 23]);
-        }
+    fn what_is_sealed_opens_once<B: Body>(key: &[u8]) {
+        let datagrams = Datagrams::<B>::new(key.len());
+        let mut sealed = [0; 128];
+        let length = datagrams.seal(key, SEPARATE, 1_000, &ADDRESS, b"hello", &mut sealed);
+        let sealed = &sealed[..length.expect("it is sealed")];
+        let due = sealed.len() - B::LEAD - 16;
+        let mut sessions = Sessions::new(60);
+        let mut out = [1; 128];
+        let mut open = |out: &mut [u8]| {
+            datagrams.open(key, 1_030, Peer::default(), sealed, &mut sessions, out)
+        };
+        let header = open(&mut out).expect("it is opened");
+        assert_eq!((header.separate, header.time), (SEPARATE, 1_000));
+        assert_eq!((header.padding, header.address.port), (0, 80));
+        let address = Address::parse(&ADDRESS, 0).expect("an address");
+        assert_eq!(header.address.target, address.target);
+        assert_eq!(&out[header.address.end..due], b"hello");
+        assert_eq!(open(&mut out).unwrap_err(), Refusal::Replay);
+        assert_eq!(out[..due], vec![0; due]);
+        assert_eq!(out[due..], vec![1; 128 - due]);
     }
 
     #[test]
     fn what_a_library_sealed_opens_once() {
-        what_is_sealed_opens_once::<OpenSsl>();
-        what_is_sealed_opens_once::<Nettle>();
-        what_is_sealed_opens_once::<BearSslWithout>();
+        for key in [&KEY[..16], &KEY] {
+            what_is_sealed_opens_once::<AesBody<OpenSsl>>(key);
+            what_is_sealed_opens_once::<AesBody<Nettle>>(key);
+            what_is_sealed_opens_once::<AesBody<BearSslWithout>>(key);
+        }
+        what_is_sealed_opens_once::<ChaChaBody<OpenSsl>>(&KEY);
+        what_is_sealed_opens_once::<ChaChaBody<Nettle>>(&KEY);
+        what_is_sealed_opens_once::<ChaChaBody<BearSslWithout>>(&KEY);
+        what_is_sealed_opens_once::<ChaChaBody<Sodium>>(&KEY);
+        what_is_sealed_opens_once::<ChaChaBody<Plain<8>>>(&KEY);
+    }
+
+    fn refuses_what_ours_refuses<B: Body>(key: &[u8], longest: usize) {
+        let datagrams = Datagrams::<B>::new(key.len());
+        let seal = |packet, address: &[u8], payload: usize, room: usize| {
+            let separate = Separate { packet, ..SEPARATE };
+            let (payload, mut out) = (vec![0; payload], vec![0; room]);
+            datagrams.seal(key, separate, 0, address, &payload, &mut out)
+        };
+        assert_eq!(seal(0, &ADDRESS, longest, 65_507), Ok(65_507));
+        assert_eq!(seal(0, &ADDRESS, longest + 1, 70_000), Err(Refusal::Length));
+        assert_eq!(seal(0, &ADDRESS, longest, 65_506), Err(Refusal::Room));
+        assert_eq!(seal(u64::MAX, &ADDRESS, 0, 64), Err(Refusal::Counter));
+        assert_eq!(seal(0, &ADDRESS[..6], 0, 64), Err(Refusal::Argument));
     }
 
     #[test]
     fn sealing_refuses_what_ours_refuses() {
-        let datagrams = Datagrams::<OpenSsl>::new(16);
-        let seal = |packet, address: &[u8], payload: &[u8], room: usize| {
-            let separate = Separate { packet, ..SEPARATE };
-            let mut out = vec![0; room];
-            datagrams.seal(&KEY[..16], separate, 0, address, payload, &mut out)
-        };
-        let longest = [0; 65_507 - 50];
-        assert_eq!(seal(0, &ADDRESS, &longest, 65_507), Ok(65_507));
-        assert_eq!(
-            seal(0, &ADDRESS, &[0; 65_458], 70_000),
-            Err(Refusal::Length)
-        );
-        assert_eq!(seal(0, &ADDRESS, &longest, 65_506), Err(Refusal::Room));
-        assert_eq!(seal(u64::MAX, &ADDRESS, &[], 64), Err(Refusal::Counter));
-        assert_eq!(seal(0, &ADDRESS[..6], &[], 64), Err(Refusal::Argument));
+        refuses_what_ours_refuses::<AesBody<OpenSsl>>(&KEY[..16], 65_507 - 50);
+        refuses_what_ours_refuses::<ChaChaBody<OpenSsl>>(&KEY, 65_507 - 74);
+    }
+
+    /// A plaintext without room for both IDs and a header is malformed, behind its tag.
+    #[test]
+    fn a_short_plaintext_is_malformed() {
+        let datagrams = Datagrams::<ChaChaBody<Plain<12>>>::new(32);
+        for length in 56..56 + 11 {
+            let (mut sealed, mut out) = (vec![0; length], [1; 128]);
+            datagrams.seal_main(&KEY, SEPARATE, &[], &mut sealed);
+            let mut sessions = Sessions::new(60);
+            let peer = Peer::default();
+            let mut open =
+                |bytes: &[u8]| datagrams.open(&KEY, 0, peer, bytes, &mut sessions, &mut out);
+            assert_eq!(open(&sealed).unwrap_err(), Refusal::Malformed);
+            assert_eq!(open(&sealed[..39]).unwrap_err(), Refusal::Length);
+            assert_eq!(open(&sealed[..40]).unwrap_err(), Refusal::NotAuthentic);
+            assert_eq!(out[..length - 40], vec![0; length - 40]);
+        }
     }
 }

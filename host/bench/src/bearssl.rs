@@ -5,12 +5,14 @@
 //! instructions. Its descriptions of ciphers say how large their contexts are.
 
 mod block;
+mod chacha;
 mod ctr;
 mod gcm;
 mod ghash;
 mod hkdf;
 
 pub use block::AesBlock;
+pub use chacha::{ChaCha20, ChaChaPoly, Poly1305};
 pub use ctr::AesCtr;
 pub use gcm::AesGcm;
 pub use ghash::Ghash;
@@ -18,6 +20,7 @@ pub use hkdf::HkdfSha1;
 
 use std::os::raw::{c_uint, c_void};
 
+use crate::chachas::ChaChas;
 use crate::ciphers::Ciphers;
 use crate::rows::Library;
 
@@ -43,8 +46,16 @@ impl<const INSTRUCTIONS: bool> Ciphers for BearSsl<INSTRUCTIONS> {
     }
 }
 
+impl ChaChas for BearSslWithout {
+    const LIBRARY: Library = Library::BearSslWithout;
+    type Stream = ChaCha20;
+    type Aead = ChaChaPoly;
+    type Mac = Poly1305;
+}
+
 /// The names of the implementations in use: BearSSL does not tell its version.
 pub const WITHOUT: &str = "aes_big (aes_small for a block that is decrypted) and ghash_ctmul64";
+pub const CHACHA: &str = "chacha20_sse2 and poly1305_ctmulq";
 pub const WITH: &str = "aes_x86ni and ghash_pclmul";
 
 type Init = unsafe extern "C" fn(ctx: *mut c_void, key: *const c_void, length: usize);

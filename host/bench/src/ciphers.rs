@@ -10,7 +10,7 @@ pub trait Ciphers: 'static {
     const LIBRARY: Library;
     type Block: Block;
     type Counter: Counter;
-    type Gcm: Gcm;
+    type Gcm: Aead;
     type Hkdf: Hkdf;
 
     /// Whether the processor has the instructions that they need.
@@ -81,11 +81,12 @@ fn first_block(nonce: &[u8; 12], counter: u32) -> [u8; 16] {
     iv
 }
 
-/// AES-GCM with one key length and nonces of 12 bytes.
-pub trait Gcm {
+/// Authenticated encryption with one key length and nonces of 12 bytes: AES-GCM, or
+/// ChaCha20 with Poly1305.
+pub trait Aead {
     /// # Panics
     ///
-    /// If the key length is not 16, 24 or 32.
+    /// If the cipher has no such key length.
     fn new(key_length: usize) -> Self;
 
     /// Seals `text` to `out`: ciphertext and tag.
@@ -105,7 +106,7 @@ pub trait Gcm {
     /// tag.
     fn seal_in_place(&self, key: &[u8], nonce: &[u8; 12], body: &mut [u8]);
 
-    /// Opens `sealed` to `out`, and answers whether the tag is right; `out` is
+    /// Opens `sealed` to `out`, and answers whether the tag is right; `out` may be
     /// written in any case.
     ///
     /// # Panics
@@ -116,7 +117,7 @@ pub trait Gcm {
 }
 
 /// For a library that has no function for GHASH alone.
-pub trait Gmac: Gcm {
+pub trait Gmac: Aead {
     /// Writes the tag of additional data without a text, which is known as GMAC.
     ///
     /// # Panics
@@ -136,7 +137,7 @@ pub trait Hkdf {
 
 #[cfg(test)]
 mod tests {
-    use super::{Block, Ciphers, Counter, Gcm, Hkdf};
+    use super::{Aead, Block, Ciphers, Counter, Hkdf};
     use crate::bearssl::{BearSslWith, BearSslWithout};
     use crate::nettle::Nettle;
     use crate::openssl::OpenSsl;

@@ -21,6 +21,7 @@ pub enum Column {
     OpenSslWith,
     NettleWith,
     BearSslWith,
+    SodiumWith,
     Plain,
 }
 
@@ -33,7 +34,7 @@ enum Process {
 }
 
 impl Column {
-    pub const ALL: [Column; 8] = [
+    pub const ALL: [Column; 9] = [
         Column::Ours,
         Column::OpenSslWithout,
         Column::NettleWithout,
@@ -41,6 +42,7 @@ impl Column {
         Column::OpenSslWith,
         Column::NettleWith,
         Column::BearSslWith,
+        Column::SodiumWith,
         Column::Plain,
     ];
 
@@ -61,6 +63,7 @@ impl Column {
             Column::OpenSslWith => "OpenSSL with instructions",
             Column::NettleWith => "nettle with instructions",
             Column::BearSslWith => "BearSSL with instructions",
+            Column::SodiumWith => "libsodium with instructions",
             Column::Plain => "plain Rust",
         }
     }
@@ -72,6 +75,7 @@ impl Column {
             Library::OpenSsl => "OpenSSL",
             Library::Nettle => "nettle",
             Library::BearSslWithout | Library::BearSslWith => "BearSSL",
+            Library::Sodium => "sodium",
             Library::Plain => "plain Rust",
         }
     }
@@ -83,6 +87,7 @@ impl Column {
             Column::NettleWithout | Column::NettleWith => Library::Nettle,
             Column::BearSslWithout => Library::BearSslWithout,
             Column::BearSslWith => Library::BearSslWith,
+            Column::SodiumWith => Library::Sodium,
             Column::Plain => Library::Plain,
         }
     }

@@ -3,7 +3,7 @@
 //! another answer.
 
 use crate::contest::Column;
-use crate::kinds::{Call, Kind, Method, METHODS, SIP004_METHODS};
+use crate::kinds::{Call, Kind, Method, AES_METHODS, SIP004_METHODS};
 use crate::numbers::{grouped, rounded};
 use crate::results::Line;
 
@@ -67,7 +67,7 @@ fn statement(pairs: &[Pair]) -> String {
 /// Method 12 has none beside it.
 fn pairs(lines: &[Line]) -> Vec<Pair> {
     let mut pairs = Vec::new();
-    for newer in METHODS {
+    for newer in AES_METHODS {
         let same = |older: &Method| older.key_length == newer.key_length;
         let Some(older) = SIP004_METHODS.into_iter().find(same) else {
             continue;

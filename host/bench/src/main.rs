@@ -1,5 +1,5 @@
-//! Speed of the proved code beside OpenSSL's, nettle's and BearSSL's, with and
-//! without processor instructions, and for what they have not beside plain Rust, in
+//! Speed of the proved code beside OpenSSL's, nettle's, BearSSL's and libsodium's, with
+//! and without processor instructions, and for what they have not beside plain Rust, in
 //! one table of one run and as a plot.
 //!
 //! All outputs are compared first; a difference ends the run with exit status 1.
@@ -9,8 +9,10 @@
 
 mod about;
 mod around;
+mod asked;
 #[allow(unsafe_code)]
 mod bearssl;
+mod chachas;
 mod child;
 mod ciphers;
 mod contest;
@@ -33,8 +35,11 @@ mod rows;
 #[cfg(test)]
 mod samples;
 mod sip004;
+#[allow(unsafe_code)]
+mod sodium;
 mod spread;
 mod standing;
+mod suites;
 mod table;
 mod worst;
 
@@ -109,6 +114,8 @@ fn run(pace: Pace, out: &Path) -> Result<(), Box<dyn Error>> {
         with: openssl::capabilities(),
         without: contest.child.capabilities()?,
         nettle: nettle::version(),
+        sodium: sodium::version(),
+        sodium_with: sodium::capabilities(),
         compared: contest.compare()?,
         rounds: pace.rounds,
         batches: pace.batches,

@@ -4,18 +4,23 @@
 //! large their contexts are: so no size stands here that a later nettle could
 //! outgrow.
 
+mod aead;
 mod block;
+mod chacha;
 mod ctr;
-mod gcm;
 mod hkdf;
+mod poly1305;
 
+pub use aead::{AesGcm, ChaChaPoly};
 pub use block::AesBlock;
+pub use chacha::ChaCha20;
 pub use ctr::AesCtr;
-pub use gcm::AesGcm;
 pub use hkdf::HkdfSha1;
+pub use poly1305::Poly1305;
 
 use std::os::raw::{c_char, c_int, c_uint, c_void};
 
+use crate::chachas::ChaChas;
 use crate::ciphers::Ciphers;
 use crate::rows::Library;
 
@@ -28,6 +33,13 @@ impl Ciphers for Nettle {
     type Counter = AesCtr;
     type Gcm = AesGcm;
     type Hkdf = HkdfSha1;
+}
+
+impl ChaChas for Nettle {
+    const LIBRARY: Library = Library::Nettle;
+    type Stream = ChaCha20;
+    type Aead = ChaChaPoly;
+    type Mac = Poly1305;
 }
 
 /// The environment variable from which nettle learns, when it is loaded, which

@@ -1,19 +1,24 @@
 //! The few functions of OpenSSL's libcrypto that the contestants call.
 
+mod aead;
 mod block;
+mod chacha;
 mod ctr;
-mod gcm;
 mod hkdf;
+mod poly1305;
 
+pub use aead::{AesGcm, ChaChaPoly};
 pub use block::AesBlock;
+pub use chacha::ChaCha20;
 pub use ctr::AesCtr;
-pub use gcm::AesGcm;
 pub use hkdf::HkdfSha1;
+pub use poly1305::Poly1305;
 
 use std::ffi::CStr;
 use std::os::raw::{c_char, c_int, c_uchar, c_void};
 use std::ptr;
 
+use crate::chachas::ChaChas;
 use crate::ciphers::Ciphers;
 use crate::rows::Library;
 
@@ -26,6 +31,13 @@ impl Ciphers for OpenSsl {
     type Counter = AesCtr;
     type Gcm = AesGcm;
     type Hkdf = HkdfSha1;
+}
+
+impl ChaChas for OpenSsl {
+    const LIBRARY: Library = Library::OpenSsl;
+    type Stream = ChaCha20;
+    type Aead = ChaChaPoly;
+    type Mac = Poly1305;
 }
 
 /// The environment variable from which OpenSSL learns, when it is loaded, which
@@ -46,7 +58,7 @@ struct EvpCipherCtx {
 }
 
 #[repr(C)]
-struct EvpCipher {
+pub(crate) struct EvpCipher {
     _opaque: [u8; 0],
 }
 
@@ -165,7 +177,7 @@ impl<const IV: usize> Context<IV> {
     /// # Safety
     ///
     /// `input` must be readable and `output` writable for `length` bytes; they are
-    /// the same place or do not overlap. For GCM's additional data `output` is null.
+    /// the same place or do not overlap. For an AEAD's additional data `output` is null.
     unsafe fn update(&self, input: *const u8, output: *mut u8, length: usize) {
         let length = c_int::try_from(length).expect("data fits OpenSSL's int");
         let mut written = 0;

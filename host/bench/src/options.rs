@@ -32,7 +32,7 @@ pub struct Pace {
 
 impl Pace {
     pub const FULL: Pace = Pace {
-        rounds: 21,
+        rounds: 13,
         batches: 7,
         batch: Duration::from_micros(500),
     };

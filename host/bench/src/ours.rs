@@ -39,10 +39,50 @@ extern "C" {
         out: *mut u8,
         out_len: usize,
     ) -> u32;
+    fn bench_chacha(
+        double_rounds: usize,
+        key: *const u8,
+        key_len: usize,
+        counter: u32,
+        nonce: *const u8,
+        nonce_len: usize,
+        data: *mut u8,
+        data_len: usize,
+    );
+    fn bench_poly1305(
+        key: *const u8,
+        key_len: usize,
+        text: *const u8,
+        text_len: usize,
+        out: *mut u8,
+        out_len: usize,
+    ) -> u32;
+    fn bench_chacha_poly_seal(
+        double_rounds: usize,
+        key: *const u8,
+        key_len: usize,
+        nonce: *const u8,
+        nonce_len: usize,
+        body: *mut u8,
+        body_len: usize,
+    ) -> u32;
+    fn bench_chacha_poly_open(
+        double_rounds: usize,
+        key: *const u8,
+        key_len: usize,
+        nonce: *const u8,
+        nonce_len: usize,
+        sealed: *const u8,
+        sealed_len: usize,
+        out: *mut u8,
+        out_len: usize,
+    ) -> u32;
     fn bench_datagram_seal(
         method: u64,
         key: *const u8,
         key_len: usize,
+        nonce: *const u8,
+        nonce_len: usize,
         id: u64,
         clock: u64,
         address: *const u8,
@@ -196,6 +236,100 @@ pub fn gcm_open(key: &[u8], nonce: &[u8; 12], sealed: &[u8], out: &mut [u8]) -> 
     }
 }
 
+/// Adds the key stream of ChaCha with so many rounds to `data` from a block on, a 32-bit
+/// counter that wraps.
+pub fn chacha(rounds: usize, key: &[u8; 32], nonce: &[u8; 12], counter: u32, data: &mut [u8]) {
+    // SAFETY: as in `aes_ctr`.
+    unsafe {
+        bench_chacha(
+            rounds / 2,
+            key.as_ptr(),
+            key.len(),
+            counter,
+            nonce.as_ptr(),
+            nonce.len(),
+            data.as_mut_ptr(),
+            data.len(),
+        );
+    }
+}
+
+/// Poly1305 of `text` under a one-time key, to the front of `out`.
+///
+/// # Panics
+///
+/// If `out` is shorter than a tag.
+pub fn poly1305(key: &[u8; 32], text: &[u8], out: &mut [u8]) {
+    // SAFETY: as in `aes_ctr`, with `out` the one that is borrowed mutably.
+    let refused = unsafe {
+        bench_poly1305(
+            key.as_ptr(),
+            key.len(),
+            text.as_ptr(),
+            text.len(),
+            out.as_mut_ptr(),
+            out.len(),
+        )
+    };
+    assert_eq!(refused, 0, "bench_poly1305 refused its lengths");
+}
+
+/// Seals by ChaCha with so many rounds and Poly1305 the text at the front of `body` where it
+/// stands; the last 16 bytes are room for the tag.
+///
+/// # Panics
+///
+/// If `body` has no room for a tag.
+pub fn chacha_poly_seal(rounds: usize, key: &[u8], nonce: &[u8; 12], body: &mut [u8]) {
+    // SAFETY: as in `aes_ctr`, with `body` the one that is borrowed mutably.
+    let refused = unsafe {
+        bench_chacha_poly_seal(
+            rounds / 2,
+            key.as_ptr(),
+            key.len(),
+            nonce.as_ptr(),
+            nonce.len(),
+            body.as_mut_ptr(),
+            body.len(),
+        )
+    };
+    assert_eq!(refused, 0, "bench_chacha_poly_seal refused its lengths");
+}
+
+/// Opens `sealed` to the front of `out`. Answers false, and writes nothing, where
+/// the tag is wrong.
+///
+/// # Panics
+///
+/// If `sealed` has no tag, or `out` is shorter than the text.
+pub fn chacha_poly_open(
+    rounds: usize,
+    key: &[u8],
+    nonce: &[u8; 12],
+    sealed: &[u8],
+    out: &mut [u8],
+) -> bool {
+    // SAFETY: as in `aes_ctr`, with `out` the one that is borrowed mutably.
+    let answer = unsafe {
+        bench_chacha_poly_open(
+            rounds / 2,
+            key.as_ptr(),
+            key.len(),
+            nonce.as_ptr(),
+            nonce.len(),
+            sealed.as_ptr(),
+            sealed.len(),
+            out.as_mut_ptr(),
+            out.len(),
+        )
+    };
+    match answer {
+        0 => true,
+        2 => false,
+        _ => panic!("bench_chacha_poly_open refused its lengths"),
+    }
+}
+
 /// Derives the session subkey, as long as `key`, from `key` and `salt` to the front
 /// of `out`.
 ///
@@ -222,9 +356,12 @@ pub fn subkey(key: &[u8], salt: &[u8], out: &mut [u8]) {
 /// # Panics
 ///
 /// If it is refused.
+// The arguments are the exported function's.
+#[allow(clippy::too_many_arguments)]
 pub fn datagram_seal(
     method: u64,
     key: &[u8],
+    nonce: &[u8],
     id: u64,
     clock: u64,
     address: &[u8],
@@ -237,6 +374,8 @@ pub fn datagram_seal(
             method,
             key.as_ptr(),
             key.len(),
+            nonce.as_ptr(),
+            nonce.len(),
             id,
             clock,
             address.as_ptr(),

@@ -3,10 +3,15 @@
 
 mod address;
 mod blake3;
+mod chacha;
+mod chachas;
+mod poly1305;
 mod sessions;
 
 pub use address::Address;
 pub use blake3::DeriveKey;
+pub use chacha::ChaCha;
+pub use chachas::Plain;
 pub use sessions::{Peer, Sessions};
 
 /// Why a call is refused, with the number that the proved library gives.

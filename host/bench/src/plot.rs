@@ -1,5 +1,5 @@
-//! The results as a picture: a panel for each method, sealing and opening, with
-//! speed over the datagram's length, and one for the parts alone.
+//! The results as a picture: a panel for each method that other libraries have, sealing
+//! and opening, with speed over the datagram's length, and one for the parts alone.
 //!
 //! Speeds with processor instructions are a hundred times the others, so
 //! all axes are logarithmic. All panels of datagrams have the same, to be compared.
@@ -12,7 +12,7 @@ mod svg;
 
 use crate::about::About;
 use crate::contest::Column;
-use crate::kinds::{Call, Kind, METHODS};
+use crate::kinds::{Call, Kind, Method, AES_METHODS, CHACHA20};
 use crate::numbers::{grouped, rounded};
 use crate::results::Line;
 use crate::worst;
@@ -21,32 +21,36 @@ use style::{ASKED, DARK, GREY};
 use svg::{Font, Point, Svg};
 
 const WIDTH: f64 = 1_360.0;
-const HEIGHT: f64 = 1_004.0;
+const HEIGHT: f64 = 1_427.0;
 const MARGIN: f64 = 28.0;
 
 const TITLE: &str =
-    "Bhajnolith beside OpenSSL, nettle and BearSSL: speed of Shadowsocks 2022 datagrams";
+    "Bhajnolith beside OpenSSL, nettle, BearSSL and libsodium: speed of Shadowsocks 2022 datagrams";
+
+/// The methods of which there are panels.
+const METHODS: [Method; 3] = [AES_METHODS[0], AES_METHODS[1], CHACHA20];
 
 /// The legend's rows, and the widths of its places before the last.
-const LEGEND: [[Column; 4]; 2] = [
-    [
+const LEGEND: [&[Column]; 3] = [
+    &[
         Column::Ours,
         Column::OpenSslWithout,
         Column::NettleWithout,
         Column::BearSslWithout,
     ],
-    [
+    &[
         Column::Plain,
         Column::OpenSslWith,
         Column::NettleWith,
         Column::BearSslWith,
     ],
+    &[Column::SodiumWith],
 ];
 const CELLS: [f64; 4] = [154.0, 314.0, 302.0, 314.0];
 
 /// Where the panels' names stand, and where the panels begin.
-const NAMES: f64 = 168.0;
-const PANELS: f64 = 184.0;
+const NAMES: f64 = 188.0;
+const PANELS: f64 = 204.0;
 
 /// The place of a panel, with its title and labels.
 #[derive(Clone, Copy)]
@@ -70,10 +74,11 @@ pub fn draw(about: &About, lines: &[Line]) -> String {
 fn head(svg: &mut Svg, about: &About) {
     svg.text((MARGIN, 38.0), TITLE, Font::new(22, DARK).bold());
     let run = format!(
-        "{}, {}, {}, one thread. Median of {} interleaved rounds of {} batches, whiskers from quartile to quartile.",
+        "{}, {}, {}, {}, one thread. Median of {} interleaved rounds of {} batches, whiskers from quartile to quartile.",
         about.cpu,
         about.openssl_number(),
         about.nettle,
+        about.sodium,
         about.rounds,
         about.batches
     );
@@ -107,7 +112,7 @@ fn legend(svg: &mut Svg, top: f64) {
     svg.text((left + 44.0, y), &asked, Font::new(13, DARK));
 }
 
-/// Four panels: a row for each method, sealing left and opening right.
+/// A row for each method, sealing left and opening right.
 fn datagrams(svg: &mut Svg, lines: &[Line]) {
     let note =
         "Whole datagrams. The libraries have plain Rust around them: headers, BLAKE3, sessions.";
@@ -125,12 +130,8 @@ fn datagrams(svg: &mut Svg, lines: &[Line]) {
                 width: 460.0,
                 height: 391.0,
             };
-            let title = format!(
-                "{}, method {} (AES-{})",
-                style::verb(call),
-                method.number,
-                8 * method.key_length
-            );
+            let (verb, cipher) = (style::verb(call), method.cipher_name());
+            let title = format!("{verb}, method {} ({cipher})", method.number);
             let lines: Vec<&Line> = of(Kind::Datagram(method, call)).collect();
             curves::draw(svg, frame, &title, domain, &lines);
         }
@@ -147,18 +148,18 @@ fn parts(svg: &mut Svg, lines: &[Line]) {
     };
     let note = "Ciphers and hashes alone, MB/s";
     svg.text((frame.left, NAMES), note, Font::new(14, DARK).bold());
-    let seal = |key_length| Kind::Gcm {
-        key_length,
-        call: Call::Seal,
-    };
+    let [aes_128, aes_256, chacha20] = METHODS.map(|method| Kind::Body(method, Call::Seal));
     let counter = |key_length| Kind::Counter { key_length };
     let kinds = [
         counter(16),
         counter(24),
         counter(32),
         Kind::Ghash,
-        seal(16),
-        seal(32),
+        aes_128,
+        aes_256,
+        Kind::Stream { rounds: 20 },
+        Kind::Poly1305,
+        chacha20,
         Kind::Subkey,
     ];
     let longest = kinds.into_iter().filter_map(|kind| longest(lines, kind));
@@ -241,7 +242,7 @@ mod tests {
 
     #[test]
     fn each_panel_has_a_line_for_each_of_seven() {
-        assert_eq!(drawn().matches("<polyline").count(), 4 * 7);
+        assert_eq!(drawn().matches("<polyline").count(), 6 * 7);
     }
 
     #[test]

@@ -4,23 +4,57 @@
 //! library one more [`Library`] with its column and its place in the macro that makes
 //! a row's contestants.
 
-/// Ours, and what a function makes of each other library's ciphers. A macro, because
-/// a function cannot be given one that is generic.
-macro_rules! contestants {
-    ($ours:expr, $with:ident $arguments:tt) => {{
+/// What a function makes of each library that has AES, wrapped in a type. A macro, as those
+/// below are, because a function cannot be given one that is generic.
+macro_rules! of_aes {
+    ($with:ident, $wrap:ident, $arguments:tt) => {{
         use crate::bearssl::{BearSslWith, BearSslWithout};
         use crate::nettle::Nettle;
         use crate::openssl::OpenSsl;
         let mut contestants = vec![
-            Contestant::new(Library::Ours, $ours),
-            $with::<OpenSsl> $arguments,
-            $with::<Nettle> $arguments,
-            $with::<BearSslWithout> $arguments,
+            $with::<$wrap<OpenSsl>> $arguments,
+            $with::<$wrap<Nettle>> $arguments,
+            $with::<$wrap<BearSslWithout>> $arguments,
         ];
-        if BearSslWith::are_there() {
-            contestants.push($with::<BearSslWith> $arguments);
+        if <BearSslWith as crate::ciphers::Ciphers>::are_there() {
+            contestants.push($with::<$wrap<BearSslWith>> $arguments);
         }
         contestants
+    }};
+}
+
+/// The same of each that has ChaCha with so many rounds.
+macro_rules! of_chacha {
+    ($rounds:expr, $with:ident, $wrap:ident, $arguments:tt) => {{
+        use crate::bearssl::BearSslWithout;
+        use crate::nettle::Nettle;
+        use crate::openssl::OpenSsl;
+        use crate::plain::Plain;
+        use crate::sodium::Sodium;
+        match $rounds {
+            20 => vec![
+                $with::<$wrap<OpenSsl>> $arguments,
+                $with::<$wrap<Nettle>> $arguments,
+                $with::<$wrap<BearSslWithout>> $arguments,
+                $with::<$wrap<Sodium>> $arguments,
+            ],
+            12 => vec![$with::<$wrap<Plain<12>>> $arguments],
+            8 => vec![$with::<$wrap<Plain<8>>> $arguments],
+            rounds => panic!("no method has {rounds} rounds"),
+        }
+    }};
+}
+
+/// Ours, and what a function makes of each other suite with a cipher.
+macro_rules! contestants {
+    ($cipher:expr, $ours:expr, $with:ident $arguments:tt) => {{
+        use crate::kinds::Cipher;
+        use crate::suites::{WithAes, WithChaCha};
+        let others = match $cipher {
+            Cipher::AesGcm => of_aes!($with, WithAes, $arguments),
+            Cipher::ChaCha { rounds } => of_chacha!(rounds, $with, WithChaCha, $arguments),
+        };
+        ours_and($ours, others)
     }};
 }
 
@@ -45,6 +79,8 @@ pub enum Library {
     BearSslWithout,
     /// With them, where the processor has them.
     BearSslWith,
+    /// Likewise.
+    Sodium,
     /// This program's own, for what the others have not.
     Plain,
 }
@@ -62,6 +98,14 @@ impl Contestant {
         let work = Box::new(work);
         Self { library, work }
     }
+}
+
+/// A library's ciphers as they are.
+type Bare<C> = C;
+
+fn ours_and(ours: impl Fn(&[u8], &mut [u8]) + 'static, others: Vec<Contestant>) -> Vec<Contestant> {
+    let ours = Contestant::new(Library::Ours, ours);
+    [ours].into_iter().chain(others).collect()
 }
 
 /// The same work by several libraries: from equal buffers all leave equal ones.
@@ -138,20 +182,36 @@ fn forged(mut sealed: Vec<u8>) -> Vec<u8> {
 
 #[cfg(test)]
 mod tests {
+    use std::collections::HashSet;
+
     use super::{all, Library};
     use crate::bearssl::BearSslWith;
     use crate::ciphers::Ciphers;
+    use crate::kinds::Others;
 
     #[test]
     fn the_other_libraries_stand_in_the_same_rows() {
         for row in all() {
-            let stands = |library| row.contestant(library).is_some();
-            let openssl = stands(Library::OpenSsl);
-            assert_eq!(stands(Library::Nettle), openssl, "{}", row.name());
-            assert_eq!(stands(Library::BearSslWithout), openssl, "{}", row.name());
-            let with = openssl && BearSslWith::are_there();
-            assert_eq!(stands(Library::BearSslWith), with, "{}", row.name());
-            assert_eq!(stands(Library::Plain), !openssl, "{}", row.name());
+            let others = row.kind.section().others();
+            let is_aes = others == Others::Aes && BearSslWith::are_there();
+            for (library, stands) in [
+                (Library::Ours, true),
+                (Library::OpenSsl, others != Others::Plain),
+                (Library::Nettle, others != Others::Plain),
+                (Library::BearSslWithout, others != Others::Plain),
+                (Library::BearSslWith, is_aes),
+                (Library::Sodium, others == Others::ChaCha20),
+                (Library::Plain, others == Others::Plain),
+            ] {
+                assert_eq!(row.contestant(library).is_some(), stands, "{}", row.name());
+            }
         }
+    }
+
+    #[test]
+    fn every_row_has_a_name_of_its_own() {
+        let rows = all();
+        let names: HashSet<String> = rows.iter().map(|row| row.name()).collect();
+        assert_eq!(names.len(), rows.len());
     }
 }

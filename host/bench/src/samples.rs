@@ -2,8 +2,9 @@
 
 use crate::about::About;
 use crate::contest::{Column, Samples};
-use crate::kinds::{Call, Kind, METHODS, SIP004_METHODS};
+use crate::kinds::{Call, Kind, AES_METHODS, CHACHA20, METHODS, SIP004_METHODS};
 use crate::results::Line;
+use crate::table;
 
 pub fn about() -> About {
     About {
@@ -12,6 +13,8 @@ pub fn about() -> About {
         with: "OPENSSL_ia32cap=0xffffffffffffffff:0xffffffffffffffff".to_string(),
         without: "OPENSSL_ia32cap=0x400:0x0 env:0:0".to_string(),
         nettle: "nettle 0.0".to_string(),
+        sodium: "libsodium 0.0.0".to_string(),
+        sodium_with: "SSE2".to_string(),
         compared: 100,
         rounds: 5,
         batches: 3,
@@ -28,19 +31,16 @@ pub fn lines() -> Vec<Line> {
                 let [a, b, c] = [20.0, 9.0, 7.0].map(|speed| speed * (size as f64).sqrt());
                 line(kind, size, [30.0, 35.0, 33.0, 28.0, a, b, c])
             }));
-            let key_length = method.key_length;
-            let kind = Kind::Gcm { key_length, call };
-            lines.push(line(
-                kind,
-                65_507,
-                [30.0, 90.0, 110.0, 80.0, 12_345.0, 2_345.0, 1_234.0],
-            ));
         }
         lines.push(line(
             Kind::Chunk(method, Call::Seal),
             1_400,
             [30.0, 60.0, 70.0, 50.0, 900.0, 700.0, 500.0],
         ));
+    }
+    for method in AES_METHODS.into_iter().chain([CHACHA20]) {
+        let speeds = [30.0, 90.0, 110.0, 80.0, 12_345.0, 2_345.0, 1_234.0];
+        lines.push(line(Kind::Body(method, Call::Seal), 65_507, speeds));
     }
     for method in SIP004_METHODS {
         lines.push(line(
@@ -49,26 +49,32 @@ pub fn lines() -> Vec<Line> {
             [25.0, 35.0, 33.0, 28.0, 800.0, 600.0, 400.0],
         ));
     }
-    for key_length in [16, 24, 32] {
-        let kind = Kind::Counter { key_length };
-        lines.push(line(
-            kind,
-            65_504,
-            [200.0, 100.0, 150.0, 120.0, 6_000.0, 3_000.0, 2_000.0],
-        ));
-    }
-    lines.push(line(
-        Kind::Ghash,
-        65_504,
-        [40.0, 400.0, 500.0, 300.0, 9_000.0, 4_000.0, 5_000.0],
-    ));
+    lines.extend(primitives().map(|kind| {
+        let speeds = [200.0, 100.0, 150.0, 120.0, 6_000.0, 3_000.0, 2_000.0];
+        line(kind, 65_504, speeds)
+    }));
     lines.push(subkey());
     lines
 }
 
-/// The speeds are those of all columns but plain Rust, in their order.
+fn primitives() -> [Kind; 8] {
+    let counter = |key_length| Kind::Counter { key_length };
+    let stream = |rounds| Kind::Stream { rounds };
+    [
+        counter(16),
+        counter(24),
+        counter(32),
+        Kind::Ghash,
+        stream(20),
+        stream(12),
+        stream(8),
+        Kind::Poly1305,
+    ]
+}
+
+/// The speeds are those of the columns of its section, in their order.
 fn line(kind: Kind, size: usize, speeds: [f64; 7]) -> Line {
-    let columns = Column::ALL.into_iter();
+    let columns = table::columns(kind.section());
     let times = columns.zip(speeds.map(|speed| times(size, speed)));
     Line::new(kind, size, &times_of(times))
 }

@@ -3,7 +3,7 @@
 //!
 //! As in `around`, a call is given the key as bytes and derives the subkey.
 
-use crate::ciphers::{Ciphers, Gcm, Hkdf, TAG_LENGTH};
+use crate::ciphers::{Aead, Ciphers, Hkdf, TAG_LENGTH};
 use crate::plain::Refusal;
 
 /// What UDP can carry over IPv4.

@@ -1,17 +1,15 @@
 //! The table as text. A column is as wide as what stands in it.
 
 use crate::about::About;
+use crate::asked;
 use crate::contest::Column;
 use crate::editions;
-use crate::kinds::Section;
+use crate::kinds::{Others, Section};
 use crate::numbers::{grouped, rounded};
 use crate::results::{Line, Summary};
 use crate::spread;
 use crate::standing;
 use crate::worst;
-
-/// The first columns are those of every section: name, size, and three of ours.
-const FRONT: usize = 5;
 
 /// Blanks between two columns, and between those of a group of others.
 const GAP: usize = 2;
@@ -46,6 +44,12 @@ const INSTRUCTIONS: Group = Group {
     ratio: "ours / with",
     named: true,
     quartiles: false,
+};
+
+/// libsodium chooses for itself, and BearSSL's ChaCha20 takes what every processor has.
+const CHACHA_INSTRUCTIONS: Group = Group {
+    columns: &[Column::OpenSslWith, Column::NettleWith, Column::SodiumWith],
+    ..INSTRUCTIONS
 };
 
 const PLAIN: Group = Group {
@@ -116,7 +120,8 @@ impl Span {
 }
 
 /// All of it: what it was made on, the sections, where ours stands, how far the samples
-/// lie apart, the two editions beside each other, and the worst case.
+/// lie apart, the two editions beside each other, what is asked of ChaCha20, and the worst
+/// case.
 pub fn text(about: &About, lines: &[Line]) -> String {
     let mut text = about.lines();
     for section in Section::ALL {
@@ -130,6 +135,7 @@ pub fn text(about: &About, lines: &[Line]) -> String {
     text.push(String::new());
     text.extend(editions::lines(lines));
     text.push(String::new());
+    text.push(asked::statement(lines));
     text.push(worst::statement(lines));
     text.push(String::new());
     text.join("\n")
@@ -157,16 +163,25 @@ fn of(section: Section, lines: &[Line]) -> impl Iterator<Item = &Line> {
 }
 
 fn groups(section: Section) -> &'static [Group] {
-    match section {
-        Section::Subkeys => &[PLAIN],
-        _ => &[SOFTWARE, INSTRUCTIONS],
+    match section.others() {
+        Others::Aes => &[SOFTWARE, INSTRUCTIONS],
+        Others::ChaCha20 => &[SOFTWARE, CHACHA_INSTRUCTIONS],
+        Others::Plain => &[PLAIN],
     }
 }
 
+/// Ours and the others of a section.
+#[cfg(test)]
+pub fn columns(section: Section) -> impl Iterator<Item = Column> {
+    let others = groups(section).iter().flat_map(|group| group.columns);
+    [Column::Ours].into_iter().chain(others.copied())
+}
+
 fn spans(section: Section) -> Vec<Span> {
-    let rate = match section {
-        Section::Datagrams | Section::Forgeries | Section::Sip004 => "datagrams/s",
-        _ => "calls/s",
+    let rate = if section.has_datagrams() {
+        "datagrams/s"
+    } else {
+        "calls/s"
     };
     let span = |title, heads, gap| Span { title, heads, gap };
     let mut spans = vec![
@@ -204,19 +219,14 @@ fn cells(section: Section, line: &Line) -> Vec<String> {
     cells
 }
 
-/// As wide as the widest cell, in all sections that have the column, and together wide
+/// As wide as the widest cell, in all sections with the same others, and together wide
 /// enough for a title.
 fn widths(section: Section, lines: &[Line]) -> Vec<usize> {
-    let is_plain = |section| section == Section::Subkeys;
     let mut widths = vec![0; heads(section).len()];
-    for other in Section::ALL {
-        let columns = if is_plain(other) == is_plain(section) {
-            widths.len()
-        } else {
-            FRONT
-        };
+    let alike = |other: &Section| other.others() == section.others();
+    for other in Section::ALL.into_iter().filter(alike) {
         for row in rows(other, lines) {
-            for (width_now, cell) in widths[..columns].iter_mut().zip(row) {
+            for (width_now, cell) in widths.iter_mut().zip(row) {
                 *width_now = width(&cell).max(*width_now);
             }
         }
@@ -321,10 +331,16 @@ mod tests {
         for library in ["OpenSSL", "nettle", "BearSSL"] {
             assert_eq!(columns.matches(library).count(), 2, "{library}");
         }
-        let lines = section_lines(Section::Subkeys, &[]);
-        let (groups, columns) = (&lines[0], &lines[1]);
-        assert!(groups.contains("plain Rust") && !groups.contains("instructions"));
-        assert!(!columns.contains("OpenSSL"));
+        let columns = &section_lines(Section::ChaChaDatagrams, &[])[1];
+        for (library, count) in [("OpenSSL", 2), ("nettle", 2), ("BearSSL", 1), ("sodium", 1)] {
+            assert_eq!(columns.matches(library).count(), count, "{library}");
+        }
+        for section in [Section::ReducedDatagrams, Section::Subkeys] {
+            let lines = section_lines(section, &[]);
+            let (groups, columns) = (&lines[0], &lines[1]);
+            assert!(groups.contains("plain Rust") && !groups.contains("instructions"));
+            assert!(!columns.contains("OpenSSL"));
+        }
     }
 
     /// Also where numbers are longer than any that was seen.

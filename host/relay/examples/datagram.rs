@@ -1,17 +1,22 @@
 //! A client and a server exchange a question and an answer over UDP on this machine.
 //!
-//!     cargo run --example datagram
+//!     cargo run --example datagram [METHOD]
 
+use std::env;
 use std::error::Error;
 use std::fs::File;
 use std::io::{self, Read};
 use std::net::{SocketAddr, UdpSocket};
 use std::time::{SystemTime, UNIX_EPOCH};
 
-use relay::{Address, Invalid, Key, Method, Peer, SealSession, Table, MAX_DATAGRAM};
+use relay::{Address, Invalid, Key, Method, Nonce, Peer, SealSession, Table, MAX_DATAGRAM};
 
 fn main() -> Result<(), Box<dyn Error>> {
-    let key = Key::new(Method::Aes128Gcm, &random::<16>()?)?;
+    let method = match env::args().nth(1) {
+        Some(name) => name.parse()?,
+        None => Method::ChaCha20Poly1305,
+    };
+    let key = Key::new(method, &random::<32>()?[..method.key_len()])?;
     let client = UdpSocket::bind("127.0.0.1:0")?;
     let server = UdpSocket::bind("127.0.0.1:0")?;
 
@@ -19,9 +24,10 @@ fn main() -> Result<(), Box<dyn Error>> {
     let mut session = SealSession::client(u64::from_be_bytes(random()?));
     let target = Address::name(b"time.example", 37)?;
     let mut wire = vec![0; MAX_DATAGRAM];
-    let length = session.seal(&key, now()?, &target, 0, b"What time is it?", &mut wire)?;
+    let (nonce, question) = (nonce(method)?, b"What time is it?");
+    let length = session.seal(&key, nonce, now()?, &target, 0, question, &mut wire)?;
     client.send_to(&wire[..length], server.local_addr()?)?;
-    println!("client   sends {length} bytes");
+    println!("client   sends {length} bytes with {method}");
 
     serve(&server, &key)?;
 
@@ -60,7 +66,8 @@ fn serve(server: &UdpSocket, key: &Key) -> Result<(), Box<dyn Error>> {
     let peer = clients.peer_of(replies_to, now()?).ok_or("forgotten")?;
     let mut replies = begin(replies_to, &clients)?;
     let source = Address::from(SocketAddr::from(([192, 0, 2, 37], 37)));
-    let length = replies.seal(key, now()?, &source, 0, b"Tea time.", &mut wire)?;
+    let (nonce, answer) = (nonce(key.method())?, b"Tea time.");
+    let length = replies.seal(key, nonce, now()?, &source, 0, answer, &mut wire)?;
     server.send_to(&wire[..length], SocketAddr::from(peer))?;
     Ok(())
 }
@@ -74,6 +81,12 @@ fn begin(client: u64, clients: &Table) -> Result<SealSession, Box<dyn Error>> {
             begun => return Ok(begun?),
         }
     }
+}
+
+/// Another one for each datagram, where the method takes one.
+fn nonce(method: Method) -> io::Result<Option<Nonce>> {
+    let random = method.takes_nonce().then(random).transpose()?;
+    Ok(random.map(Nonce::new))
 }
 
 fn now() -> Result<u64, Box<dyn Error>> {

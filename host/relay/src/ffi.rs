@@ -39,6 +39,8 @@ extern "C" {
         method: u64,
         key: *const u8,
         key_len: usize,
+        nonce: *const u8,
+        nonce_len: usize,
         session: *mut u64,
         session_len: usize,
         clock: u64,
@@ -325,9 +327,11 @@ pub(crate) fn session_begin_server(
     answer::checked(number, NO_ANSWER).map(|_| session)
 }
 
-/// Seals a datagram.
+/// Seals a datagram. The nonce is empty where there is none.
+#[allow(clippy::too_many_arguments)]
 pub(crate) fn datagram_seal(
     key: &Key,
+    nonce: &[u8],
     session: &mut SessionWords,
     clock: u64,
     address: &[u8],
@@ -342,6 +346,8 @@ pub(crate) fn datagram_seal(
             key.method().number(),
             key.bytes().as_ptr(),
             key.bytes().len(),
+            nonce.as_ptr(),
+            nonce.len(),
             session.as_mut_ptr(),
             session.len(),
             clock,

@@ -5,11 +5,8 @@ use std::ops::Range;
 use crate::answer::{self, Answer};
 use crate::{Address, Target};
 
-/// What a datagram has besides its plaintext: separate header (16 bytes) and tag (16).
-const OUTSIDE: usize = 32;
-
 /// The header of an opened datagram. Places are those in the plaintext, that is in
-/// the buffer that the datagram was opened to.
+/// the buffer that the datagram was opened to; with ChaCha it begins with the session ID.
 #[derive(Clone, Debug, PartialEq, Eq, Hash)]
 pub struct Header {
     /// From a client, where the payload is to go; from a server, where it is from.
@@ -56,8 +53,8 @@ impl Header {
         self.target.address(self.port, plaintext)
     }
 
-    /// The header of an opened datagram's answer.
-    pub(crate) fn from_library(answer: &Answer, datagram_len: usize) -> Self {
+    /// The header of an opened datagram's answer, and the length of its plaintext.
+    pub(crate) fn from_library(answer: &Answer, plaintext_len: usize) -> Self {
         let [kind, first, second, port, session_id, packet_id, timestamp, padding, payload] =
             *answer;
         Self {
@@ -67,7 +64,7 @@ impl Header {
             packet_id,
             timestamp,
             padding: answer::half_word(padding),
-            payload: answer::length(payload)..datagram_len - OUTSIDE,
+            payload: answer::length(payload)..plaintext_len,
         }
     }
 }

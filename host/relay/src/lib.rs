@@ -4,7 +4,7 @@
 //! within the buffers that it is lent, and ends (`docs/PROMISES.md`). This crate
 //! gives it Rust's types and adds nothing to what it does. It opens no socket,
 //! reads no clock and makes no random numbers: the host brings the bytes, the time,
-//! the IDs and the salts.
+//! the IDs, the salts and the nonces.
 //!
 //! | to | use |
 //! |---|---|
@@ -31,7 +31,7 @@
 //! let mut session = SealSession::client(0x1f2e_3d4c_5b6a_7988);
 //! let target = Address::name(b"example.com", 53)?;
 //! let mut datagram = [0; 1_500];
-//! let length = session.seal(&key, now, &target, 0, b"question", &mut datagram)?;
+//! let length = session.seal(&key, None, now, &target, 0, b"question", &mut datagram)?;
 //! let datagram = &datagram[..length];
 //!
 //! // The server opens.
@@ -48,10 +48,13 @@
 //! let mut reply = SealSession::server(0x8877_6655_4433_2211, client, now, &table)?;
 //! let source = Address::from(SocketAddr::from(([198, 51, 100, 7], 53)));
 //! let mut datagram = [0; 1_500];
-//! let length = reply.seal(&key, now, &source, 0, b"answer", &mut datagram)?;
+//! let length = reply.seal(&key, None, now, &source, 0, b"answer", &mut datagram)?;
 //! # let _ = length;
 //! # Ok::<(), relay::Refusal>(())
 //! ```
+//!
+//! With the methods of ChaCha each datagram takes 24 random bytes of its own instead of
+//! `None`: see [`Nonce`].
 //!
 //! # A stream
 //!
@@ -127,12 +130,15 @@
 //!
 //! # Stack
 //!
-//! A call takes up to 8,648 bytes of stack in the library; allow 16 KiB.
+//! A call takes up to 8,632 bytes of stack in the library; allow 16 KiB.
 //!
-//! # Not constant time
+//! # Timing
 //!
-//! AES and GHASH look up tables by secret bytes. Do not share the processor with
-//! code that you do not trust.
+//! AES and GHASH look up tables by secret bytes, so the time of a call tells of key and
+//! text to whoever shares the processor. With the methods of ChaCha nothing secret decides
+//! which way the code goes or which place it reads, up to the verdict on the tag: boxes
+//! that share their processor with code that they do not trust should use these. The
+//! header of an authentic datagram is read with branches on what it says.
 
 #![deny(unsafe_code)]
 #![warn(missing_docs)]
@@ -145,6 +151,7 @@ mod header;
 mod invalid;
 mod key;
 mod method;
+mod nonce;
 mod peer;
 mod plan;
 mod pool;
@@ -163,6 +170,7 @@ pub use header::Header;
 pub use invalid::Invalid;
 pub use key::Key;
 pub use method::{Method, UnknownMethod};
+pub use nonce::Nonce;
 pub use peer::Peer;
 pub use plan::{Piece, Pieces, Plan};
 pub use pool::Pool;

@@ -4,7 +4,13 @@ use std::error::Error;
 use std::fmt;
 use std::str::FromStr;
 
+use crate::Nonce;
+
 /// A method: which cipher, and how long its keys and salts are.
+///
+/// The three with ChaCha are section 4's of SIP022, for processors without AES
+/// instructions; up to the verdict on a tag nothing secret decides which way their code
+/// goes or which place it reads. Their datagrams take a [`Nonce`](crate::Nonce) each.
 ///
 /// ```
 /// use relay::Method;
@@ -20,17 +26,39 @@ pub enum Method {
     Aes128Gcm,
     /// `2022-blake3-aes-256-gcm`: 32-byte keys and salts.
     Aes256Gcm,
+    /// `2022-blake3-chacha20-poly1305`: 32-byte keys and salts.
+    ChaCha20Poly1305,
+    /// `2022-blake3-chacha12-poly1305`: 32-byte keys and salts, 12 rounds instead of 20.
+    ChaCha12Poly1305,
+    /// `2022-blake3-chacha8-poly1305`: 32-byte keys and salts, 8 rounds instead of 20.
+    ChaCha8Poly1305,
 }
+
+/// The length of a tag.
+const TAG: usize = 16;
+
+/// Session ID and packet ID, which methods 1 and 2 have in a separate header before the
+/// body and the others at the start of the plaintext.
+const IDS: usize = 16;
 
 impl Method {
     /// Every method, by number.
-    pub const ALL: [Self; 2] = [Self::Aes128Gcm, Self::Aes256Gcm];
+    pub const ALL: [Self; 5] = [
+        Self::Aes128Gcm,
+        Self::Aes256Gcm,
+        Self::ChaCha20Poly1305,
+        Self::ChaCha12Poly1305,
+        Self::ChaCha8Poly1305,
+    ];
 
     /// The method's number, as C callers and a pool's first word have it.
     pub const fn number(self) -> u64 {
         match self {
             Self::Aes128Gcm => 1,
             Self::Aes256Gcm => 2,
+            Self::ChaCha20Poly1305 => 3,
+            Self::ChaCha12Poly1305 => 4,
+            Self::ChaCha8Poly1305 => 5,
         }
     }
 
@@ -45,7 +73,10 @@ impl Method {
     pub const fn key_len(self) -> usize {
         match self {
             Self::Aes128Gcm => 16,
-            Self::Aes256Gcm => 32,
+            Self::Aes256Gcm
+            | Self::ChaCha20Poly1305
+            | Self::ChaCha12Poly1305
+            | Self::ChaCha8Poly1305 => 32,
         }
     }
 
@@ -54,11 +85,42 @@ impl Method {
         self.key_len()
     }
 
+    /// Whether sealing a datagram takes a [`Nonce`](crate::Nonce) from the host.
+    pub const fn takes_nonce(self) -> bool {
+        match self {
+            Self::Aes128Gcm | Self::Aes256Gcm => false,
+            Self::ChaCha20Poly1305 | Self::ChaCha12Poly1305 | Self::ChaCha8Poly1305 => true,
+        }
+    }
+
+    /// How many bytes a datagram has besides its plaintext, the tag among them: 32, or 40
+    /// where it takes a nonce.
+    pub const fn datagram_overhead(self) -> usize {
+        if self.takes_nonce() {
+            Nonce::LENGTH + TAG
+        } else {
+            IDS + TAG
+        }
+    }
+
+    /// How many bytes a datagram has around its main header, which begins with the type,
+    /// and what follows in the plaintext.
+    pub(crate) const fn around_main_header(self) -> usize {
+        if self.takes_nonce() {
+            self.datagram_overhead() + IDS
+        } else {
+            self.datagram_overhead()
+        }
+    }
+
     /// The method's name in SIP022.
     pub const fn name(self) -> &'static str {
         match self {
             Self::Aes128Gcm => "2022-blake3-aes-128-gcm",
             Self::Aes256Gcm => "2022-blake3-aes-256-gcm",
+            Self::ChaCha20Poly1305 => "2022-blake3-chacha20-poly1305",
+            Self::ChaCha12Poly1305 => "2022-blake3-chacha12-poly1305",
+            Self::ChaCha8Poly1305 => "2022-blake3-chacha8-poly1305",
         }
     }
 }
@@ -92,9 +154,9 @@ pub struct UnknownMethod {
 
 impl fmt::Display for UnknownMethod {
     fn fmt(&self, f: &mut fmt::Formatter<'_>) -> fmt::Result {
-        let [first, second] = Method::ALL;
-        let name = &self.name;
-        write!(f, "a method is {first} or {second}, not {name:?}")
+        let [others @ .., last] = Method::ALL.map(Method::name);
+        let (others, name) = (others.join(", "), &self.name);
+        write!(f, "a method is {others} or {last}, not {name:?}")
     }
 }
 
@@ -118,8 +180,31 @@ mod tests {
             let unknown = name.parse::<Method>().unwrap_err();
             assert_eq!(unknown.name, name);
         }
-        for number in [0, 3, 257, (1 << 32) + 1, u64::MAX] {
+        for number in [0, 6, 11, 257, (1 << 32) + 1, u64::MAX] {
             assert_eq!(Method::from_number(number), None);
         }
+    }
+
+    #[test]
+    fn an_unknown_name_is_told() {
+        let unknown = "2022-blake3-chacha7-poly1305".parse::<Method>();
+        assert_eq!(
+            unknown.unwrap_err().to_string(),
+            "a method is 2022-blake3-aes-128-gcm, 2022-blake3-aes-256-gcm, \
+             2022-blake3-chacha20-poly1305, 2022-blake3-chacha12-poly1305 or \
+             2022-blake3-chacha8-poly1305, not \"2022-blake3-chacha7-poly1305\""
+        );
+    }
+
+    #[test]
+    fn a_datagram_has_32_or_40_bytes_besides_its_plaintext() {
+        assert_eq!(
+            Method::ALL.map(Method::datagram_overhead),
+            [32, 32, 40, 40, 40]
+        );
+        assert_eq!(
+            Method::ALL.map(Method::around_main_header),
+            [32, 32, 56, 56, 56]
+        );
     }
 }

@@ -38,7 +38,7 @@ pub struct Piece {
 /// for piece in plan {
 ///     let (payload, behind) = rest.split_at(piece.length);
 ///     let mut datagram = [0; 1_500];
-///     session.seal(&key, 1_000, &target, piece.padding, payload, &mut datagram)?;
+///     session.seal(&key, None, 1_000, &target, piece.padding, payload, &mut datagram)?;
 ///     rest = behind;
 /// }
 /// assert!(rest.is_empty());

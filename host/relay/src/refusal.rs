@@ -28,12 +28,12 @@ use crate::answer;
 #[derive(Clone, Copy, Debug, PartialEq, Eq, Hash)]
 pub enum Refusal {
     /// Number 1: a key or a salt has another length than its method asks for, a
-    /// retention is not lawful, a pool is another method's, or words that the host
-    /// brought hold no lawful state. Keys and retentions are looked at where they are
-    /// made, as [`Invalid`](crate::Invalid).
+    /// datagram's nonce is missing, a retention is not lawful, a pool is another method's,
+    /// or words that the host brought hold no lawful state. Keys and retentions are looked
+    /// at where they are made, as [`Invalid`](crate::Invalid).
     Settings,
-    /// Number 2: a datagram has under 32 or over 65,507 bytes, or a chunk over
-    /// 65,535. In the 2017 edition a datagram has at least its salt and 16 bytes, and
+    /// Number 2: a datagram has under 32 (with ChaCha 40) or over 65,507 bytes, or a chunk
+    /// over 65,535. In the 2017 edition a datagram has at least its salt and 16 bytes, and
     /// a chunk 16,383 at most.
     Length,
     /// Number 3: the output buffer is shorter than the bytes due.

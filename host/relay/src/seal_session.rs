@@ -2,12 +2,12 @@
 
 use crate::answer;
 use crate::ffi::{self, SessionWords};
-use crate::{Address, Invalid, Key, Refusal, Table, MAX_DATAGRAM};
+use crate::{Address, Invalid, Key, Method, Nonce, Refusal, Table, MAX_DATAGRAM};
 
-/// Bytes of a datagram besides address, padding and payload. A server's also has
-/// the client session ID.
-const CLIENT_OVERHEAD: usize = 43;
-const SERVER_OVERHEAD: usize = 51;
+/// Bytes of a main header before its padding: type, time and the padding's length. A
+/// server's also has the client session ID.
+const CLIENT_HEADER: usize = 11;
+const SERVER_HEADER: usize = 19;
 
 /// Word 0 of a server's session; it is 0 for a client's.
 const SERVER: u64 = 1;
@@ -15,8 +15,9 @@ const SERVER: u64 = 1;
 /// A sending session, which seals datagrams.
 ///
 /// Each datagram sealed takes the next packet ID, from 0 on. Under one key a session ID
-/// and a packet ID must never be sealed twice together: they give the subkey and the
-/// nonce, and two texts under one nonce can be read and forged. So a session cannot be
+/// and a packet ID must never be sealed twice together. With AES they give the subkey and
+/// the nonce, and two texts under one nonce can be read and forged; with ChaCha the nonce
+/// is the host's, and the second datagram is lost as a replay. So a session cannot be
 /// copied, and its ID must be random and new, among those of clients and servers alike.
 ///
 /// ```
@@ -26,9 +27,25 @@ const SERVER: u64 = 1;
 /// let target = Address::name(b"a", 80)?;
 /// let mut session = SealSession::client(0x0102_0304_0506_0708);
 /// let mut out = [0; 64];
-/// let length = session.seal(&key, 1_000, &target, 0, b"", &mut out)?;
+/// let length = session.seal(&key, None, 1_000, &target, 0, b"", &mut out)?;
 /// assert_eq!(length, 48);
 /// assert_eq!(session.next_packet(), 1);
+/// # Ok::<(), relay::Refusal>(())
+/// ```
+///
+/// With a method that takes a nonce, and written for any of them:
+///
+/// ```
+/// use relay::{Address, Key, Method, Nonce, SealSession};
+///
+/// # let random = || [0x77; Nonce::LENGTH];
+/// let key = Key::new(Method::ChaCha20Poly1305, &[0x4b; 32])?;
+/// let target = Address::name(b"a", 80)?;
+/// let mut session = SealSession::client(0x0102_0304_0506_0708);
+/// let mut out = [0; 128];
+/// let nonce = key.method().takes_nonce().then(|| Nonce::new(random()));
+/// let length = session.seal(&key, nonce, 1_000, &target, 0, b"", &mut out)?;
+/// assert_eq!(length, 72);
 /// # Ok::<(), relay::Refusal>(())
 /// ```
 #[derive(Debug)]
@@ -88,30 +105,36 @@ impl SealSession {
 
     /// Seals one datagram to the front of `out` and gives its length.
     ///
-    /// `clock` is in seconds since 1970 and becomes the timestamp. From a client
+    /// The methods that take a nonce ([`takes_nonce`](Method::takes_nonce)) are given one
+    /// that was drawn at random for this call; for the others it is `None`, and what is
+    /// given is not looked at. `clock` is in seconds since 1970 and becomes the timestamp. From a client
     /// `address` is the target, from a server the source. `padding` bytes of zeros
     /// are put before it. The payload may be empty.
     ///
     /// # Errors
     ///
-    /// The first that applies: [`Settings`](Refusal::Settings) (words from elsewhere
-    /// that are no session), [`Argument`](Refusal::Argument) (words in which a
-    /// server has its client's ID), [`Counter`](Refusal::Counter) (the next packet
-    /// ID is 2^64 - 1), [`Length`](Refusal::Length) (over 65,507 bytes),
-    /// [`Room`](Refusal::Room). A refusal writes nothing and takes no packet ID.
+    /// The first that applies: [`Settings`](Refusal::Settings) (no nonce where the method
+    /// takes one; words from elsewhere that are no session),
+    /// [`Argument`](Refusal::Argument) (words in which a server has its client's ID),
+    /// [`Counter`](Refusal::Counter) (the next packet ID is 2^64 - 1),
+    /// [`Length`](Refusal::Length) (over 65,507 bytes), [`Room`](Refusal::Room). A refusal
+    /// writes nothing and takes no packet ID; the nonce is gone with it.
+    // The arguments are C's; a struct of them would be the same list under other names.
+    #[allow(clippy::too_many_arguments)]
     pub fn seal(
         &mut self,
         key: &Key,
+        nonce: Option<Nonce>,
         clock: u64,
         address: &Address,
         padding: usize,
         payload: &[u8],
         out: &mut [u8],
     ) -> Result<usize, Refusal> {
-        let session = &mut self.words;
         ffi::datagram_seal(
             key,
-            session,
+            nonce.as_ref().map_or(&[], Nonce::as_bytes),
+            &mut self.words,
             clock,
             address.as_bytes(),
             padding,
@@ -121,22 +144,23 @@ impl SealSession {
         .map(|answer| answer::length(answer[0]))
     }
 
-    /// How long a datagram would be.
+    /// How long a datagram of a method would be.
     ///
     /// # Errors
     ///
     /// [`Refusal::Length`] if it would be longer than 65,507 bytes.
     pub fn sealed_len(
         &self,
+        method: Method,
         address: &Address,
         padding: usize,
         payload_len: usize,
     ) -> Result<usize, Refusal> {
-        let overhead = match self.client_id() {
-            None => CLIENT_OVERHEAD,
-            Some(_) => SERVER_OVERHEAD,
+        let header = match self.client_id() {
+            None => CLIENT_HEADER,
+            Some(_) => SERVER_HEADER,
         };
-        (overhead + address.as_bytes().len())
+        (method.around_main_header() + header + address.as_bytes().len())
             .checked_add(padding)
             .and_then(|length| length.checked_add(payload_len))
             .filter(|&length| length <= MAX_DATAGRAM)
@@ -162,7 +186,7 @@ impl SealSession {
     /// ID, the client's ID or 0, the next packet ID.
     ///
     /// A host that restores older words than those of its last datagram seals a
-    /// packet ID twice, which breaks the encryption of both datagrams.
+    /// packet ID twice. With AES that breaks the encryption of both datagrams.
     pub fn words(&self) -> &[u64; Self::WORDS] {
         &self.words
     }

@@ -28,7 +28,7 @@ const SESSIONS: usize = 64;
 /// let caller = Peer::from(SocketAddr::from(([192, 0, 2, 1], 4000)));
 ///
 /// let mut sealed = [0; 128];
-/// let length = SealSession::client(7).seal(&key, 1_000, &target, 0, b"hello", &mut sealed)?;
+/// let length = SealSession::client(7).seal(&key, None, 1_000, &target, 0, b"hello", &mut sealed)?;
 ///
 /// let mut table = Table::new(60)?;
 /// let mut plaintext = [0; 128];
@@ -69,7 +69,8 @@ impl Table {
     ///
     /// `clock` is in seconds since 1970 and must not go back between calls. `peer`
     /// is where the datagram came from; it is kept in the session for replies. The
-    /// plaintext, as long as the datagram less 32 bytes, goes to the front of `out`;
+    /// plaintext, as long as the datagram less its method's
+    /// [`datagram_overhead`](crate::Method::datagram_overhead), goes to the front of `out`;
     /// bytes behind it are not written.
     ///
     /// # Errors
@@ -77,12 +78,12 @@ impl Table {
     /// The first that applies: [`Settings`](Refusal::Settings),
     /// [`Length`](Refusal::Length), [`Room`](Refusal::Room),
     /// [`NotAuthentic`](Refusal::NotAuthentic), [`Malformed`](Refusal::Malformed)
-    /// (plaintext under 11 bytes), [`Type`](Refusal::Type), [`Time`](Refusal::Time),
-    /// [`Malformed`](Refusal::Malformed) (padding, address),
-    /// [`Replay`](Refusal::Replay), [`Full`](Refusal::Full).
-    /// [`Replay`](Refusal::Replay) counts one more repeat in its session; all others
-    /// leave the table as it was. The first four leave `out` as it was; the others, which come after
-    /// the tag was found good, set the bytes of the plaintext to zero.
+    /// (plaintext under 11 bytes, with ChaCha under 27), [`Type`](Refusal::Type),
+    /// [`Time`](Refusal::Time), [`Malformed`](Refusal::Malformed) (padding, address),
+    /// [`Replay`](Refusal::Replay), [`Full`](Refusal::Full). [`Replay`](Refusal::Replay)
+    /// counts one more repeat in its session; all others leave the table as it was. The
+    /// first four leave `out` as it was; the others, which come after the tag was found
+    /// good, set the bytes of the plaintext to zero.
     pub fn open_server(
         &mut self,
         key: &Key,
@@ -92,7 +93,7 @@ impl Table {
         out: &mut [u8],
     ) -> Result<Header, Refusal> {
         ffi::datagram_open_server(key, clock, peer, datagram, &mut self.words, out)
-            .map(|answer| Header::from_library(&answer, datagram.len()))
+            .map(|answer| Header::from_library(&answer, plaintext_len(key, datagram)))
     }
 
     /// Opens a server's datagram, for the client of session ID `client`. Everything
@@ -101,7 +102,7 @@ impl Table {
     /// # Errors
     ///
     /// As [`open_server`](Table::open_server), but a plaintext is too short under 19
-    /// bytes, and behind [`Time`](Refusal::Time) comes
+    /// bytes, with ChaCha under 35, and behind [`Time`](Refusal::Time) comes
     /// [`Binding`](Refusal::Binding): the datagram names another client session.
     pub fn open_client(
         &mut self,
@@ -113,7 +114,7 @@ impl Table {
         out: &mut [u8],
     ) -> Result<Header, Refusal> {
         ffi::datagram_open_client(key, clock, client, peer, datagram, &mut self.words, out)
-            .map(|answer| Header::from_library(&answer, datagram.len()))
+            .map(|answer| Header::from_library(&answer, plaintext_len(key, datagram)))
     }
 
     /// How many seconds a silent session is remembered.
@@ -146,7 +147,7 @@ impl Table {
     /// # let target = Address::name(b"example.com", 443)?;
     /// # let caller = Peer::from(SocketAddr::from(([192, 0, 2, 1], 4000)));
     /// # let mut sealed = [0; 128];
-    /// # let length = SealSession::client(7).seal(&key, 1_000, &target, 0, b"hello", &mut sealed)?;
+    /// # let length = SealSession::client(7).seal(&key, None, 1_000, &target, 0, b"hello", &mut sealed)?;
     /// # let mut table = Table::new(60)?;
     /// # table.open_server(&key, 1_001, caller, &sealed[..length], &mut [0; 128])?;
     /// assert_eq!(
@@ -185,6 +186,11 @@ impl Table {
             words: Box::new(*words),
         }
     }
+}
+
+/// How long the plaintext of a datagram is that was opened.
+fn plaintext_len(key: &Key, datagram: &[u8]) -> usize {
+    datagram.len() - key.method().datagram_overhead()
 }
 
 /// A table's sessions at a clock.

@@ -7,9 +7,9 @@ use crate::random::Random;
 
 #[derive(Clone, Copy)]
 enum Damage {
-    /// One bit anywhere, in the separate header, or in the tag.
+    /// One bit anywhere, in the separate header or the nonce, or in the tag.
     Bit,
-    HeaderBit,
+    FirstBit,
     TagBit,
     /// Bytes are cut off or added at the end.
     Cut,
@@ -22,7 +22,7 @@ enum Damage {
 
 const MIX: [(u64, Damage); 7] = [
     (50, Damage::Bit),
-    (10, Damage::HeaderBit),
+    (10, Damage::FirstBit),
     (10, Damage::TagBit),
     (15, Damage::Cut),
     (9, Damage::Longer),
@@ -30,7 +30,7 @@ const MIX: [(u64, Damage); 7] = [
     (5, Damage::Random),
 ];
 
-/// Length of the separate header, and of a tag.
+/// Length of the separate header, of a tag, and of a nonce's first part.
 const BLOCK: usize = 16;
 
 /// A copy of a whole datagram that differs from it.
@@ -39,7 +39,7 @@ pub fn forge(original: &Datagram, random: &mut Random) -> Rc<Datagram> {
     let length = bytes.len();
     match random.weighted(&MIX) {
         Damage::Bit => flip(&mut bytes, random),
-        Damage::HeaderBit => flip(&mut bytes[..BLOCK], random),
+        Damage::FirstBit => flip(&mut bytes[..BLOCK], random),
         Damage::TagBit => flip(&mut bytes[length - BLOCK..], random),
         Damage::Cut => bytes.truncate(random.place(length)),
         Damage::Longer => {

@@ -3,9 +3,8 @@
 use std::net::SocketAddr;
 use std::rc::Rc;
 
-use relay::Address;
+use relay::{Address, Method};
 
-use crate::half::Half;
 use crate::payload::Message;
 
 pub struct Datagram {
@@ -19,8 +18,8 @@ pub struct Datagram {
 pub struct Origin {
     /// The client that sealed it, or to which it replies.
     pub client: usize,
-    /// Under whose key it was sealed.
-    pub half: Half,
+    /// The method that it was sealed with.
+    pub method: Method,
     pub session_id: u64,
     /// From a server: the client session that it names.
     pub client_session: Option<u64>,

@@ -3,9 +3,9 @@
 //! 64 clients send 400 datagrams a second for an hour of simulated clock. Some are
 //! late, overtaken, replayed, forged or stamped with a wrong time; sessions are
 //! forgotten and begun again. The library opens all of them, and everything that it
-//! answers is held to a model of the plain rules that shares nothing with it. The
-//! first half runs with one method, the second with the other. Then every datagram
-//! of a shorter run comes again at every later second until it is stale.
+//! answers is held to a model of the plain rules that shares nothing with it. A run
+//! goes through all five methods, a fifth of it with each. Then every datagram of a
+//! shorter run comes again at every later second until it is stale.
 //!
 //! The first disagreement ends the run with exit status 1.
 
@@ -17,7 +17,7 @@ mod damage;
 mod datagram;
 mod disagreement;
 mod events;
-mod half;
+mod keys;
 mod ledger;
 mod meter;
 mod network;

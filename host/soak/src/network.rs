@@ -5,13 +5,12 @@ use std::collections::{BTreeMap, VecDeque};
 use std::net::SocketAddr;
 use std::rc::Rc;
 
-use relay::SealSession;
+use relay::{Method, SealSession};
 
 use crate::client::{any_peer, Client};
 use crate::damage;
 use crate::datagram::{Arrival, Datagram};
 use crate::events::{Event, Ranges, EVENTS, LOST, OVERTAKEN, SIZES};
-use crate::half::Half;
 use crate::ledger::Ledger;
 use crate::payload::Payloads;
 use crate::random::Random;
@@ -39,12 +38,12 @@ pub struct Network {
 }
 
 impl Network {
-    pub fn new(seed: u64, payloads: Rc<Payloads>) -> Self {
+    pub fn new(method: Method, seed: u64, payloads: Rc<Payloads>) -> Self {
         let mut random = Random::new(seed);
         let series = 0..CLIENTS as u16;
         Self {
             clients: series.map(|s| Client::new(s, &mut random)).collect(),
-            sealer: Sealer::new(seed, payloads),
+            sealer: Sealer::new(method, seed, payloads),
             ledger: Ledger::new(CLIENTS),
             random,
             ready: VecDeque::new(),
@@ -52,10 +51,10 @@ impl Network {
         }
     }
 
-    /// Every client gets the key of a half and begins anew. What is on its way stays
+    /// Every client gets the key of a method and begins anew. What is on its way stays
     /// sealed under the old key.
-    pub fn change_key(&mut self, half: Half, clock: u64) {
-        self.sealer.change_key(half);
+    pub fn change_key(&mut self, method: Method, clock: u64) {
+        self.sealer.change_key(method);
         for client in 0..CLIENTS {
             self.begin_anew(client, clock);
         }
@@ -292,16 +291,19 @@ impl Network {
 mod tests {
     use super::Network;
     use crate::payload::Payloads;
+    use relay::Method;
     use std::collections::{HashMap, HashSet};
     use std::rc::Rc;
 
     const CLOCK: u64 = 1_000_000;
 
+    const METHOD: Method = Method::ChaCha8Poly1305;
+
     /// Datagrams of good time arrive on both sides of the window's edge: 255 and 256
     /// behind the highest of their session.
     #[test]
     fn late_packets_lie_on_both_sides_of_the_edge() {
-        let mut network = Network::new(2022, Rc::new(Payloads::new(2022)));
+        let mut network = Network::new(METHOD, 2022, Rc::new(Payloads::new(2022)));
         let mut highest = HashMap::new();
         let mut distances = HashSet::new();
         for clock in CLOCK..CLOCK + 180 {
@@ -324,7 +326,7 @@ mod tests {
 
     #[test]
     fn a_silent_client_comes_back_with_another_session() {
-        let mut network = Network::new(1, Rc::new(Payloads::new(1)));
+        let mut network = Network::new(METHOD, 1, Rc::new(Payloads::new(1)));
         let before = network.clients[9].session.id();
         network.fall_silent(9, CLOCK);
         assert!((0..1_000).all(|_| network.sender() != 9));

@@ -4,12 +4,12 @@ use std::collections::HashMap;
 use std::net::SocketAddr;
 use std::rc::Rc;
 
-use relay::{Header, Invalid, Key, Peer, Refusal, SealSession, Session, Table};
+use relay::{Header, Invalid, Key, Method, Peer, Refusal, SealSession, Session, Table};
 
 use crate::book::{Book, Page};
 use crate::datagram::{Arrival, Origin};
 use crate::disagreement::{disagree, Disagreement};
-use crate::half::Half;
+use crate::keys::key_of;
 use crate::meter::Meter;
 use crate::payload::{Message, Payloads};
 use crate::rules::{self, Call, Verdict};
@@ -47,7 +47,6 @@ pub struct Counted {
 }
 
 pub struct Receiver {
-    half: Half,
     key: Key,
     table: Table,
     book: Book,
@@ -57,10 +56,9 @@ pub struct Receiver {
 }
 
 impl Receiver {
-    pub fn new(half: Half, seed: u64, payloads: Rc<Payloads>) -> Self {
+    pub fn new(method: Method, seed: u64, payloads: Rc<Payloads>) -> Self {
         Self {
-            half,
-            key: half.key(seed),
+            key: key_of(method, seed),
             table: Table::new(RETENTION).expect("a lawful retention"),
             book: Book::new(RETENTION),
             out: vec![FILL; ROOM],
@@ -78,7 +76,8 @@ impl Receiver {
         client_session: Option<u64>,
     ) -> Result<Answer, Disagreement> {
         let datagram = &*arrival.datagram;
-        let due = datagram.bytes.len().saturating_sub(rules::OUTSIDE);
+        let method = self.key.method();
+        let due = datagram.bytes.len().saturating_sub(rules::outside(method));
         let room = if arrival.is_room_short {
             due - 1
         } else {
@@ -88,7 +87,7 @@ impl Receiver {
             datagram,
             clock,
             peer: arrival.peer,
-            half: self.half,
+            method,
             client_session,
             room,
         };

@@ -7,12 +7,11 @@
 use std::collections::{HashSet, VecDeque};
 use std::rc::Rc;
 
-use relay::SealSession;
+use relay::{Method, SealSession};
 
 use crate::client::any_peer;
 use crate::datagram::{Arrival, Datagram};
 use crate::disagreement::{disagree, Disagreement};
-use crate::half::Half;
 use crate::payload::{Message, Payloads};
 use crate::random::Random;
 use crate::receiver::{Answer, Receiver, RETENTION};
@@ -23,7 +22,7 @@ use crate::tally::Tally;
 /// Half of them are clients, the others servers.
 const SENDERS: usize = 12;
 
-/// How long each half of it takes, and when it begins.
+/// How long it takes with each method, and when it begins.
 const SECONDS: u64 = 300;
 const START: u64 = 1_600_000_000;
 
@@ -60,11 +59,11 @@ pub struct Again {
 }
 
 impl Replays {
-    /// Both halves, and what they come to in all.
+    /// With every method, and what they come to in all.
     pub fn run(seed: u64, payloads: &Rc<Payloads>) -> Result<Again, Disagreement> {
         let mut again = Again::default();
-        for half in [Half::First, Half::Second] {
-            let mut replays = Self::new(half, seed, Rc::clone(payloads), again);
+        for method in Method::ALL {
+            let mut replays = Self::new(method, seed, Rc::clone(payloads), again);
             for second in 0..SECONDS {
                 replays.run_second(START + second)?;
             }
@@ -73,13 +72,11 @@ impl Replays {
         Ok(again)
     }
 
-    fn new(half: Half, seed: u64, payloads: Rc<Payloads>, again: Again) -> Self {
+    fn new(method: Method, seed: u64, payloads: Rc<Payloads>, again: Again) -> Self {
         let mut random = Random::new(seed.rotate_left(16));
-        let mut sealer = Sealer::new(seed, Rc::clone(&payloads));
-        sealer.change_key(half);
         Self {
-            sealer,
-            receiver: Receiver::new(half, seed, payloads),
+            sealer: Sealer::new(method, seed, Rc::clone(&payloads)),
+            receiver: Receiver::new(method, seed, payloads),
             senders: (0..SENDERS).map(|s| sender(s, &mut random)).collect(),
             random,
             sent: VecDeque::new(),
@@ -182,9 +179,9 @@ fn sender(number: usize, random: &mut Random) -> Sender {
 mod tests {
     use super::*;
 
-    fn replays() -> Replays {
+    fn replays(method: Method) -> Replays {
         let payloads = Rc::new(Payloads::new(1));
-        Replays::new(Half::First, 1, payloads, Again::default())
+        Replays::new(method, 1, payloads, Again::default())
     }
 
     #[test]
@@ -204,21 +201,23 @@ mod tests {
     /// next one is stale.
     #[test]
     fn a_session_outlives_its_last_datagram() {
-        let mut replays = replays();
-        let datagram = replays.seal(0, START + 30);
-        assert!(matches!(
-            replays.receive(&datagram, START).unwrap(),
-            Answer::Accepted { .. }
-        ));
-        for (clock, number) in [(START + 60, rules::REPLAY), (START + 61, rules::WRONG_TIME)] {
-            let answer = replays.receive(&datagram, clock).unwrap();
-            assert!(matches!(answer, Answer::Refused(n) if n == number));
+        for method in Method::ALL {
+            let mut replays = replays(method);
+            let datagram = replays.seal(0, START + 30);
+            assert!(matches!(
+                replays.receive(&datagram, START).unwrap(),
+                Answer::Accepted { .. }
+            ));
+            for (clock, number) in [(START + 60, rules::REPLAY), (START + 61, rules::WRONG_TIME)] {
+                let answer = replays.receive(&datagram, clock).unwrap();
+                assert!(matches!(answer, Answer::Refused(n) if n == number));
+            }
         }
     }
 
     #[test]
     fn a_table_that_forgets_is_found_out() {
-        let mut replays = replays();
+        let mut replays = replays(Method::ChaCha20Poly1305);
         for second in 0..20 {
             replays.run_second(START + second).unwrap();
         }

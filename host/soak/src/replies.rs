@@ -5,12 +5,11 @@ use std::collections::HashMap;
 use std::net::SocketAddr;
 use std::rc::Rc;
 
-use relay::SealSession;
+use relay::{Method, SealSession};
 
 use crate::damage;
 use crate::datagram::{Arrival, Datagram};
 use crate::disagreement::{disagree, Disagreement};
-use crate::half::Half;
 use crate::meter::Meter;
 use crate::network::{Network, CLIENTS};
 use crate::payload::{Message, Payloads};
@@ -51,7 +50,7 @@ pub struct Replies {
 }
 
 impl Replies {
-    pub fn new(half: Half, seed: u64, payloads: Rc<Payloads>) -> Self {
+    pub fn new(method: Method, seed: u64, payloads: Rc<Payloads>) -> Self {
         let mut replies = Self {
             seed,
             payloads,
@@ -61,13 +60,13 @@ impl Replies {
             sessions: HashMap::new(),
             tallies: vec![Tally::default(); CLIENTS],
         };
-        replies.change_key(half);
+        replies.change_key(method);
         replies
     }
 
-    pub fn change_key(&mut self, half: Half) {
+    pub fn change_key(&mut self, method: Method) {
         self.sessions.clear();
-        let receiver = |_| Receiver::new(half, self.seed, Rc::clone(&self.payloads));
+        let receiver = |_| Receiver::new(method, self.seed, Rc::clone(&self.payloads));
         self.receivers = (0..CLIENTS).map(receiver).collect();
     }
 
@@ -154,7 +153,7 @@ impl Replies {
         Ok(())
     }
 
-    /// What the clients' tables opened in this half.
+    /// What the clients' tables opened with this method.
     pub fn meter(&self) -> Meter {
         let mut sum = Meter::default();
         for receiver in &self.receivers {

@@ -2,6 +2,8 @@
 
 use std::io::{self, IsTerminal, Write};
 
+use relay::Method;
+
 use crate::disagreement::Disagreement;
 use crate::meter::Meter;
 use crate::receiver::Counted;
@@ -172,9 +174,10 @@ fn conclusion(summary: &Summary) {
     }
     println!();
     println!(
-        "{} minutes of clock in {:.1} s; {} datagrams came to the relay.",
+        "{} minutes of clock in {:.1} s, as long with each of {} methods; {} datagrams came to the relay.",
         summary.minutes,
         summary.seconds,
+        Method::ALL.len(),
         grouped(server.accepted + server.refused())
     );
     println!(

@@ -3,15 +3,13 @@
 
 use std::net::SocketAddr;
 
+use relay::Method;
+
 use crate::book::{Book, Entry};
 use crate::datagram::Datagram;
-use crate::half::Half;
 
-/// Lengths of a datagram that are looked at.
-const LENGTHS: std::ops::RangeInclusive<usize> = 32..=65_507;
-
-/// Separate header and tag, which are no plaintext.
-pub const OUTSIDE: usize = 32;
+/// The longest datagram that is looked at.
+const LONGEST: usize = 65_507;
 
 /// How far a timestamp may be from the clock.
 pub const TIME: u64 = 30;
@@ -31,8 +29,8 @@ pub struct Call<'a> {
     pub datagram: &'a Datagram,
     pub clock: u64,
     pub peer: SocketAddr,
-    /// Whose key the receiver has.
-    pub half: Half,
+    /// The receiver's.
+    pub method: Method,
     /// The receiver's own session ID, if it is a client.
     pub client_session: Option<u64>,
     /// The length of the output buffer.
@@ -57,6 +55,15 @@ impl Verdict {
     }
 }
 
+/// How many bytes of a datagram are no plaintext: a separate header of 16 bytes, or a
+/// nonce of 24, and a tag of 16.
+pub fn outside(method: Method) -> usize {
+    match method {
+        Method::Aes128Gcm | Method::Aes256Gcm => 16 + 16,
+        Method::ChaCha20Poly1305 | Method::ChaCha12Poly1305 | Method::ChaCha8Poly1305 => 24 + 16,
+    }
+}
+
 /// Applies the rules, in their order, and enters what is accepted in the book.
 /// Nothing malformed is ever sealed here, so refusal 5 has no part in it.
 pub fn judge(book: &mut Book, call: &Call) -> Verdict {
@@ -74,13 +81,14 @@ pub fn judge(book: &mut Book, call: &Call) -> Verdict {
 fn refusal_before_the_book(call: &Call) -> Option<u64> {
     let origin = &call.datagram.origin;
     let length = call.datagram.bytes.len();
-    if !LENGTHS.contains(&length) {
+    let outside = outside(call.method);
+    if !(outside..=LONGEST).contains(&length) {
         return Some(LENGTH);
     }
-    if call.room < length - OUTSIDE {
+    if call.room < length - outside {
         return Some(ROOM);
     }
-    if origin.is_damaged || origin.half != call.half {
+    if origin.is_damaged || origin.method != call.method {
         return Some(NOT_AUTHENTIC);
     }
     if origin.client_session.is_some() != call.client_session.is_some() {
@@ -109,7 +117,7 @@ mod tests {
             bytes: vec![0; 100],
             origin: Origin {
                 client: 0,
-                half: Half::First,
+                method: Method::Aes128Gcm,
                 session_id: 7,
                 client_session: None,
                 packet_id: 0,
@@ -130,7 +138,7 @@ mod tests {
             datagram,
             clock: 1_000,
             peer: SocketAddr::from(([192, 0, 2, 1], 1)),
-            half: Half::First,
+            method: Method::Aes128Gcm,
             client_session: None,
             room: 100,
         }
@@ -189,12 +197,28 @@ mod tests {
         faulty.origin.timestamp = 0;
         assert_eq!(verdict(&for_client(&faulty)), Verdict::Refused(WRONG_TIME));
         assert_eq!(verdict(&call(&faulty)), Verdict::Refused(TYPE));
-        faulty.origin.half = Half::Second;
+        faulty.origin.method = Method::ChaCha8Poly1305;
         assert_eq!(verdict(&call(&faulty)), Verdict::Refused(NOT_AUTHENTIC));
         assert_eq!(verdict(&short(&faulty)), Verdict::Refused(ROOM));
         for length in [0, 31, 65_508] {
             faulty.bytes = vec![0; length];
             assert_eq!(verdict(&short(&faulty)), Verdict::Refused(LENGTH));
+        }
+    }
+
+    #[test]
+    fn a_nonce_is_longer_than_a_separate_header() {
+        let mut datagram = datagram();
+        for (method, shortest) in [(Method::Aes256Gcm, 32), (Method::ChaCha12Poly1305, 40)] {
+            datagram.origin.method = method;
+            for (length, refused) in [(shortest - 1, Some(LENGTH)), (shortest, None)] {
+                datagram.bytes = vec![0; length];
+                let call = Call {
+                    method,
+                    ..call(&datagram)
+                };
+                assert_eq!(verdict(&call).number(), refused);
+            }
         }
     }
 

@@ -3,9 +3,10 @@
 use std::rc::Rc;
 use std::time::Instant;
 
+use relay::Method;
+
 use crate::datagram::Arrival;
 use crate::disagreement::{disagree, Disagreement};
-use crate::half::Half;
 use crate::meter::Meter;
 use crate::network::{Network, CLIENTS};
 use crate::options::Options;
@@ -71,14 +72,14 @@ pub struct State {
 
 impl Soak {
     pub fn new(options: Options) -> Self {
-        let (half, seed) = (Half::First, options.seed);
+        let (method, seed) = (Method::ALL[0], options.seed);
         let payloads = Rc::new(Payloads::new(seed));
         Self {
             options,
             second: 0,
-            network: Network::new(seed, Rc::clone(&payloads)),
-            server: Receiver::new(half, seed, Rc::clone(&payloads)),
-            replies: Replies::new(half, seed, Rc::clone(&payloads)),
+            network: Network::new(method, seed, Rc::clone(&payloads)),
+            server: Receiver::new(method, seed, Rc::clone(&payloads)),
+            replies: Replies::new(method, seed, Rc::clone(&payloads)),
             random: Random::new(seed.rotate_left(32)),
             payloads,
             tallies: vec![Tally::default(); CLIENTS],
@@ -91,13 +92,14 @@ impl Soak {
     /// Runs to the end, and tells after every minute how far it is.
     pub fn run(mut self, mut tell: impl FnMut(&State)) -> Result<Summary, Disagreement> {
         let in_all = 60 * self.options.minutes;
+        let part = in_all / Method::ALL.len() as u64;
         while self.second < in_all {
-            if self.second == in_all / 2 {
-                self.change_key();
+            if self.second > 0 && self.second % part == 0 {
+                self.change_key(Method::ALL[(self.second / part) as usize]);
             }
             self.run_second()?;
             self.second += 1;
-            if self.second % LOOK == 0 || self.second == in_all / 2 {
+            if self.second % LOOK == 0 || self.second % part == 0 {
                 let alive = self.look()?;
                 tell(&State {
                     second: self.second,
@@ -157,14 +159,14 @@ impl Soak {
             .map_err(|fault| Disagreement(format!("a reply to it: {fault}")))
     }
 
-    /// The second half has its own key, table and sessions.
-    fn change_key(&mut self) {
-        let (half, seed) = (Half::Second, self.options.seed);
+    /// Each method has its own key, table and sessions.
+    fn change_key(&mut self, method: Method) {
+        let seed = self.options.seed;
         self.opened += self.server.meter;
         self.opened += self.replies.meter();
-        self.network.change_key(half, self.clock());
-        self.server = Receiver::new(half, seed, Rc::clone(&self.payloads));
-        self.replies.change_key(half);
+        self.network.change_key(method, self.clock());
+        self.server = Receiver::new(method, seed, Rc::clone(&self.payloads));
+        self.replies.change_key(method);
     }
 
     /// Compares all sessions, and gives how many the server has.

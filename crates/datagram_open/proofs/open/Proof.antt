@@ -3,6 +3,8 @@ use mathlib.Core.Bool.{true}
 use native.Mathlib.Omega.{arith}
 use borrow.Author.Needs.{needs}
 use Rattle.session_table.specs.Table.{lawful}
+use Rattle.protocol.specs.Method.{cipherOf}
+use Rattle.datagram_parts.specs.Parts.{overhead}
 use Rattle.datagram_open.specs.Deciding.{answerOf}
 use Rattle.datagram_read.proofs.ReadLaws.{Opens, answer-tells, opens-long, opens-room}
 use Rattle.session_table.proofs.TableLaws.{table-length}
@@ -20,15 +22,24 @@ opens : (c : tie.After-read) → let a = c .before .before .before .before .befo
 opens c =
     answer-tells _ _ _ _ _ _ _ (sym (c .before .before .before .before .read-datagram .ensures .0) ∙ c .read .given .1)
 
-sub-take-to-session : tie.Need-sub-take-to-session
-sub-take-to-session c = opens-long _ _ _ _ _ _ _ (opens (c .before))
+-- the overhead of the method's cipher
+over : (c : tie.After-overhead)
+    → c .overhead .result
+    ≡ overhead (cipherOf (c .before .before .before .before .before .before .before .before .before .before .before .before .before .before .before .before .args .method))
+over c = c .overhead .ensures ∙ ap overhead (c .before .cipher-of .ensures)
+
+sub-due : tie.Need-sub-due
+sub-due c = omega (arith, over c, opens-long _ _ _ _ _ _ _ (opens (c .before .before .before)))
 
 take-to-session-requires : tie.Need-take-to-session-requires
 take-to-session-requires c κs =
-    let g = c .before .before .before in
+    let f = c .before .before in
+    let g = f .before .before .before in
     let r = g .before .before .before .before in
-    let a = r .before .before .before .before .before .before .before .before .before .args in
-    (table-length (a .table .now) (is-lawful (r .before .before)), omega (arith, opens-room _ _ _ _ _ _ _ (opens g), r .read-datagram .kept .1 .1 .1 .1 .1 .0))
+    let a = r .before .before .before .before .before .before .before .before .before .args in (
+      table-length (a .table .now) (is-lawful (r .before .before)),
+      omega (arith, over f, opens-room _ _ _ _ _ _ _ (opens g), r .read-datagram .kept .1 .1 .1 .1 .1 .0),
+    )
 
 returns : tie.Need-returns
 returns c =
@@ -39,13 +50,14 @@ returns c =
 returns-2 : tie.Need-returns-2
 returns-2 c =
     let e = c .before .before .before .before in
-    let g = e .before .before .before .before in
+    let f = e .before .before .before in
+    let g = f .before .before .before in
     let r = g .before .before .before .before in
     let a = r .before .before .before .before .before .before .before .before .before .args in
     let q = e .take-to-session .ensures in
     let m =
     entered-call (a .method) (a .key .now) (a .side) (a .clock) (a .peer) (a .s .now) (a .table .now) (a .out .now) (is-lawful (r .before .before)) _
-    (r .read-datagram .ensures .1) (g .read .given .0 .0) (sym (r .read-datagram .ensures .0) ∙ g .read .given .1) _ _ (q .1 .1) (q .1 .0) in
+    (r .read-datagram .ensures .1) (g .read .given .0 .0) (sym (r .read-datagram .ensures .0) ∙ g .read .given .1) _ (over f) _ _ (q .1 .1) (q .1 .0) in
     (ap answerOf (q .0) ∙ m .0, m .1)
 
 returns-3 : tie.Need-returns-3
@@ -62,7 +74,9 @@ open-spec =
     (λ c κs. search needs)
     (λ c. search needs)
     (λ c. search needs)
-    sub-take-to-session
+    (λ c κs. search needs)
+    (λ c κs. search needs)
+    sub-due
     take-to-session-requires
     (λ c. search needs)
     (λ c. search needs)

@@ -17,8 +17,8 @@ facts c =
 add-if2 : tie.Need-add-if2
 add-if2 c = record { fits = omega (arith, facts c .most) }
 
-add-t15 : tie.Need-add-t15
-add-t15 c = add-if2 (c .before)
+add-t16 : tie.Need-add-t16
+add-t16 c = add-if2 (c .before)
 
 returns : tie.Need-returns
 returns c =
@@ -37,24 +37,26 @@ derive-requires c κs =
     (omega (arith, d .salt, d .most), omega (arith, d .most, slice-aggregate-derive c))
 
 add-opened-as : tie.Need-add-opened-as
-add-opened-as c = add-if2 (c .before .before .before)
+add-opened-as c = add-if2 (c .before .before .before .before)
 
 read-front-requires : tie.Need-read-front-requires
 read-front-requires c κs =
-    let e = c .before .before .before in
+    let k = c .before in
+    let e = k .before .before .before in
     let d = facts (e .before) in
-    (d .aes, (omega (arith, e .if2 .left), d .words))
+    (d .good _ (k .cipher-of .ensures), (omega (arith, e .if2 .left), d .words))
 
 returns-2 : tie.Need-returns-2
 returns-2 c =
     let h = c .before .before .before in
-    let v = h .before .before in
+    let k = h .before .before in
+    let v = k .before in
     let e = v .before .before in
     let n = e .before in
     let t = n .before in
     let a = t .before .before .before .before .before .before .args in
     request-done (a .method) (a .key .now) (a .clock) (a .s .now) (a .pool .now) _ (t .before .settings-fit .ensures) (t .if1 .taken) _
-    (n .salt-length .ensures) (e .if2 .left) _ (v .derive .ensures) _ _ (h .read-front .ensures .0) (h .read-front .ensures .1) _ (c .opened-as .ensures)
+    (n .salt-length .ensures) (e .if2 .left) _ (v .derive .ensures) _ (k .cipher-of .ensures) _ _ (h .read-front .ensures .0) (h .read-front .ensures .1) _ (c .opened-as .ensures)
 
 returns-3 : tie.Need-returns-3
 returns-3 c =
@@ -69,11 +71,12 @@ open-request-spec =
     (λ c κs. search needs)
     (λ c κs. search needs)
     add-if2
-    add-t15
+    add-t16
     (λ c. search needs)
     returns
     slice-aggregate-derive
     derive-requires
+    (λ c κs. search needs)
     add-opened-as
     read-front-requires
     (λ c κs. search needs)

@@ -1,15 +1,16 @@
 use native.Mathlib.Omega.{arith}
 use borrow.Author.Needs.{needs}
-use Rattle.aes.proofs.KeyedLaws.{key-most}
+use Rattle.aead.proofs.AeadLaws.{key-for-most}
 use Rattle.stream_open_response.proofs.ResponseLaws.{bound-refused, bound-empty, bound-ours, bound-others}
 use Rattle.stream_open_response.proofs.open_bound.Statement.{statement}
 use Rattle.stream_open_response.proofs.open_bound.Tie as tie
 
 open-fixed-requires : tie.Need-open-fixed-requires
 open-fixed-requires c κs =
-    let q = c .before .before .before .before .pre in
+    let start = c .before .before .before .before in
+    let q = start .pre in
     let p = q .1 .1 .0 in
-    (q .0, (omega (arith, p), (omega (arith, p, key-most _ (q .0)), omega (arith, p, q .1 .1 .1))))
+    (q .0, (omega (arith, p), (omega (arith, p, key-for-most (start .args .cipher) (start .args .n) (q .0)), omega (arith, p, q .1 .1 .1))))
 
 returns : tie.Need-returns
 returns c =

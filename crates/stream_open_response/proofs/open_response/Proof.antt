@@ -13,14 +13,14 @@ returns c =
     response-salt _ _ _ _ _ _ (k .before .key-fits .ensures) (k .if1 .taken) _ (n .salt-length .ensures) (c .if2 .taken)
 
 -- where the key fits its method, its salt has 16 or 32 bytes
-has-salt : (c : tie.After-salt-length) → Salted (c .before .before .before .before .before .before .args .key .now) (c .salt-length .result)
+has-salt : (c : tie.After-salt-length) → let a = c .before .before .before .before .before .before .args in Salted (a .method) (a .key .now) (c .salt-length .result)
 has-salt c = let k = c .before in salted _ _ _ _ (k .before .key-fits .ensures) (k .if1 .taken) (c .salt-length .ensures)
 
 add-if3-2 : tie.Need-add-if3-2
 add-if3-2 c = record { fits = omega (arith, has-salt (c .before) .most) }
 
-add-t16 : tie.Need-add-t16
-add-t16 c = record { fits = omega (arith, has-salt (c .before .before) .most) }
+add-t17 : tie.Need-add-t17
+add-t17 c = record { fits = omega (arith, has-salt (c .before .before) .most) }
 
 returns-2 : tie.Need-returns-2
 returns-2 c =
@@ -42,19 +42,20 @@ derive-requires c κs =
 
 open-response-at-requires : tie.Need-open-response-at-requires
 open-response-at-requires c κs =
-    let f = c .before .before in
+    let f = c .before .before .before in
     let e = f .before in
-    (has-salt (e .before) .lawful, (e .if2 .left, f .if3 .left))
+    (has-salt (e .before) .lawful _ (c .cipher-of .ensures), (e .if2 .left, f .if3 .left))
 
 returns-3 : tie.Need-returns-3
 returns-3 c =
-    let d = c .before in
+    let k′ = c .before in
+    let d = k′ .before in
     let f = d .before .before in
     let e = f .before in
     let n = e .before in
     let k = n .before in
-    response-done _ _ _ _ _ _ (k .before .key-fits .ensures) (k .if1 .taken) _ (n .salt-length .ensures) (e .if2 .left) (f .if3 .left) _ _
-    (d .derive .ensures) (c .open-response-at .ensures)
+    response-done _ _ _ _ _ _ (k .before .key-fits .ensures) (k .if1 .taken) _ (n .salt-length .ensures) (e .if2 .left) (f .if3 .left) _ _ _
+    (d .derive .ensures) (k′ .cipher-of .ensures) (c .open-response-at .ensures)
 
 returns-4 : tie.Need-returns-4
 returns-4 c = response-settings _ _ _ _ _ _ (c .before .key-fits .ensures) (c .if1 .left)
@@ -69,10 +70,11 @@ open-response-spec =
     (λ c. search needs)
     add-if3-2
     (λ c. search needs)
-    add-t16
+    add-t17
     returns-2
     slice-aggregate-derive
     derive-requires
+    (λ c κs. search needs)
     open-response-at-requires
     returns-3
     returns-4)

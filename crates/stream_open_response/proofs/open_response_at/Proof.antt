@@ -2,13 +2,15 @@ use mathlib.Core.Path.{sym}
 use native.Mathlib.Omega.{arith}
 use borrow.Author.Needs.{needs}
 use lib.Seq.{length-take-le}
-use Rattle.aes.proofs.KeyedLaws.{key-most}
+use Rattle.aead.proofs.AeadLaws.{key-for-most}
 use Rattle.stream_open_response.proofs.ResponseLaws.{length-fixed, response-at}
 use Rattle.stream_open_response.proofs.open_response_at.Statement.{statement}
 use Rattle.stream_open_response.proofs.open_response_at.Tie as tie
 
 array-borrow-prefix-plain : tie.Need-array-borrow-prefix-plain
-array-borrow-prefix-plain c = omega (arith, key-most _ (c .before .before .before .pre .0))
+array-borrow-prefix-plain c =
+    let start = c .before .before .before in
+    omega (arith, key-for-most (start .args .cipher) (start .args .n) (start .pre .0))
 
 slice-aggregate-open-bound : tie.Need-slice-aggregate-open-bound
 slice-aggregate-open-bound c = sym (length-take-le _ _ (array-borrow-prefix-plain (c .before)))

@@ -4,7 +4,7 @@ use Prim.Native.Nat.{_+_}
 use native.Mathlib.Omega.{arith}
 use lib.Seq.{length-take-le}
 use borrow.Author.Needs.{needs}
-use Rattle.stream_pieces.specs.Pieces.{keyOf}
+use Rattle.stream_pieces.specs.Pieces.{keyOf, keyed}
 use Rattle.stream_open_variable.proofs.VariableLaws.{header-more, header-room, header-forged, header-done}
 use Rattle.stream_open_variable.proofs.open_header.Statement.{statement}
 use Rattle.stream_open_variable.proofs.open_header.Tie as tie
@@ -12,12 +12,12 @@ use Rattle.stream_open_variable.proofs.open_header.Tie as tie
 returns : tie.Need-returns
 returns c =
     let a = c .before .before .before .args in
-    header-more (keyOf (a .w) (a .k)) (a .n) (a .s .now) (a .out .now) (c .if1 .taken)
+    header-more (keyed (a .cipher) (keyOf (a .w) (a .k))) (a .n) (a .s .now) (a .out .now) (c .if1 .taken)
 
 returns-2 : tie.Need-returns-2
 returns-2 c =
     let a = c .before .before .before .before .args in
-    header-room (keyOf (a .w) (a .k)) (a .n) (a .s .now) (a .out .now) (c .before .if1 .left) (c .if2 .taken)
+    header-room (keyed (a .cipher) (keyOf (a .w) (a .k))) (a .n) (a .s .now) (a .out .now) (c .before .if1 .left) (c .if2 .taken)
 
 slice-aggregate-open-piece : tie.Need-slice-aggregate-open-piece
 slice-aggregate-open-piece c = sym (length-take-le _ _ (c .before .before .if1 .left))
@@ -43,7 +43,7 @@ returns-3 c =
     let o = t .before .before .before in
     let e = o .before .before .before in
     let a = e .before .before .before .before .args in
-    header-done (keyOf (a .w) (a .k)) (a .n) (a .s .now) (a .out .now) (e .before .if1 .left) (e .if2 .left) _ _ (o .open-piece .ensures .0)
+    header-done (keyed (a .cipher) (keyOf (a .w) (a .k))) (a .n) (a .s .now) (a .out .now) (e .before .if1 .left) (e .if2 .left) _ _ (o .open-piece .ensures .0)
     (o .open-piece .ensures .1) (t .if3 .taken) _ _ (r .read-variable .ensures) (s .clear-refused .ensures)
 
 returns-4 : tie.Need-returns-4
@@ -51,7 +51,7 @@ returns-4 c =
     let o = c .before .before .before in
     let e = o .before .before .before in
     let a = e .before .before .before .before .args in
-    header-forged (keyOf (a .w) (a .k)) (a .n) (a .s .now) (a .out .now) (e .before .if1 .left) (e .if2 .left) _ _ (o .open-piece .ensures .0)
+    header-forged (keyed (a .cipher) (keyOf (a .w) (a .k))) (a .n) (a .s .now) (a .out .now) (e .before .if1 .left) (e .if2 .left) _ _ (o .open-piece .ensures .0)
     (o .open-piece .ensures .1) (c .if3 .left)
 
 pub open-header-spec : {M : Type 1} → statement M

@@ -5,7 +5,7 @@ use borrow.Author.Needs.{needs}
 use lib.ListN.{length}
 use Rattle.stream_pieces.specs.declared.Framing.{Framing}
 use Rattle.stream_pieces.specs.Framing.{HasCipher}
-use Rattle.stream_pieces.specs.Pieces.{keyOf, maxChunk}
+use Rattle.stream_pieces.specs.Pieces.{keyOf, maxChunk, keyed}
 use Rattle.stream_pieces.proofs.FramingLaws.{framing-cipher}
 use Rattle.stream_seal.specs.Sealing.{chunk, framedAnswer, sealOut}
 use Rattle.stream_seal.proofs.seal_chunk.Statement.{statement}
@@ -24,7 +24,7 @@ returns c =
     let e = f .framing-of .ensures in (
       o .seal-framed .ensures .0 ∙ ap (λ (g : Framing). framedAnswer g (a .stream) (length (a .payload .now)) (length (a .out .now))) e,
       o .seal-framed .ensures .1
-          ∙ ap (λ (g : Framing). sealOut (o .seal-framed .result) (chunk (keyOf (a .stream .subkey) (g .key)) (a .stream .counter) (a .payload .now)) (a .out .now)) e,
+          ∙ ap (λ (g : Framing). sealOut (o .seal-framed .result) (chunk (keyed (g .cipher) (keyOf (a .stream .subkey) (g .key))) (a .stream .counter) (a .payload .now)) (a .out .now)) e,
     )
 
 pub seal-chunk-spec : {M : Type 1} → statement M

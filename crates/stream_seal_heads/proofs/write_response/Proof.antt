@@ -5,7 +5,7 @@ use borrow.Author.Needs.{needs}
 use lib.ListN.{length, take, drop, length-drop}
 use lib.Seq.{length-take-le}
 use Rattle.octets.proofs.BufferLaws.{part-put}
-use Rattle.aes.proofs.KeyedLaws.{key-most}
+use Rattle.aead.proofs.AeadLaws.{key-for-most}
 use Rattle.stream_seal_heads.proofs.HeadWriteLaws.{response-law}
 use Rattle.stream_seal_heads.proofs.write_response.Statement.{statement}
 use Rattle.stream_seal_heads.proofs.write_response.Tie as tie
@@ -37,8 +37,9 @@ body-part c =
 seal-response-headers-requires : tie.Need-seal-response-headers-requires
 seal-response-headers-requires c κs =
     let p = c .before .before .before in
-    let q = p .before .before .before .before .before .before .pre in
-    (q .0, (omega (arith, key-most _ (q .0), q .1 .0), (q .1 .1 .0, omega (arith, body-part p, q .1 .1 .1 .0))))
+    let start = p .before .before .before .before .before .before in
+    let q = start .pre in
+    (q .0, (omega (arith, key-for-most (start .args .cipher) (length (start .args .salt .now)) (q .0), q .1 .0), (q .1 .1 .0, omega (arith, body-part p, q .1 .1 .1 .0))))
 
 returns : tie.Need-returns
 returns c =

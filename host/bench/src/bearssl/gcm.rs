@@ -3,7 +3,7 @@
 use std::os::raw::{c_int, c_void};
 
 use super::{Functions, GhashFunction};
-use crate::ciphers::{Gcm, TAG_LENGTH};
+use crate::ciphers::{Aead, TAG_LENGTH};
 use crate::room::Room;
 
 extern "C" {
@@ -38,7 +38,7 @@ pub struct AesGcm<const INSTRUCTIONS: bool> {
     room: Room,
 }
 
-impl<const INSTRUCTIONS: bool> Gcm for AesGcm<INSTRUCTIONS> {
+impl<const INSTRUCTIONS: bool> Aead for AesGcm<INSTRUCTIONS> {
     fn new(key_length: usize) -> Self {
         let functions = Functions::for_key(INSTRUCTIONS, key_length);
         let keys = Room::new(functions.ctr.context_size);
@@ -115,7 +115,7 @@ mod tests {
     use std::slice;
 
     use super::{AesGcm, CONTEXT, ROOM};
-    use crate::ciphers::Gcm;
+    use crate::ciphers::Aead;
 
     /// Else another BearSSL than the header's is linked, and may need more room.
     #[test]

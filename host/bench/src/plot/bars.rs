@@ -42,9 +42,11 @@ pub fn draw(svg: &mut Svg, frame: Frame, lines: &[&Line]) {
 /// One line's bars under its name. Answers where the next group begins.
 fn group(svg: &mut Svg, scale: Scale, left: f64, top: f64, line: &Line) -> f64 {
     let mut name = format!("{}, {} bytes", line.kind.name(), grouped(line.size));
-    if line.kind == Kind::Ghash {
-        name += " (OpenSSL, nettle: GMAC)";
-    }
+    name += match line.kind {
+        Kind::Ghash => " (OpenSSL, nettle: GMAC)",
+        Kind::Poly1305 => " (nettle: with AES)",
+        _ => "",
+    };
     svg.text((left + 6.0, top + 14.0), &name, Font::new(12, DARK));
     let mut top = top + NAME;
     let columns = Column::ALL.into_iter();

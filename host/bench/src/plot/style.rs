@@ -49,6 +49,7 @@ pub fn of(column: Column) -> Style {
         Column::OpenSslWith => (OPENSSL_WITH, "#333333", "2 4", Shape::Triangle),
         Column::NettleWith => (NETTLE_WITH, "#cc79a7", "5 3", Shape::Diamond),
         Column::BearSslWith => (BEARSSL_WITH, "#8f7c00", "10 3 3 3 3 3", Shape::Post),
+        Column::SodiumWith => (SODIUM_WITH, "#7b3294", "7 2 2 2", Shape::Beam),
         Column::Plain => ("plain Rust", "#56b4e9", "12 3 2 3", Shape::Plus),
     };
     Style {
@@ -65,6 +66,7 @@ const OPENSSL_WITH: &str = "OpenSSL with processor instructions";
 const NETTLE_WITH: &str = "nettle with processor instructions";
 const BEARSSL_WITHOUT: &str = "BearSSL without processor instructions";
 const BEARSSL_WITH: &str = "BearSSL with processor instructions";
+const SODIUM_WITH: &str = "libsodium, which chooses processor instructions";
 
 pub fn verb(call: Call) -> &'static str {
     match call {

@@ -24,8 +24,9 @@ pub enum Shape {
     Plus,
     /// A plus turned by half a right angle.
     Cross,
-    /// A bar on its short side.
+    /// A bar on its short side, and on its long one.
     Post,
+    Beam,
 }
 
 #[derive(Clone, Copy)]
@@ -114,10 +115,8 @@ impl Svg {
             Shape::Wedge => Some([(0.0, r), (r, -r), (-r, -r)].to_vec()),
             Shape::Plus => Some(plus(r, r / 2.5)),
             Shape::Cross => Some(turned(&plus(1.2 * r, r / 2.5))),
-            Shape::Post => {
-                let (w, h) = (r / 2.0, 1.3 * r);
-                Some([(-w, -h), (w, -h), (w, h), (-w, h)].to_vec())
-            }
+            Shape::Post => Some(bar(r / 2.0, 1.3 * r)),
+            Shape::Beam => Some(bar(1.3 * r, r / 2.0)),
         };
         let paint = format!(r##"fill="{color}" stroke="#ffffff" stroke-width="1""##);
         match corners(5.0) {
@@ -176,6 +175,11 @@ impl Stroke {
         }
         text
     }
+}
+
+/// The corners of a rectangle, half as wide and half as high as it.
+fn bar(w: f64, h: f64) -> Vec<Point> {
+    vec![(-w, -h), (w, -h), (w, h), (-w, h)]
 }
 
 /// Two bars across each other, so long and so thick to each side.

@@ -3,12 +3,13 @@
 use std::cell::RefCell;
 use std::hint::black_box;
 
-use super::{forged, text, Contestant, Library, Row, KEY};
-use crate::around::{Datagrams, Separate, FIXED_LENGTH, SEPARATE_LENGTH};
-use crate::ciphers::{Ciphers, TAG_LENGTH};
-use crate::kinds::{Call, Kind, Method, METHODS};
+use super::{forged, ours_and, text, Contestant, Row, KEY};
+use crate::around::{Datagrams, Separate, FIXED_LENGTH, LONG_NONCE, SEPARATE_LENGTH};
+use crate::ciphers::TAG_LENGTH;
+use crate::kinds::{Call, Cipher, Kind, Method, AES_METHODS, CHACHA20, METHODS};
 use crate::ours;
 use crate::plain::{Peer, Refusal, Sessions};
+use crate::suites::Suite;
 
 /// Whole datagrams from a short one over those that fit an Ethernet and a jumbo
 /// frame to the longest that UDP carries.
@@ -30,13 +31,23 @@ const RETENTION: u64 = 60;
 pub fn rows() -> Vec<Row> {
     let mut rows = Vec::new();
     for method in METHODS {
-        rows.extend(SIZES.map(|size| seal(method, size)));
-        rows.extend(SIZES.map(|size| open(method, size)));
+        rows.extend(sizes(method).map(|size| seal(method, size)));
+        rows.extend(sizes(method).map(|size| open(method, size)));
     }
-    for method in METHODS {
-        rows.extend(SIZES.map(|size| refuse(method, size)));
+    for method in AES_METHODS.into_iter().chain([CHACHA20]) {
+        rows.extend(sizes(method).map(|size| refuse(method, size)));
     }
     rows
+}
+
+/// With ChaCha a datagram of 64 bytes has no room for a payload: the shortest is as much
+/// longer as the nonce is.
+fn sizes(method: Method) -> [usize; 5] {
+    let mut sizes = SIZES;
+    if method.cipher != Cipher::AesGcm {
+        sizes[0] += LONG_NONCE.len();
+    }
+    sizes
 }
 
 /// The input is the payload.
@@ -45,22 +56,37 @@ fn seal(method: Method, size: usize) -> Row {
     Row {
         kind: Kind::Datagram(method, Call::Seal),
         size,
-        input: payload(size),
+        input: payload(method, size),
         buffer: size,
         special: None,
         contestants: contestants!(
+            method.cipher,
             move |payload, out| {
-                let session = FIRST.session;
-                ours::datagram_seal(method.number, key, session, CLOCK, &ADDRESS, payload, out);
+                seal_by_ours(method, key, payload, out);
             },
             seal_with(key)
         ),
     }
 }
 
-fn seal_with<C: Ciphers>(key: &'static [u8]) -> Contestant {
-    let datagrams = Datagrams::<C>::new(key.len());
-    Contestant::new(C::LIBRARY, move |payload, out| {
+/// Its length. The methods with AES do not look at the nonce.
+fn seal_by_ours(method: Method, key: &[u8], payload: &[u8], out: &mut [u8]) -> usize {
+    let (number, session) = (method.number, FIRST.session);
+    ours::datagram_seal(
+        number,
+        key,
+        &LONG_NONCE,
+        session,
+        CLOCK,
+        &ADDRESS,
+        payload,
+        out,
+    )
+}
+
+fn seal_with<S: Suite>(key: &'static [u8]) -> Contestant {
+    let datagrams = Datagrams::<S::Body>::new(key.len());
+    Contestant::new(S::LIBRARY, move |payload, out| {
         let length = datagrams.seal(key, FIRST, CLOCK, &ADDRESS, payload, out);
         assert_eq!(length, Ok(out.len()), "datagram not sealed");
     })
@@ -77,6 +103,7 @@ fn open(method: Method, size: usize) -> Row {
         buffer: size,
         special: None,
         contestants: contestants!(
+            method.cipher,
             move |datagram, out| {
                 let table = &mut table.borrow_mut();
                 // The first record's word in use.
@@ -89,10 +116,10 @@ fn open(method: Method, size: usize) -> Row {
     }
 }
 
-fn open_with<C: Ciphers>(key: &'static [u8]) -> Contestant {
-    let datagrams = Datagrams::<C>::new(key.len());
+fn open_with<S: Suite>(key: &'static [u8]) -> Contestant {
+    let datagrams = Datagrams::<S::Body>::new(key.len());
     let sessions = RefCell::new(new_sessions());
-    Contestant::new(C::LIBRARY, move |datagram, out| {
+    Contestant::new(S::LIBRARY, move |datagram, out| {
         let sessions = &mut sessions.borrow_mut();
         sessions.forget_first();
         let peer = Peer::default();
@@ -113,6 +140,7 @@ fn refuse(method: Method, size: usize) -> Row {
         buffer: size,
         special: None,
         contestants: contestants!(
+            method.cipher,
             move |datagram, out| {
                 let table = &mut table.borrow_mut();
                 let refused = ours::datagram_open(method.number, key, CLOCK, datagram, table, out);
@@ -124,12 +152,12 @@ fn refuse(method: Method, size: usize) -> Row {
     }
 }
 
-fn refuse_with<C: Ciphers>(key: &'static [u8], size: usize) -> Contestant {
-    let datagrams = Datagrams::<C>::new(key.len());
+fn refuse_with<S: Suite>(key: &'static [u8], size: usize) -> Contestant {
+    let datagrams = Datagrams::<S::Body>::new(key.len());
     let sessions = RefCell::new(new_sessions());
     // The libraries write the text before the tag is looked at.
     let scratch = RefCell::new(vec![0; size]);
-    Contestant::new(C::LIBRARY, move |datagram, _| {
+    Contestant::new(S::LIBRARY, move |datagram, _| {
         let (sessions, out) = (&mut sessions.borrow_mut(), &mut scratch.borrow_mut());
         let peer = Peer::default();
         let header = datagrams.open(key, CLOCK, peer, datagram, sessions, out);
@@ -143,23 +171,18 @@ fn refuse_with<C: Ciphers>(key: &'static [u8], size: usize) -> Contestant {
 }
 
 /// What a datagram of a size has room for.
-fn payload(size: usize) -> Vec<u8> {
-    text(size - SEPARATE_LENGTH - FIXED_LENGTH - ADDRESS.len() - TAG_LENGTH)
+fn payload(method: Method, size: usize) -> Vec<u8> {
+    let nonce = match method.cipher {
+        Cipher::AesGcm => 0,
+        Cipher::ChaCha { .. } => LONG_NONCE.len(),
+    };
+    text(size - nonce - SEPARATE_LENGTH - FIXED_LENGTH - ADDRESS.len() - TAG_LENGTH)
 }
 
 fn sealed(method: Method, size: usize) -> Vec<u8> {
     let key = &KEY[..method.key_length];
-    let (id, payload) = (FIRST.session, payload(size));
     let mut datagram = vec![0; size];
-    let length = ours::datagram_seal(
-        method.number,
-        key,
-        id,
-        CLOCK,
-        &ADDRESS,
-        &payload,
-        &mut datagram,
-    );
+    let length = seal_by_ours(method, key, &payload(method, size), &mut datagram);
     assert_eq!(length, size, "another length than was asked for");
     datagram
 }

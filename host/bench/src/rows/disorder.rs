@@ -2,16 +2,19 @@
 //! Rust around the other libraries does all of the work that ours does.
 
 use super::datagrams::{new_sessions, new_table, ADDRESS, CLOCK, RECORD};
-use super::{Contestant, Library, Row, KEY};
-use crate::around::{Datagrams, Separate, FIXED_LENGTH, SEPARATE_LENGTH};
-use crate::ciphers::{Ciphers, TAG_LENGTH};
-use crate::kinds::{Call, Kind, Method, METHODS};
+use super::{ours_and, Contestant, Row, KEY};
+use crate::around::{AesBody, Body, ChaChaBody, Datagrams, Separate, FIXED_LENGTH};
+use crate::kinds::{Call, Cipher, Kind, Method, METHODS};
 use crate::openssl::OpenSsl;
 use crate::ours;
-use crate::plain::Peer;
+use crate::plain::{Peer, Plain};
+use crate::suites::Suite;
 
 /// The length of each of the datagrams.
-const SIZE: usize = 64;
+const SIZE: usize = 96;
+
+/// Less than any method leaves behind the header.
+const LONGEST_PADDING: u16 = 64;
 
 /// A datagram to be opened: its numbers, the time and padding that it says, and
 /// the clock at which it comes.
@@ -45,15 +48,15 @@ impl Coming {
         }
     }
 
-    fn sealed(self, datagrams: &Datagrams<OpenSsl>, key: &[u8]) -> [u8; SIZE] {
+    fn sealed<B: Body>(self, datagrams: &Datagrams<B>, key: &[u8]) -> [u8; SIZE] {
+        let mut main = [0; FIXED_LENGTH + ADDRESS.len()];
+        main[0] = self.kind;
+        main[1..9].copy_from_slice(&self.time.to_be_bytes());
+        main[9..FIXED_LENGTH].copy_from_slice(&self.padding.to_be_bytes());
+        main[FIXED_LENGTH..].copy_from_slice(&ADDRESS);
+        main[FIXED_LENGTH] = self.address_kind;
         let mut datagram = [0; SIZE];
-        let text = &mut datagram[SEPARATE_LENGTH..];
-        text[0] = self.kind;
-        text[1..9].copy_from_slice(&self.time.to_be_bytes());
-        text[9..FIXED_LENGTH].copy_from_slice(&self.padding.to_be_bytes());
-        text[FIXED_LENGTH..][..ADDRESS.len()].copy_from_slice(&ADDRESS);
-        text[FIXED_LENGTH] = self.address_kind;
-        datagrams.seal_in_place(key, self.separate, &mut datagram);
+        datagrams.seal_main(key, self.separate, &main, &mut datagram);
         datagram
     }
 }
@@ -75,8 +78,7 @@ fn coming() -> Vec<Coming> {
             ..Coming::new(10, address_kind.into())
         });
     }
-    let text_length = (SIZE - SEPARATE_LENGTH - FIXED_LENGTH - TAG_LENGTH) as u16;
-    for padding in [1, text_length, u16::MAX] {
+    for padding in [1, LONGEST_PADDING, u16::MAX] {
         list.push(Coming { padding, ..sound });
     }
     list.extend((100..170).map(|session| Coming::new(session, 0)));
@@ -94,20 +96,23 @@ const COUNTS: usize = 2;
 /// counts of the first record.
 fn row(method: Method) -> Row {
     let key = &KEY[..method.key_length];
-    let datagrams = Datagrams::new(method.key_length);
     let list = coming();
     let clocks = || -> Vec<u64> { list.iter().map(|coming| coming.clock).collect() };
     let our_clocks = clocks();
-    let sealed = list
-        .iter()
-        .flat_map(|coming| coming.sealed(&datagrams, key));
+    let input = match method.cipher {
+        Cipher::AesGcm => sealed::<AesBody<OpenSsl>>(&list, key),
+        Cipher::ChaCha { rounds: 20 } => sealed::<ChaChaBody<OpenSsl>>(&list, key),
+        Cipher::ChaCha { rounds: 12 } => sealed::<ChaChaBody<Plain<12>>>(&list, key),
+        Cipher::ChaCha { .. } => sealed::<ChaChaBody<Plain<8>>>(&list, key),
+    };
     Row {
         kind: Kind::Datagram(method, Call::Open),
         size: SIZE,
-        input: sealed.collect(),
+        input,
         buffer: list.len() + COUNTS,
         special: Some("in disorder"),
         contestants: contestants!(
+            method.cipher,
             move |input, answers| {
                 let mut table = new_table();
                 each(input, &our_clocks, answers, |clock, datagram, out| {
@@ -120,9 +125,16 @@ fn row(method: Method) -> Row {
     }
 }
 
-fn open_with<C: Ciphers>(key: &'static [u8], clocks: Vec<u64>) -> Contestant {
-    let datagrams = Datagrams::<C>::new(key.len());
-    Contestant::new(C::LIBRARY, move |input, answers| {
+/// All of the list, one behind the other.
+fn sealed<B: Body>(list: &[Coming], key: &[u8]) -> Vec<u8> {
+    let datagrams = Datagrams::<B>::new(key.len());
+    let sealed = list.iter().map(|coming| coming.sealed(&datagrams, key));
+    sealed.flatten().collect()
+}
+
+fn open_with<S: Suite>(key: &'static [u8], clocks: Vec<u64>) -> Contestant {
+    let datagrams = Datagrams::<S::Body>::new(key.len());
+    Contestant::new(S::LIBRARY, move |input, answers| {
         let mut sessions = new_sessions();
         each(input, &clocks, answers, |clock, datagram, out| {
             let peer = Peer::default();
@@ -155,7 +167,8 @@ fn each(
 mod tests {
     use std::collections::BTreeSet;
 
-    use super::{rows, Library, COUNTS};
+    use super::{rows, COUNTS};
+    use crate::rows::Library;
 
     #[test]
     fn the_list_meets_every_refusal_of_an_authentic_datagram() {

@@ -1,9 +1,10 @@
-//! AES, GHASH and BLAKE3, each alone.
+//! AES, GHASH, ChaCha, Poly1305 and BLAKE3, each alone.
 
-use super::{text, Contestant, Library, Row, KEY, NONCE, SALT};
+use super::{ours_and, text, Bare, Contestant, Library, Row, KEY, NONCE, SALT};
 use crate::around::SUBKEY_CONTEXT;
 use crate::bearssl::{BearSsl, Ghash};
-use crate::ciphers::{Block, Ciphers, Counter, Gcm, Gmac, TAG_LENGTH};
+use crate::chachas::{ChaChas, Mac, OneTimeKey, Stream};
+use crate::ciphers::{Aead, Block, Ciphers, Counter, Gmac, TAG_LENGTH};
 use crate::kinds::Kind;
 use crate::nettle::Nettle;
 use crate::openssl::{AesBlock, OpenSsl};
@@ -27,6 +28,10 @@ const GMAC_KEY: usize = 16;
 /// The counter of GCM's first block of text.
 const FIRST_COUNTER: u32 = 2;
 
+/// ChaCha's rounds by method, and its first block of a text.
+const ROUNDS: [usize; 3] = [20, 12, 8];
+const FIRST_BLOCK: u32 = 1;
+
 /// The length of a datagram's session ID, which is its subkey's salt.
 const SESSION_ID: usize = 8;
 
@@ -45,6 +50,15 @@ pub fn rows() -> Vec<Row> {
         }
     }
     rows.extend(HASHED.map(ghash));
+    for rounds in ROUNDS {
+        for size in SIZES {
+            rows.push(stream(rounds, size, FIRST_BLOCK));
+            let half = (size / 64 / 2) as u32;
+            let wrapping = stream(rounds, size, half.wrapping_neg());
+            rows.push(wrapping.compared_only("counter wraps"));
+        }
+    }
+    rows.extend(HASHED.map(poly1305));
     // A stream's subkey of the longest method, a session's of the shortest.
     rows.push(subkey(32, SALT.len()));
     rows.push(subkey(16, SESSION_ID));
@@ -59,11 +73,11 @@ fn aes_ctr(key_length: usize, size: usize, counter: u32) -> Row {
         input: Vec::new(),
         buffer: size,
         special: None,
-        contestants: contestants!(
+        contestants: ours_and(
             move |_, data| {
                 ours::aes_ctr(key, &NONCE, counter, data);
             },
-            aes_ctr_with(key, counter)
+            of_aes!(aes_ctr_with, Bare, (key, counter)),
         ),
     }
 }
@@ -145,6 +159,70 @@ fn tag_blocks(key: &[u8]) -> ([u8; 16], [u8; 16]) {
     mask[15] = 1;
     cipher.encrypt(key, &mut mask);
     (hash_subkey, mask)
+}
+
+fn stream(rounds: usize, size: usize, counter: u32) -> Row {
+    Row {
+        kind: Kind::Stream { rounds },
+        size,
+        input: Vec::new(),
+        buffer: size,
+        special: None,
+        contestants: ours_and(
+            move |_, data| {
+                ours::chacha(rounds, &KEY, &NONCE, counter, data);
+            },
+            of_chacha!(rounds, stream_with, Bare, (counter)),
+        ),
+    }
+}
+
+fn stream_with<C: ChaChas>(counter: u32) -> Contestant {
+    let context = C::Stream::new();
+    Contestant::new(C::LIBRARY, move |_, data| {
+        context.apply(&KEY, &NONCE, counter, data);
+    })
+}
+
+/// The last block is that of the lengths, as in the AEAD: BearSSL has no function for
+/// Poly1305 alone, and nettle makes the second half of the one-time key by AES.
+fn poly1305(size: usize) -> Row {
+    let (data, key) = (size - 16, one_time_key().bytes);
+    let mut input = text(size);
+    input[data..].copy_from_slice(&(data as u128).to_le_bytes());
+    Row {
+        kind: Kind::Poly1305,
+        size,
+        input,
+        buffer: TAG_LENGTH,
+        special: None,
+        contestants: ours_and(
+            move |text, out| ours::poly1305(&key, text, out),
+            of_chacha!(20, mac_with, Bare, ()),
+        ),
+    }
+}
+
+fn mac_with<C: ChaChas>() -> Contestant {
+    let (context, key) = (C::Mac::new(), one_time_key());
+    Contestant::new(C::LIBRARY, move |text, out| {
+        let tag = out.first_chunk_mut().expect("out has room for a tag");
+        context.authenticate(&key, text, tag);
+    })
+}
+
+/// The second half is a block under an AES key.
+fn one_time_key() -> OneTimeKey {
+    let (aes_key, block) = (*b"sixteen bytes ..", [7; 16]);
+    let mut half = block;
+    AesBlock::new(aes_key.len()).encrypt(&aes_key, &mut half);
+    let mut bytes = KEY;
+    bytes[16..].copy_from_slice(&half);
+    OneTimeKey {
+        bytes,
+        aes_key,
+        block,
+    }
 }
 
 /// The input is the key and the salt, one after the other.

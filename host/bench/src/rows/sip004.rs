@@ -3,7 +3,7 @@
 use relay::sip004;
 
 use super::datagrams::SIZES;
-use super::{text, Contestant, Library, Row, KEY, SALT};
+use super::{ours_and, text, Bare, Contestant, Row, KEY, SALT};
 use crate::ciphers::{Ciphers, TAG_LENGTH};
 use crate::kinds::{Call, Kind, Method, SIP004_METHODS};
 use crate::sip004::Datagrams;
@@ -27,12 +27,12 @@ fn seal(method: Method, size: usize) -> Row {
         input: payload(method, size),
         buffer: size,
         special: None,
-        contestants: contestants!(
+        contestants: ours_and(
             move |payload, out| {
                 let length = sip004::seal_datagram(&ours, salt, payload, out);
                 assert_eq!(length, Ok(out.len()), "datagram not sealed");
             },
-            seal_with(key, salt)
+            of_aes!(seal_with, Bare, (key, salt)),
         ),
     }
 }
@@ -54,12 +54,12 @@ fn open(method: Method, size: usize) -> Row {
         input: sealed(method, size),
         buffer: size,
         special: None,
-        contestants: contestants!(
+        contestants: ours_and(
             move |datagram, out| {
                 let length = sip004::open_datagram(&ours, datagram, out);
                 assert_eq!(length, Ok(due), "sealed datagram refused");
             },
-            open_with(key, due)
+            of_aes!(open_with, Bare, (key, due)),
         ),
     }
 }

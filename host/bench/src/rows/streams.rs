@@ -1,15 +1,15 @@
 //! Chunks of a stream.
 
-use super::{text, Contestant, Library, Row, KEY};
-use crate::ciphers::{Ciphers, Gcm, TAG_LENGTH};
+use super::{ours_and, text, Contestant, Row, KEY};
+use crate::ciphers::{Aead, TAG_LENGTH};
 use crate::kinds::{Call, Kind, Method, METHODS};
-use crate::openssl::AesGcm;
 use crate::ours;
+use crate::suites::Suite;
 
 /// The payloads: one that fits an Ethernet frame, and the longest.
 const LENGTHS: [u16; 2] = [1_400, 65_535];
 
-/// A chunk's length in GCM.
+/// A chunk's length, sealed.
 const SEALED_LENGTH: usize = 2 + TAG_LENGTH;
 
 pub fn rows() -> Vec<Row> {
@@ -33,6 +33,7 @@ fn seal(method: Method, length: u16) -> Row {
         buffer: SEALED_LENGTH + size + TAG_LENGTH,
         special: None,
         contestants: contestants!(
+            method.cipher,
             move |payload, out| {
                 ours::chunk_seal(method.number, key, payload, out);
             },
@@ -41,9 +42,9 @@ fn seal(method: Method, length: u16) -> Row {
     }
 }
 
-fn seal_with<C: Ciphers>(key: &'static [u8], length: u16) -> Contestant {
-    let context = C::Gcm::new(key.len());
-    Contestant::new(C::LIBRARY, move |payload, out| {
+fn seal_with<S: Suite>(key: &'static [u8], length: u16) -> Contestant {
+    let context = S::Aead::new(key.len());
+    Contestant::new(S::LIBRARY, move |payload, out| {
         let (front, rest) = out.split_at_mut(SEALED_LENGTH);
         context.seal(key, &nonce(0), &length.to_be_bytes(), front);
         context.seal(key, &nonce(1), payload, rest);
@@ -53,17 +54,17 @@ fn seal_with<C: Ciphers>(key: &'static [u8], length: u16) -> Contestant {
 /// The payload of a stream's first chunk is opened.
 fn open(method: Method, length: u16) -> Row {
     let key = &KEY[..method.key_length];
-    let context = AesGcm::new(method.key_length);
     let size = usize::from(length);
-    let mut sealed = vec![0; size + TAG_LENGTH];
-    context.seal(key, &nonce(1), &text(size), &mut sealed);
+    let mut chunk = vec![0; SEALED_LENGTH + size + TAG_LENGTH];
+    ours::chunk_seal(method.number, key, &text(size), &mut chunk);
     Row {
         kind: Kind::Chunk(method, Call::Open),
         size,
-        input: sealed,
+        input: chunk.split_off(SEALED_LENGTH),
         buffer: size,
         special: None,
         contestants: contestants!(
+            method.cipher,
             move |sealed, out| {
                 let refused = ours::chunk_open(method.number, key, length, sealed, out);
                 assert_eq!(refused, 0, "sealed chunk refused");
@@ -73,9 +74,9 @@ fn open(method: Method, length: u16) -> Row {
     }
 }
 
-fn open_with<C: Ciphers>(key: &'static [u8]) -> Contestant {
-    let context = C::Gcm::new(key.len());
-    Contestant::new(C::LIBRARY, move |sealed, out| {
+fn open_with<S: Suite>(key: &'static [u8]) -> Contestant {
+    let context = S::Aead::new(key.len());
+    Contestant::new(S::LIBRARY, move |sealed, out| {
         let opened = context.open(key, &nonce(1), sealed, out);
         assert!(opened, "sealed chunk refused");
     })

@@ -5,7 +5,8 @@ use std::fs;
 use std::path::Path;
 
 use crate::{
-    answer, recording, sip004, Method, Pool, Refusal, SealSession, Table, MAX_CHUNK, MAX_DATAGRAM,
+    answer, recording, sip004, Method, Nonce, Pool, Refusal, SealSession, Table, MAX_CHUNK,
+    MAX_DATAGRAM,
 };
 
 /// The header without its comments.
@@ -97,6 +98,7 @@ fn sizes_are_the_headers() {
         ("SESSION_WORDS", SealSession::WORDS),
         ("STREAM_WORDS", super::STREAM_WORDS),
         ("ANSWER_WORDS", answer::WORDS),
+        ("NONCE_BYTES", Nonce::LENGTH),
         ("MAX_DATAGRAM", MAX_DATAGRAM),
         ("MAX_CHUNK", MAX_CHUNK),
         ("SIP004_MAX_CHUNK", sip004::MAX_CHUNK),
@@ -118,8 +120,11 @@ fn methods_and_refusals_have_the_headers_numbers() {
     let (numbers, header) = (numbers(), header());
     let names: Vec<&str> = header.split("case RELAY_REFUSED_").skip(1).collect();
     assert_eq!(names.len(), 14);
-    assert_eq!(numbers["RELAY_AES_128_GCM"], Method::Aes128Gcm.number());
-    assert_eq!(numbers["RELAY_AES_256_GCM"], Method::Aes256Gcm.number());
+    for method in Method::ALL {
+        let name = method.name().trim_start_matches("2022-blake3-");
+        let name = name.to_uppercase().replace('-', "_");
+        assert_eq!(numbers[&format!("RELAY_{name}")], method.number());
+    }
     for method in sip004::Method::ALL {
         let name = method.name().to_uppercase().replace('-', "_");
         assert_eq!(numbers[&format!("RELAY_SIP004_{name}")], method.number());

@@ -3,14 +3,19 @@
 use std::net::SocketAddr;
 
 use relay::stream::Opening;
-use relay::{Address, Header, Key, Method, Peer, Pool, Refusal, SealSession, Table};
+use relay::{Address, Header, Key, Method, Nonce, Peer, Pool, Refusal, SealSession, Table};
 use relay::{RequestFront, RequestHeader, RequestStream};
+
+use crate::plain;
 
 /// The key's bytes, 16 or 32 of them by method.
 pub const KEY: [u8; 32] = *b"thirty-two bytes to serve as key";
 
 pub const SALT: [u8; 32] = *b"thirty-two bytes to do for salt!";
 pub const OTHER_SALT: [u8; 32] = *b"another salt of thirty-two bytes";
+
+/// One for all datagrams, so that they can be compared.
+pub const NONCE: [u8; 24] = *b"twenty-four for a nonce!";
 
 pub const CLOCK: u64 = 1_000;
 pub const CLIENT_ID: u64 = 0x0102_0304_0506_0708;
@@ -25,6 +30,21 @@ pub fn key_bytes(method: Method) -> &'static [u8] {
 
 pub fn key(method: Method) -> Key {
     Key::new(method, key_bytes(method)).unwrap()
+}
+
+/// The nonce, where the method takes one.
+pub fn nonce(method: Method) -> Option<Nonce> {
+    method.takes_nonce().then(|| Nonce::new(NONCE))
+}
+
+/// How many bytes of a plaintext stand before its main header: both IDs, where there is no
+/// separate header.
+pub fn before_main_header(method: Method) -> usize {
+    if method.takes_nonce() {
+        16
+    } else {
+        0
+    }
 }
 
 pub fn salt(method: Method) -> &'static [u8] {
@@ -65,12 +85,30 @@ pub fn payload(length: usize) -> Vec<u8> {
 /// A client's datagram to the short address, sealed with a packet ID at a clock.
 pub fn sealed(method: Method, id: u64, packet_id: u64, clock: u64) -> Vec<u8> {
     let mut session = SealSession::from_words(&[0, id, 0, packet_id]);
-    let mut out = vec![0; 64];
+    let mut out = vec![0; 128];
     let length = session
-        .seal(&key(method), clock, &short_address(), 0, b"text", &mut out)
+        .seal(
+            &key(method),
+            nonce(method),
+            clock,
+            &short_address(),
+            0,
+            b"text",
+            &mut out,
+        )
         .unwrap();
     out.truncate(length);
     out
+}
+
+/// A datagram of any main header and what follows it, sealed in plain Rust.
+pub fn datagram_of(method: Method, id: u64, packet_id: u64, body: &[u8]) -> Vec<u8> {
+    plain::datagram(method, key_bytes(method), &NONCE, id, packet_id, body)
+}
+
+/// A request's head of any fixed and variable header, sealed in plain Rust.
+pub fn head_of(method: Method, fixed: &[u8], variable: &[u8]) -> Vec<u8> {
+    plain::request_head(method, key_bytes(method), salt(method), fixed, variable)
 }
 
 /// A server's session in reply to the client's, begun on a table that has the client's.

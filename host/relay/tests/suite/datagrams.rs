@@ -1,6 +1,6 @@
 //! Datagrams that are sealed and opened.
 
-use relay::{Address, Method, Refusal, SealSession, Table, Target, MAX_DATAGRAM};
+use relay::{Address, Method, Nonce, Refusal, SealSession, Table, Target, MAX_DATAGRAM};
 
 use crate::common::*;
 use crate::plain;
@@ -27,7 +27,7 @@ fn a_clients_datagram_opens_at_the_server() {
                 let packet_id = session.next_packet();
                 let text = payload(length);
                 let datagram = seal(&mut session, method, &address, padding, &text);
-                let mut out = vec![FILL; datagram.len() - 32];
+                let mut out = vec![FILL; datagram.len() - method.datagram_overhead()];
                 let header = table
                     .open_server(&key(method), CLOCK, peer(), &datagram, &mut out)
                     .unwrap();
@@ -53,7 +53,7 @@ fn a_servers_datagram_opens_at_its_client() {
             for (padding, length) in LENGTHS {
                 let text = payload(length);
                 let datagram = seal(&mut session, method, &address, padding, &text);
-                let mut out = vec![FILL; datagram.len() - 32];
+                let mut out = vec![FILL; datagram.len() - method.datagram_overhead()];
                 let header = table
                     .open_client(&key(method), CLOCK, CLIENT_ID, peer(), &datagram, &mut out)
                     .unwrap();
@@ -77,9 +77,11 @@ fn seal(
     padding: usize,
     text: &[u8],
 ) -> Vec<u8> {
-    let length = session.sealed_len(address, padding, text.len()).unwrap();
+    let length = session.sealed_len(method, address, padding, text.len());
+    let length = length.unwrap();
     let mut out = vec![FILL; length];
-    let sealed = session.seal(&key(method), CLOCK, address, padding, text, &mut out);
+    let (key, nonce) = (key(method), nonce(method));
+    let sealed = session.seal(&key, nonce, CLOCK, address, padding, text, &mut out);
     assert_eq!(sealed, Ok(length));
     out
 }
@@ -98,7 +100,7 @@ fn sealed_datagrams_are_sip022s_byte_for_byte() {
                 let body = [header, rest.clone()].concat();
                 assert_eq!(
                     seal(&mut client, method, &address, padding, &text),
-                    plain::datagram(key_bytes(method), CLIENT_ID, 5, &body)
+                    datagram_of(method, CLIENT_ID, 5, &body)
                 );
 
                 let mut server = SealSession::from_words(&[1, SERVER_ID, CLIENT_ID, u64::MAX - 1]);
@@ -106,7 +108,7 @@ fn sealed_datagrams_are_sip022s_byte_for_byte() {
                 let body = [header, rest].concat();
                 assert_eq!(
                     seal(&mut server, method, &address, padding, &text),
-                    plain::datagram(key_bytes(method), SERVER_ID, u64::MAX - 1, &body)
+                    datagram_of(method, SERVER_ID, u64::MAX - 1, &body)
                 );
             }
         }
@@ -115,23 +117,59 @@ fn sealed_datagrams_are_sip022s_byte_for_byte() {
 
 #[test]
 fn targets_are_of_three_kinds() {
-    let mut session = SealSession::client(CLIENT_ID);
-    let mut table = Table::new(60).unwrap();
-    let targets = addresses().into_iter().map(|address| {
-        let datagram = seal(&mut session, Method::Aes128Gcm, &address, 2, b"");
-        open(&mut table, Method::Aes128Gcm, CLOCK, &datagram)
-            .unwrap()
-            .target
-    });
-    let targets: Vec<Target> = targets.collect();
-    assert_eq!(targets[0], Target::V4([0, 0, 0, 0].into()));
-    assert_eq!(targets[1], Target::V4([255, 254, 253, 252].into()));
-    assert_eq!(targets[2], Target::V6("2001:db8::1:2".parse().unwrap()));
-    assert_eq!(targets[3], Target::V6("::ffff:192.0.2.1".parse().unwrap()));
-    // Behind type, time, padding's length, padding, kind and length.
-    let place = 1 + 8 + 2 + 2 + 1 + 1;
-    assert_eq!(targets[4], Target::Name(place..place + 1));
-    assert_eq!(targets[7], Target::Name(place..place + 255));
+    for method in Method::ALL {
+        let mut session = SealSession::client(CLIENT_ID);
+        let mut table = Table::new(60).unwrap();
+        let targets = addresses().into_iter().map(|address| {
+            let datagram = seal(&mut session, method, &address, 2, b"");
+            let header = open(&mut table, method, CLOCK, &datagram);
+            header.unwrap().target
+        });
+        let targets: Vec<Target> = targets.collect();
+        assert_eq!(targets[0], Target::V4([0, 0, 0, 0].into()));
+        assert_eq!(targets[1], Target::V4([255, 254, 253, 252].into()));
+        assert_eq!(targets[2], Target::V6("2001:db8::1:2".parse().unwrap()));
+        assert_eq!(targets[3], Target::V6("::ffff:192.0.2.1".parse().unwrap()));
+        // Behind type, time, padding's length, padding, kind and length.
+        let place = before_main_header(method) + 1 + 8 + 2 + 2 + 1 + 1;
+        assert_eq!(targets[4], Target::Name(place..place + 1));
+        assert_eq!(targets[7], Target::Name(place..place + 255));
+    }
+}
+
+/// The nonce stands first, and decides all bytes behind it.
+#[test]
+fn a_nonce_makes_another_datagram() {
+    for method in Method::ALL {
+        let sealed = [[1; 24], [2; 24]].map(|bytes| {
+            let mut session = SealSession::client(CLIENT_ID);
+            let (address, mut out) = (short_address(), vec![FILL; 128]);
+            let nonce = Some(Nonce::new(bytes));
+            let length = session.seal(&key(method), nonce, CLOCK, &address, 0, b"text", &mut out);
+            out.truncate(length.unwrap());
+            if method.takes_nonce() {
+                assert_eq!(out[..24], bytes);
+            }
+            assert!(open(&mut Table::new(60).unwrap(), method, CLOCK, &out).is_ok());
+            out
+        });
+        let [one, other] = sealed;
+        // Methods 1 and 2 do not look at it.
+        assert_eq!(one == other, !method.takes_nonce());
+    }
+}
+
+/// Whoever takes its bytes for those of another method has none that authenticate.
+#[test]
+fn a_datagram_opens_with_its_own_method_alone() {
+    for sender in Method::ALL {
+        let datagram = sealed(sender, CLIENT_ID, 0, CLOCK);
+        for receiver in Method::ALL {
+            let opened = open(&mut Table::new(60).unwrap(), receiver, CLOCK, &datagram);
+            let expected = (receiver != sender).then_some(Refusal::NotAuthentic);
+            assert_eq!(opened.err(), expected, "{sender} opened as {receiver}");
+        }
+    }
 }
 
 #[test]
@@ -139,11 +177,12 @@ fn the_longest_datagram_is_sealed_and_opened() {
     for method in Method::ALL {
         let mut session = SealSession::client(CLIENT_ID);
         let address = short_address();
-        let text = payload(MAX_DATAGRAM - 43 - 5);
+        let shortest = session.sealed_len(method, &address, 0, 0).unwrap();
+        let text = payload(MAX_DATAGRAM - shortest);
         let datagram = seal(&mut session, method, &address, 0, &text);
         assert_eq!(datagram.len(), MAX_DATAGRAM);
         let mut table = Table::new(60).unwrap();
-        let mut out = vec![FILL; MAX_DATAGRAM - 32];
+        let mut out = vec![FILL; MAX_DATAGRAM - method.datagram_overhead()];
         let header = table
             .open_server(&key(method), CLOCK, peer(), &datagram, &mut out)
             .unwrap();
@@ -151,17 +190,17 @@ fn the_longest_datagram_is_sealed_and_opened() {
 
         // One byte more, as payload or as padding.
         let longer = payload(text.len() + 1);
+        let (most, none) = (usize::MAX, Vec::new());
         let mut out = vec![FILL; 70_000];
-        for (padding, text) in [(0, &longer), (1, &text), (65_536, &text)] {
-            let refused = session.seal(&key(method), CLOCK, &address, padding, text, &mut out);
+        for (padding, text) in [(0, &longer), (1, &text), (65_536, &text), (most, &none)] {
+            let (key, nonce) = (key(method), nonce(method));
+            let refused = session.seal(&key, nonce, CLOCK, &address, padding, text, &mut out);
             assert_eq!(refused, Err(Refusal::Length));
-            let length = session.sealed_len(&address, padding, text.len());
+            let length = session.sealed_len(method, &address, padding, text.len());
             assert_eq!(length, Err(Refusal::Length));
         }
-        let refused = session.seal(&key(method), CLOCK, &address, usize::MAX, b"", &mut out);
-        assert_eq!(refused, Err(Refusal::Length));
         assert_eq!(
-            session.sealed_len(&address, usize::MAX, usize::MAX),
+            session.sealed_len(method, &address, most, most),
             Err(Refusal::Length)
         );
         assert_eq!(session.next_packet(), 1);
@@ -190,10 +229,12 @@ fn a_sending_session_counts_its_packets() {
 
 #[test]
 fn sessions_of_any_id_begin() {
-    for id in [0, 1, u64::MAX] {
-        let datagram = sealed(Method::Aes128Gcm, id, 0, CLOCK);
-        let mut table = Table::new(60).unwrap();
-        let header = open(&mut table, Method::Aes128Gcm, CLOCK, &datagram).unwrap();
-        assert_eq!(header.session_id, id);
+    for method in Method::ALL {
+        for id in [0, 1, u64::MAX] {
+            let datagram = sealed(method, id, 0, CLOCK);
+            let mut table = Table::new(60).unwrap();
+            let header = open(&mut table, method, CLOCK, &datagram).unwrap();
+            assert_eq!(header.session_id, id);
+        }
     }
 }

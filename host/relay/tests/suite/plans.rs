@@ -2,7 +2,7 @@
 
 use relay::{Method, Piece, Plan, Refusal, SealSession, Table, MAX_DATAGRAM};
 
-use crate::common::{addresses, key, payload, peer, short_address, CLIENT_ID, CLOCK};
+use crate::common::{addresses, key, nonce, payload, peer, short_address, CLIENT_ID, CLOCK};
 
 /// Bytes of a datagram besides padding and piece, to the short address.
 const BESIDES: usize = 43 + 5;
@@ -110,10 +110,11 @@ fn a_report_arrives() {
     let report = payload(5_000);
     for method in Method::ALL {
         for address in addresses() {
-            let limit = 43 + address.as_bytes().len() + 999;
+            let mut session = SealSession::client(CLIENT_ID);
+            let limit = session.sealed_len(method, &address, 0, 999).unwrap();
             let mut words = [0; 20];
             let plan = Plan::make(method, &address, limit, report.len(), &mut words).unwrap();
-            let mut session = SealSession::client(CLIENT_ID);
+            assert_eq!(plan.datagrams(), 6);
             let mut table = Table::new(60).unwrap();
             let (mut rest, mut received) = (&report[..], Vec::new());
             for piece in plan {
@@ -122,6 +123,7 @@ fn a_report_arrives() {
                 let sealed = session
                     .seal(
                         &key(method),
+                        nonce(method),
                         CLOCK,
                         &address,
                         piece.padding,

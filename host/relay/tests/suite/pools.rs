@@ -60,14 +60,15 @@ fn a_salt_is_kept_for_60_seconds() {
 /// Were the salt forgotten at 60 seconds, this head would be taken again.
 #[test]
 fn a_head_from_30_seconds_ahead_is_never_taken_twice() {
-    let method = Method::Aes256Gcm;
-    let mut pool = Pool::new(method);
-    let head = head(method, salt(method), 1_030);
-    open(&mut pool, method, 1_000, &head).unwrap();
-    for clock in 1_000..=1_060 {
-        assert_eq!(open(&mut pool, method, clock, &head), Err(Refusal::Replay));
+    for method in Method::ALL {
+        let mut pool = Pool::new(method);
+        let head = head(method, salt(method), 1_030);
+        open(&mut pool, method, 1_000, &head).unwrap();
+        for clock in 1_000..=1_060 {
+            assert_eq!(open(&mut pool, method, clock, &head), Err(Refusal::Replay));
+        }
+        assert_eq!(open(&mut pool, method, 1_061, &head), Err(Refusal::Time));
     }
-    assert_eq!(open(&mut pool, method, 1_061, &head), Err(Refusal::Time));
 }
 
 #[test]
@@ -124,15 +125,35 @@ fn a_salt_is_stored_with_the_front() {
 
 #[test]
 fn a_pool_goes_on_after_it_was_stored() {
-    let method = Method::Aes256Gcm;
-    let mut pool = Pool::new(method);
-    let head = head(method, salt(method), CLOCK);
-    open(&mut pool, method, CLOCK, &head).unwrap();
-    let mut restored = Pool::from_words(pool.words());
-    assert_eq!(
-        open(&mut restored, method, CLOCK, &head),
-        Err(Refusal::Replay)
-    );
+    for method in Method::ALL {
+        let mut pool = Pool::new(method);
+        let head = head(method, salt(method), CLOCK);
+        open(&mut pool, method, CLOCK, &head).unwrap();
+        let mut restored = Pool::from_words(pool.words());
+        let again = open(&mut restored, method, CLOCK, &head);
+        assert_eq!(again, Err(Refusal::Replay));
+    }
+}
+
+/// A salt of 32 bytes is told from another in its last byte too, and a pool serves its
+/// own method alone.
+#[test]
+fn a_pool_compares_whole_salts_of_its_method() {
+    for method in Method::ALL {
+        let mut pool = Pool::new(method);
+        let mut other = salt(method).to_vec();
+        *other.last_mut().unwrap() ^= 1;
+        for salt in [salt(method), &other] {
+            let head = head(method, salt, CLOCK);
+            assert_eq!(open(&mut pool, method, CLOCK, &head), Ok(()));
+            assert_eq!(open(&mut pool, method, CLOCK, &head), Err(Refusal::Replay));
+        }
+        for owner in Method::ALL.into_iter().filter(|&owner| owner != method) {
+            let head = head(method, salt(method), CLOCK);
+            let opened = open(&mut Pool::new(owner), method, CLOCK, &head);
+            assert_eq!(opened, Err(Refusal::Settings));
+        }
+    }
 }
 
 /// Method 1 reads two words of a stored salt, whatever stands in the last two.

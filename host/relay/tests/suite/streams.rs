@@ -131,7 +131,7 @@ fn a_response_and_its_chunks_open_at_the_client() {
 fn sealed_streams_are_sip022s_byte_for_byte() {
     for method in Method::ALL {
         let (key, salt) = (key_bytes(method), salt(method));
-        let piece = |counter, text: &[u8]| plain::piece(key, salt, counter, text);
+        let piece = |counter, text: &[u8]| plain::piece(method, key, salt, counter, text);
         let address = Address::name(b"example.com", 443).unwrap();
         let (mut stream, mut wire) = seal_request(method, &address, 3, b"first");
         let mut out = [0; 64];
@@ -141,13 +141,13 @@ fn sealed_streams_are_sip022s_byte_for_byte() {
         }
         let variable = [address.as_bytes(), &[0, 3, 0, 0, 0], b"first"].concat();
         let fixed = plain::fixed_header(0, CLOCK, variable.len());
-        let mut expected = plain::request_head(key, salt, &fixed, &variable);
+        let mut expected = head_of(method, &fixed, &variable);
         expected.extend([piece(2, &[0, 1]), piece(3, b"\0")].concat());
         expected.extend([piece(4, &[0, 6]), piece(5, b"second")].concat());
         assert_eq!(wire, expected);
 
         let own_salt = &OTHER_SALT[..method.salt_len()];
-        let piece = |counter, text: &[u8]| plain::piece(key, own_salt, counter, text);
+        let piece = |counter, text: &[u8]| plain::piece(method, key, own_salt, counter, text);
         let (_, wire) = seal_response(method, b"answer");
         let fixed = [&[1][..], &CLOCK.to_be_bytes(), salt, &[0, 6]].concat();
         let expected = [own_salt.to_vec(), piece(0, &fixed), piece(1, b"answer")].concat();
@@ -158,18 +158,22 @@ fn sealed_streams_are_sip022s_byte_for_byte() {
 /// One byte more at each call; nothing is used or lost before a piece is whole.
 #[test]
 fn a_stream_may_arrive_byte_by_byte() {
-    let method = Method::Aes128Gcm;
+    Method::ALL.into_iter().for_each(arrive_byte_by_byte);
+}
+
+fn arrive_byte_by_byte(method: Method) {
     let (mut sender, mut wire) = seal_response(method, b"first");
     let mut out = [0; 64];
     let length = sender.seal_chunk(b"second", &mut out).unwrap();
     wire.extend(&out[..length]);
 
     let open = |bytes| ResponseStream::open(&key(method), CLOCK, salt(method), bytes);
-    for length in 0..59 {
+    let head = 2 * method.salt_len() + 27;
+    for length in 0..head {
         let refusal = open(&wire[..length]).unwrap_err();
-        assert_eq!(refusal, Refusal::More { wanted: 59 });
+        assert_eq!(refusal, Refusal::More { wanted: head });
     }
-    let (mut stream, header) = open(&wire[..59]).unwrap();
+    let (mut stream, header) = open(&wire[..head]).unwrap();
     let mut place = header.used;
     for (wanted, expected) in [(21, Some("first")), (18, None), (22, Some("second"))] {
         let words = *stream.words();
@@ -193,7 +197,10 @@ fn a_stream_may_arrive_byte_by_byte() {
 
 #[test]
 fn a_wrong_tag_ends_a_stream() {
-    let method = Method::Aes256Gcm;
+    Method::ALL.into_iter().for_each(end_with_a_wrong_tag);
+}
+
+fn end_with_a_wrong_tag(method: Method) {
     let (mut sender, _) = seal_request(method, &short_address(), 1, b"");
     let mut good = vec![0; 64];
     let length = sender.seal_chunk(b"payload", &mut good).unwrap();
@@ -223,7 +230,12 @@ fn a_wrong_tag_ends_a_stream() {
 
 #[test]
 fn too_little_room_leaves_a_stream_as_it_was() {
-    let method = Method::Aes128Gcm;
+    Method::ALL
+        .into_iter()
+        .for_each(leave_a_stream_without_room);
+}
+
+fn leave_a_stream_without_room(method: Method) {
     let (_, wire) = seal_response(method, b"first");
     let (mut stream, header) =
         ResponseStream::open(&key(method), CLOCK, salt(method), &wire).unwrap();
@@ -243,26 +255,49 @@ fn too_little_room_leaves_a_stream_as_it_was() {
 /// Each chunk has a nonce of its own: none opens in another's place.
 #[test]
 fn chunks_do_not_change_places() {
-    let method = Method::Aes128Gcm;
-    let (mut sender, head) = seal_request(method, &short_address(), 1, b"");
-    let mut out = [0; 64];
-    sender.seal_chunk(b"one", &mut out).unwrap();
-    let length = sender.seal_chunk(b"two", &mut out).unwrap();
-    let mut stream = opened(method, &head).0.stream;
-    let refused = stream.open_chunk(&out[..length], &mut [0; 64]);
-    assert_eq!(refused, Err(Refusal::NotAuthentic));
+    for method in Method::ALL {
+        let (mut sender, head) = seal_request(method, &short_address(), 1, b"");
+        let mut out = [0; 64];
+        sender.seal_chunk(b"one", &mut out).unwrap();
+        let length = sender.seal_chunk(b"two", &mut out).unwrap();
+        let mut stream = opened(method, &head).0.stream;
+        let refused = stream.open_chunk(&out[..length], &mut [0; 64]);
+        assert_eq!(refused, Err(Refusal::NotAuthentic));
+    }
+}
+
+/// A stream is its method's, though the words and so the subkey are the same.
+#[test]
+fn a_stream_of_another_method_opens_nothing() {
+    let others = Method::ALL
+        .into_iter()
+        .filter(|method| method.key_len() == 32);
+    let others: Vec<Method> = others.collect();
+    for &method in &others {
+        let (mut sender, head) = seal_request(method, &short_address(), 1, b"");
+        let mut out = [0; 64];
+        let length = sender.seal_chunk(b"one", &mut out).unwrap();
+        for other in &others {
+            let mut words = *opened(method, &head).0.stream.words();
+            words[1] = other.number();
+            let mut stream = RequestStream::<Opening>::from_words(&words);
+            let step = stream.open_chunk(&out[..length], &mut [0; 64]);
+            assert_eq!(step.is_ok(), *other == method, "{method} opened as {other}");
+        }
+    }
 }
 
 #[test]
 fn a_stream_goes_on_after_it_was_stored() {
-    let method = Method::Aes256Gcm;
-    let (sender, mut wire) = seal_request(method, &short_address(), 1, b"");
-    let mut sender = RequestStream::<Sealing>::from_words(sender.words());
-    seal_chunks(&mut sender, &mut wire);
-    let (request, _) = opened(method, &wire);
-    let mut receiver = RequestStream::<Opening>::from_words(request.stream.words());
-    let payloads = open_chunks(&mut receiver, &wire[request.used()..]);
-    assert!(payloads.into_iter().eq(CHUNKS.map(payload)));
+    for method in Method::ALL {
+        let (sender, mut wire) = seal_request(method, &short_address(), 1, b"");
+        let mut sender = RequestStream::<Sealing>::from_words(sender.words());
+        seal_chunks(&mut sender, &mut wire);
+        let (request, _) = opened(method, &wire);
+        let mut receiver = RequestStream::<Opening>::from_words(request.stream.words());
+        let payloads = open_chunks(&mut receiver, &wire[request.used()..]);
+        assert!(payloads.into_iter().eq(CHUNKS.map(payload)));
+    }
 }
 
 #[test]
@@ -280,7 +315,10 @@ fn no_key_material_is_shown() {
 /// A chunk is 65,535 bytes at most, and so is a variable header.
 #[test]
 fn the_longest_request_is_sealed_and_opened() {
-    let method = Method::Aes128Gcm;
+    Method::ALL.into_iter().for_each(seal_and_open_the_longest);
+}
+
+fn seal_and_open_the_longest(method: Method) {
     let text = payload(MAX_CHUNK - 5 - 2);
     let (_, wire) = seal_request(method, &short_address(), 0, &text);
     let (request, out) = opened(method, &wire);
@@ -310,7 +348,7 @@ fn an_empty_chunk_ends_the_stream() {
         let (key_bytes, salt) = (key_bytes(method), salt(method));
         let (_, wire) = seal_request(method, &short_address(), 1, b"");
         let mut receiver = opened(method, &wire).0.stream;
-        let empty = plain::piece(key_bytes, salt, 2, &[0, 0]);
+        let empty = plain::piece(method, key_bytes, salt, 2, &[0, 0]);
         let mut forged = empty.clone();
         forged[17] ^= 1;
         let mut out = [FILL; 8];
@@ -334,7 +372,8 @@ fn an_empty_chunk_ends_the_stream() {
         let own_salt = &OTHER_SALT[..method.salt_len()];
         let mut fixed = plain::fixed_header(1, CLOCK, 0);
         fixed.splice(9..9, salt.iter().copied());
-        let head = [own_salt, &plain::piece(key_bytes, own_salt, 0, &fixed)].concat();
+        let fixed = plain::piece(method, key_bytes, own_salt, 0, &fixed);
+        let head = [own_salt, &fixed].concat();
         let opened = ResponseStream::open(&key(method), CLOCK, salt, &head);
         assert_eq!(opened.unwrap_err(), Refusal::Empty);
         let opened = ResponseStream::open(&key(method), CLOCK, own_salt, &head);
@@ -380,7 +419,10 @@ fn a_request_is_read_byte_by_byte() {
 /// stays known.
 #[test]
 fn a_reader_keeps_what_was_refused() {
-    let method = Method::Aes128Gcm;
+    Method::ALL.into_iter().for_each(keep_what_was_refused);
+}
+
+fn keep_what_was_refused(method: Method) {
     let (_, wire) = seal_request(method, &short_address(), 0, b"first");
     let (mut pool, mut out) = (Pool::new(method), vec![FILL; 64]);
     let mut reader = RequestReader::new();
@@ -393,7 +435,7 @@ fn a_reader_keeps_what_was_refused() {
     assert_eq!(read, Err(Refusal::Settings));
 
     let (mut pool, mut forged) = (Pool::new(method), wire.clone());
-    forged[50] ^= 1;
+    forged[method.salt_len() + 27] ^= 1;
     let mut reader = RequestReader::new();
     for _ in 0..2 {
         let read = reader.read(&key(method), CLOCK, &forged, &mut pool, &mut out);
@@ -423,7 +465,7 @@ fn a_variable_header_has_a_turn_of_its_own() {
         let refused = stream.open_variable(behind, &mut [0; 7]);
         assert_eq!(refused, Err(Refusal::Room));
         assert_eq!((stream.words(), &out), (&words, &vec![FILL; 64]));
-        for (place, word) in [(0, 1), (0, 2), (0, 3), (1, 3), (2, 0), (2, 2), (3, 65_536)] {
+        for (place, word) in [(0, 1), (0, 2), (0, 3), (1, 6), (2, 0), (2, 2), (3, 65_536)] {
             let mut words = words;
             words[place] = word;
             let mut odd = RequestStream::<Opening>::from_words(&words);

@@ -10,7 +10,7 @@ fn word(random: &mut Random) -> u64 {
     match random.below(8) {
         0 => 0,
         1 => 1,
-        2 => 2,
+        2 => 2 + random.below(4),
         3 => u64::MAX - random.below(4),
         4 => CLOCK - random.below(100),
         5 => 60 + random.below(3_541),
@@ -53,10 +53,11 @@ fn tables() {
         let mut table = Table::from_words(&words);
         let (id, packet_id) = (word(&mut random), word(&mut random));
         let clock = word(&mut random).min(u64::MAX - 30);
-        let datagram = sealed(Method::Aes128Gcm, id, packet_id.min(u64::MAX - 1), clock);
+        let method = Method::ALL[round % Method::ALL.len()];
+        let datagram = sealed(method, id, packet_id.min(u64::MAX - 1), clock);
         let before: Vec<_> = shown(&table, clock).collect();
         let peer_before = table.peer_of(id, clock);
-        match open(&mut table, Method::Aes128Gcm, clock, &datagram) {
+        match open(&mut table, method, clock, &datagram) {
             Ok(header) => {
                 assert_eq!(header.session_id, id);
                 assert_eq!(table.peer_of(id, clock), Some(peer()));
@@ -83,7 +84,7 @@ fn tables() {
 fn pools() {
     let mut random = Random(2);
     for round in 0..500 {
-        let method = Method::ALL[round % 2];
+        let method = Method::ALL[round % Method::ALL.len()];
         let mut words: [u64; Pool::WORDS] = words(&mut random);
         if round % 4 != 0 {
             words[0] = method.number();
@@ -109,15 +110,17 @@ fn pools() {
 #[test]
 fn sending_sessions() {
     let mut random = Random(3);
-    for _ in 0..5_000 {
+    for round in 0..5_000 {
+        let method = Method::ALL[round % Method::ALL.len()];
         let words: [u64; SealSession::WORDS] = words(&mut random);
         let mut session = SealSession::from_words(&words);
         let address = short_address();
-        let length = session.sealed_len(&address, 0, 4);
-        let mut out = [FILL; 64];
+        let length = session.sealed_len(method, &address, 0, 4);
+        let mut out = [FILL; 128];
         let clock = word(&mut random);
         match session.seal(
-            &key(Method::Aes128Gcm),
+            &key(method),
+            nonce(method),
             clock,
             &address,
             0,
@@ -136,7 +139,7 @@ fn sending_sessions() {
                 };
                 assert_eq!(refusal, expected);
                 assert_eq!(session.words(), &words);
-                assert_eq!(out, [FILL; 64]);
+                assert_eq!(out, [FILL; 128]);
             }
         }
     }
@@ -195,7 +198,7 @@ fn streams_at_a_variable_header() {
     for round in 0..5_000 {
         let mut words: [u64; 8] = words(&mut random);
         if round % 2 == 0 {
-            words[..3].copy_from_slice(&[4, 1, 1]);
+            words[..3].copy_from_slice(&[4, 1 + random.below(5), 1]);
             words[3] = random.below(80);
         }
         let mut stream = RequestStream::<Opening>::from_words(&words);

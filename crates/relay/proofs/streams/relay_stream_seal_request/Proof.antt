@@ -4,6 +4,7 @@ use Rattle.stream_seal_heads.specs.HeadSealing.{requestAnswer, request}
 use Rattle.relay.specs.Streams.{sealsRequest}
 use Rattle.stream_answers.proofs.ChunkLaws.{fitting, unfit, sealed-fit}
 use borrow.Author.Needs.{needs}
+use Rattle.protocol.specs.Method.{cipherOf}
 use Rattle.relay.proofs.streams.relay_stream_seal_request.Statement.{statement}
 use Rattle.relay.proofs.streams.relay_stream_seal_request.Tie as tie
 
@@ -22,7 +23,7 @@ returns c =
     let f = t .before in
     let a = f .before .before .before .before .before .before .before .before .args in
     sealed-fit (requestAnswer (a .method) (a .key .now) (a .salt .now) (a .address .now) (a .padding) (length (a .payload .now)) (length (a .out .now)))
-    (request (a .key .now) (a .salt .now) (a .clock) (a .address .now) (a .padding) (a .payload .now)) (a .out .now)
+    (request (cipherOf (a .method)) (a .key .now) (a .salt .now) (a .clock) (a .address .now) (a .padding) (a .payload .now)) (a .out .now)
     (a .stream .now) (a .answer .now) _ (f .fits2 .ensures) (t .if1 .taken) _ _ _ _ _ (s .seal-request .ensures .0) (s .seal-request .ensures .1)
     (d .write-sealed .ensures .0) (d .write-sealed .ensures .1 .0) (d .write-sealed .ensures .1 .1)
 

@@ -4,6 +4,7 @@ use Rattle.stream_seal_heads.specs.HeadSealing.{responseAnswer, response}
 use Rattle.relay.specs.Streams.{sealsResponse}
 use Rattle.stream_answers.proofs.ChunkLaws.{fitting, unfit, sealed-fit}
 use borrow.Author.Needs.{needs}
+use Rattle.protocol.specs.Method.{cipherOf}
 use Rattle.relay.proofs.streams.relay_stream_seal_response.Statement.{statement}
 use Rattle.relay.proofs.streams.relay_stream_seal_response.Tie as tie
 
@@ -22,7 +23,7 @@ returns c =
     let f = t .before in
     let a = f .before .before .before .before .before .before .before .before .args in
     sealed-fit (responseAnswer (a .method) (a .key .now) (a .salt .now) (a .request-salt .now) (length (a .payload .now)) (length (a .out .now)))
-    (response (a .key .now) (a .salt .now) (a .request-salt .now) (a .clock) (a .payload .now)) (a .out .now)
+    (response (cipherOf (a .method)) (a .key .now) (a .salt .now) (a .request-salt .now) (a .clock) (a .payload .now)) (a .out .now)
     (a .stream .now) (a .answer .now) _ (f .fits2 .ensures) (t .if1 .taken) _ _ _ _ _ (s .seal-response .ensures .0) (s .seal-response .ensures .1)
     (d .write-sealed .ensures .0) (d .write-sealed .ensures .1 .0) (d .write-sealed .ensures .1 .1)
 

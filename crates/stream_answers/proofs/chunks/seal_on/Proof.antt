@@ -2,7 +2,7 @@
 use native.Mathlib.Omega.{arith}
 use mathlib.Core.Path.{_≡_, sym, ap, _∙_}
 use lib.ListN.{length}
-use Rattle.stream_pieces.specs.Pieces.{keyOf}
+use Rattle.stream_pieces.specs.Pieces.{keyOf, keyed}
 use Rattle.stream_seal.specs.declared.Sender.{Sender}
 use Rattle.stream_seal.specs.declared.Sealed.the-variants.{Refused}
 use Rattle.stream_seal.specs.Sealing.{framedAnswer, chunk, sealOut}
@@ -46,7 +46,7 @@ returns c =
     ∙ at-sealing (a .f) (a .stream .now) (length (a .payload .now)) (length (a .out .now)) (t .if2 .taken))
     (s .seal-framed .ensures .1
     ∙ ap
-    (λ (x : Sender). sealOut (s .seal-framed .result) (chunk (keyOf (x .subkey) (a .f .key)) (x .counter) (a .payload .now)) (a .out .now))
+    (λ (x : Sender). sealOut (s .seal-framed .result) (chunk (keyed (a .f .cipher) (keyOf (x .subkey) (a .f .key))) (x .counter) (a .payload .now)) (a .out .now))
     (i .sender-in .ensures))
     (d .write-sealed .ensures .0) (d .write-sealed .ensures .1 .0) (d .write-sealed .ensures .1 .1)
 

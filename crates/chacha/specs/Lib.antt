@@ -1,0 +1,3 @@
+pub mod Words
+pub mod ChaCha
+pub mod Lanes

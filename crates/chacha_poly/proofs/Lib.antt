@@ -1,0 +1,3 @@
+pub mod AeadLaws
+pub mod NonceLaws
+pub mod ExtendedLaws

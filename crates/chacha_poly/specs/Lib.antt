@@ -1,0 +1,2 @@
+pub mod Aead
+pub mod Extended

@@ -1,0 +1,2 @@
+pub mod Poly1305
+pub mod Limbs
