@@ -35,7 +35,7 @@ test:
 # ARGS="rounds_12 salts_255" for some of them.
 mistakes:
 	@tools/need rt python3=python3
-	rt check demands edges sip004_demands
+	rt check demands edges sip004_demands settings_demands
 	tools/mistakes $(ARGS)
 
 library: $(LIBRARY)

@@ -16,8 +16,10 @@
  *   into the lent `answer`, which has RELAY_ANSWER_WORDS words; a function
  *   with fewer values writes the first ones and leaves the rest. A refusal
  *   leaves `answer` as it was, but RELAY_REFUSED_MORE writes the number of
- *   bytes wanted in all to answer[RELAY_AT_WANTED]. Where several refusals
- *   would fit, the first in the order given at the function is returned.
+ *   bytes wanted in all to answer[RELAY_AT_WANTED], and
+ *   RELAY_REFUSED_UNKNOWN_SETTING the setting's number to
+ *   answer[RELAY_AT_SETTING]. Where several refusals would fit, the first in
+ *   the order given at the function is returned.
  *
  * WHAT IS LENT
  *   A buffer is a pointer and a length: in bytes for uint8_t, in words for
@@ -32,7 +34,8 @@
  *   another method; a session whose side is neither 0 nor 1; a stream at another
  *   turn than the call's, at a payload with a length that its edition has not (0
  *   or above 65,535; by SIP004 above 16,383), or with a length above 65,535 or
- *   another counter than 1 at a variable header. Nothing is written then.
+ *   another counter than 1 at a variable header; settings whose lengths do not add
+ *   up to that of their bodies. Nothing is written then.
  *
  * WHAT A REFUSAL WRITES
  *   No refusal changes a pool or a sending session; a salt that
@@ -49,10 +52,11 @@
  *   time.
  *
  * STACK
- *   A call takes up to 8,632 bytes of the caller's stack, its arguments
+ *   A call takes up to 8,648 bytes of the caller's stack, its arguments
  *   included: opening a datagram. tests/stack.c measured it on x86-64, by the
- *   deepest byte that a call changes of a painted stack. The only recursion is
- *   over the digits of a number of a comparison, five at most. Allow 16 KiB.
+ *   deepest byte that a call changes of a painted stack. There are two recursions:
+ *   over the digits of a number of a comparison, five at most, and over the tree of
+ *   a settings file's hash, seven at most. Allow 16 KiB.
  *
  * TIMING
  *   AES and GHASH look up tables by secret bytes, so the time of a call of methods
@@ -110,20 +114,21 @@ extern "C" {
 
 #define RELAY_OK 0
 #define RELAY_REFUSED_SETTINGS 1      /* method; length or words of what was lent */
-#define RELAY_REFUSED_LENGTH 2        /* datagram too short or over 65,507 bytes, chunk too long */
+#define RELAY_REFUSED_LENGTH 2        /* datagram or file too short or too long, chunk too long */
 #define RELAY_REFUSED_ROOM 3          /* `out` is shorter than the bytes due */
-#define RELAY_REFUSED_NOT_AUTHENTIC 4 /* a tag is wrong, or the stream has ended */
-#define RELAY_REFUSED_MALFORMED 5     /* bad header, address or padding; a length over 16,383 */
+#define RELAY_REFUSED_NOT_AUTHENTIC 4 /* a tag or a hash is wrong, or the stream has ended */
+#define RELAY_REFUSED_MALFORMED 5     /* bad header, address, padding or file; length over 16,383 */
 #define RELAY_REFUSED_TYPE 6          /* wrong type byte */
 #define RELAY_REFUSED_TIME 7          /* timestamp and clock differ by over 30 seconds */
 #define RELAY_REFUSED_REPLAY 8        /* packet ID not fresh, or salt seen before */
 #define RELAY_REFUSED_FULL 9          /* new session and 64 alive, or new salt and 256 kept */
 #define RELAY_REFUSED_MORE 10         /* bytes missing: answer[RELAY_AT_WANTED] are wanted in all */
 #define RELAY_REFUSED_COUNTER 11      /* packet IDs or a stream's counter used up */
-#define RELAY_REFUSED_ARGUMENT 12     /* address, padding or session ID unlawful */
+#define RELAY_REFUSED_ARGUMENT 12     /* address, padding, session ID or setting unlawful */
 #define RELAY_REFUSED_BINDING 13      /* meant for another client, or answers another request */
 #define RELAY_REFUSED_EMPTY 14        /* a stream's payload of no bytes */
 #define RELAY_EMPTY RELAY_REFUSED_EMPTY
+#define RELAY_REFUSED_UNKNOWN_SETTING 15 /* of number answer[RELAY_AT_SETTING], below 128 */
 
 /* The name of what a function returned, for a log. */
 static inline const char *relay_refusal_name(uint64_t number)
@@ -159,6 +164,8 @@ static inline const char *relay_refusal_name(uint64_t number)
         return "binding";
     case RELAY_REFUSED_EMPTY:
         return "empty";
+    case RELAY_REFUSED_UNKNOWN_SETTING:
+        return "unknown setting";
     default:
         return "unknown";
     }
@@ -201,6 +208,9 @@ static inline const char *relay_refusal_name(uint64_t number)
 
 /* RELAY_REFUSED_MORE */
 #define RELAY_AT_WANTED 0 /* bytes wanted in all, from the first one of the call */
+
+/* RELAY_REFUSED_UNKNOWN_SETTING */
+#define RELAY_AT_SETTING 0 /* the lowest number of an unknown setting below 128 */
 
 /* ---- words of a session table: the retention, then 64 records of 13 words */
 
@@ -722,6 +732,79 @@ uint64_t relay_recording_compare(const uint8_t *first, size_t first_len, const u
  */
 uint64_t relay_recording_mend(uint8_t *file, size_t file_len, uint64_t *report, size_t report_len,
                               uint64_t *answer, size_t answer_len);
+
+/* ---- settings files
+ *
+ * A settings file is an edition (2 bytes) and a count of settings (2); for each
+ * setting its number (2), the offset of its body in the file (2) and the body's
+ * length (2), big-endian, by rising numbers; the bodies back to back, the first
+ * one right behind these contents; and the BLAKE3 hash (32) of all before it.
+ * The edition is the host's own: any is read.
+ *
+ * A reader refuses an unknown setting below RELAY_SETTING_SKIPPED and passes over
+ * one from there on, so that an older box can tell which of a newer file's
+ * settings it may do without. The hash tells damage, not who wrote the file: anyone
+ * can make one.
+ */
+
+#define RELAY_MIN_SETTINGS 36    /* bytes of a file without settings */
+#define RELAY_MAX_SETTINGS 65535 /* bytes of a file */
+
+/* the numbers of the known settings, and what is lawful */
+#define RELAY_SETTING_METHOD 1    /* 1 byte: 1 to 5 or 11 to 13 */
+#define RELAY_SETTING_RETENTION 2 /* 2 bytes: 0 or 60 to 3,600 */
+#define RELAY_SETTING_LIMIT 3     /* 4 bytes, of a path: up to 65,507 */
+#define RELAY_SETTING_TARGET 4    /* exactly one SOCKS5 address */
+#define RELAY_SETTING_SKIPPED 128 /* the first number that is passed over where it is unknown */
+
+/* a settings file that was read; what is not set is 0 */
+#define RELAY_AT_EDITION 0
+#define RELAY_AT_SET 1 /* which are set: bit i for number i + 1 */
+#define RELAY_AT_METHOD 2
+#define RELAY_AT_RETENTION 3 /* as it is set: 0 stays 0 */
+#define RELAY_AT_LIMIT 4
+#define RELAY_AT_TARGET_KIND 5 /* these four as of an opened datagram; a name's place is in `file` */
+#define RELAY_AT_TARGET_FIRST 6
+#define RELAY_AT_TARGET_SECOND 7
+#define RELAY_AT_TARGET_PORT 8
+
+/* a settings file that was written */
+#define RELAY_AT_FILE_LENGTH 0 /* bytes written to `out` */
+
+/*
+ * Reads a settings file.
+ *
+ * file    36 to 65,535 bytes
+ * answer  RELAY_AT_EDITION to RELAY_AT_TARGET_PORT; with
+ *         RELAY_REFUSED_UNKNOWN_SETTING, RELAY_AT_SETTING
+ *
+ * Refusals, in this order: 1 (answer), 2, 4 (the hash), 5 (the contents run past
+ * the hash, numbers do not rise, the bodies are not back to back from the contents
+ * to the hash, or a known setting is unlawful), 15.
+ */
+uint64_t relay_settings_read(const uint8_t *file, size_t file_len, uint64_t *answer,
+                             size_t answer_len);
+
+/*
+ * Writes a settings file to the front of `out`. Read, it shows this edition and
+ * exactly the settings of numbers 1 to 4 that were given.
+ *
+ * edition   any
+ * settings  two words for each, by rising numbers: its number, and the length of
+ *           its body. Those from RELAY_SETTING_SKIPPED on may have any bytes
+ * bodies    back to back, as long as these lengths together
+ * out       room for the file: 36 bytes, and 6 and its body for each setting.
+ *           Bytes behind the file stay as they were
+ * answer    RELAY_AT_FILE_LENGTH
+ *
+ * Refusals, in this order: 1 (answer, an odd number of words, lengths that do not
+ * add up to that of the bodies), 12 (an unlawful setting, an unknown one below 128,
+ * numbers that do not rise or are above 65,535), 2 (a file over 65,535 bytes), 3.
+ * A refusal writes nothing.
+ */
+uint64_t relay_settings_write(uint16_t edition, const uint64_t *settings, size_t settings_len,
+                              const uint8_t *bodies, size_t bodies_len, uint8_t *out,
+                              size_t out_len, uint64_t *answer, size_t answer_len);
 
 #ifdef __cplusplus
 }

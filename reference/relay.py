@@ -6,7 +6,7 @@ names that they have in the header, without the lengths, and stand in the same o
 
 The functions here only sort the words that a host lends into states and back, and
 answers into words: what is sealed, opened and refused, datagram.py, sessions.py,
-streams.py, sip004.py and recordings.py say.
+streams.py, sip004.py, plans.py, recordings.py and settings.py say.
 
     python3 reference/relay.py --selftest
 """
@@ -26,10 +26,12 @@ import openssl  # noqa: E402
 import plans  # noqa: E402
 import recordings  # noqa: E402
 import sessions  # noqa: E402
+import settings  # noqa: E402
 import sip004  # noqa: E402
 import streams  # noqa: E402
 from datagram import SETTINGS  # noqa: E402
 from sessions import NOT_AUTHENTIC, Peer  # noqa: E402
+from settings import write as write_settings  # noqa: E402
 from streams import EMPTY, ENDED, MORE, SIP022, Edition  # noqa: E402
 
 TABLE_WORDS = sessions.TABLE_WORDS
@@ -445,6 +447,53 @@ def recording_mend(file: bytes, report: Words, answer: Words) -> Left:
     )
 
 
+# Settings files.
+
+
+def shown_words(shown: settings.File) -> Words:
+    """The edition, which settings there are, and what they say; 0 for those that are not there."""
+    known, which = shown.known, sum(1 << number - 1 for number in shown.known)
+    numbers = (settings.METHOD, settings.RETENTION, settings.LIMIT)
+    values = (int.from_bytes(known[each].body, "big") if each in known else 0 for each in numbers)
+    target = (0,) * 4
+    if settings.TARGET in known:
+        _, offset, address = known[settings.TARGET]
+        kind, first, second = target_words(sessions.target_of(address))
+        if kind == 3:
+            first += offset
+        target = (kind, first, second, int.from_bytes(address[-2:], "big"))
+    return (shown.edition, which, *values, *target)
+
+
+def settings_read(file: bytes, answer: Words) -> Left:
+    if len(answer) != ANSWER_WORDS:
+        return refused(SETTINGS)
+    number, said = settings.read(file)
+    if number == settings.UNKNOWN:
+        return Left(number, {"answer": front(answer, said)})
+    return refused(number) if number else accepted(answer=shown_words(said))
+
+
+def settings_in(words: Words, bodies: bytes) -> list[settings.Setting] | None:
+    """Numbers with their bodies; None if the lengths do not add up."""
+    numbers, lengths = words[::2], words[1::2]
+    if len(words) % 2 or sum(lengths) != len(bodies):
+        return None
+    ends = list(itertools.accumulate(lengths, initial=0))
+    places = itertools.pairwise(ends)
+    return [(number, bodies[start:end]) for number, (start, end) in zip(numbers, places)]
+
+
+def settings_write(edition: int, settings: Words, bodies: bytes, out: bytes, answer: Words) -> Left:
+    given = settings_in(settings, bodies)
+    if len(answer) != ANSWER_WORDS or given is None:
+        return refused(SETTINGS)
+    number, file = write_settings(edition, given, len(out))
+    if number:
+        return refused(number)
+    return accepted(out=file + out[len(file) :], answer=front(answer, len(file)))
+
+
 # Each function with the numbers that it may return.
 
 NUMBERS = {
@@ -472,6 +521,8 @@ NUMBERS = {
     plan_check: {0, 1, 12},
     recording_compare: {0, 1, 2, 3, 5},
     recording_mend: {0, 1, 2, 3},
+    settings_read: {0, 1, 2, 4, 5, 15},
+    settings_write: {0, 1, 2, 3, 12},
 }
 
 FUNCTIONS = {f"relay_{function.__name__}": function for function in NUMBERS}
@@ -690,11 +741,34 @@ def recording_examples():
     yield "too short a file", recording_mend(bytes(3), (), ANSWER) == refused(2)
 
 
+def settings_examples():
+    file = settings.EXAMPLE_BYTES + bytes.fromhex(settings.EXAMPLE_HASH)
+    said = (7, 0b1111, 3, 300, 1_500, 3, 43, 1, 80)
+    yield "settings", settings_read(file, ANSWER) == accepted(answer=said)
+    forged = file[:-1] + bytes([file[-1] ^ 1])
+    yield "forged settings", settings_read(forged, ANSWER) == refused(4)
+    odd = settings.laid_out(0, [(2, bytes(2)), (4, datagram.V4), (5, b""), (6, b"")])
+    yield "unknown", settings_read(odd, ANSWER) == Left(15, {"answer": (5, *ANSWER[1:])})
+    some = settings.laid_out(9, [(2, bytes(2)), (4, datagram.V4), (128, b"")])
+    said = (9, 0b1010, 0, 0, 0, 1, 0xC0000201, 0, 80)
+    yield "some settings", settings_read(some, ANSWER) == accepted(answer=said)
+    words = tuple(word for number, body in settings.EXAMPLE for word in (number, len(body)))
+    call = 7, words, b"".join(body for _, body in settings.EXAMPLE)
+    lent = {"out": file + b"xy", "answer": ANSWER}
+    written = accepted(out=file + b"xy", answer=(len(file), *ANSWER[1:]))
+    yield "written", settings_write(*call, **lent) == written
+    yield "no room for settings", settings_write(*call, file[1:], ANSWER) == refused(3)
+    yield "odd words", settings_write(7, words[1:], call[2], **lent) == refused(1)
+    yield "modulo 2^64", settings_write(7, (128, 2**64 - 1, 129, 1), b"", **lent) == refused(1)
+    yield "a number of 17 bits", settings_write(7, (65_664, 0), b"", **lent) == refused(12)
+
+
 def selftest() -> list[str]:
     """The names of the examples that this code fails."""
     checks = itertools.chain(datagram_examples(), chacha_examples())
     checks = itertools.chain(checks, stream_examples(), response_examples())
     checks = itertools.chain(checks, sip004_examples(), plan_examples(), recording_examples())
+    checks = itertools.chain(checks, settings_examples())
     return plans.selftest() + [name for name, holds in checks if not holds]
 
 

@@ -7,8 +7,8 @@
 Every call is made of target/staticlib/librelay.a and of reference/relay.py. Compared are the
 number returned and all that was lent, each buffer whole: what is to be written, what is to be
 left alone, and the memory on both sides of it. First come the calls of the programs of vectors,
-then sequences by dice; then the same of plans and of the 2017 edition. At the end every number that
-a function may return must have been seen.
+then sequences by dice; then the same of plans, of the 2017 edition and of settings files. At the end
+every number that a function may return must have been seen.
 """
 
 from __future__ import annotations
@@ -32,14 +32,17 @@ import openssl  # noqa: E402
 import planning  # noqa: E402
 import relay  # noqa: E402
 import recorded  # noqa: E402
+import settings_cases  # noqa: E402
 import sip004_scenarios  # noqa: E402
 from oddities import odd  # noqa: E402
 from recording_scenarios import Recordings  # noqa: E402
 from scenarios import SCENARIOS  # noqa: E402
+from settings_scenarios import Settings  # noqa: E402
 
 CALLS = 70_000
 PLAN_CALLS = 10_000  # by dice, beside these
 SIP004_CALLS = 20_000
+SETTINGS_CALLS = 4_000
 SEQUENCE = 150  # steps of a scenario
 ODD_PERCENT = 6  # of the calls by dice have one thing odd
 FREESTANDING = {"memcpy", "memmove", "memset", "memcmp", "bcmp"}  # what a compiler may put in
@@ -179,6 +182,9 @@ def compare(seed: str, count: int) -> bool:
     for name, values in sip004_scenarios.calls():
         calls.run(name, **values)
     by_dice(calls, seed, calls.calls + SIP004_CALLS, (sip004_scenarios.Sip004,))
+    for name, values in settings_cases.calls():
+        calls.run(name, **values)
+    by_dice(calls, seed, calls.calls + SETTINGS_CALLS, (Settings,))
     whole = calls.report()
     print(f"seed {seed}: {calls.calls} calls, 0 differ")
     return whole

@@ -2,6 +2,7 @@
 
 from __future__ import annotations
 
+import ctypes
 import random
 import sys
 
@@ -85,5 +86,4 @@ def odd(dice: random.Random, parameter: Parameter, value: Value) -> Value:
         return odd_bytes(dice, value)
     if parameter.kind == "words":
         return odd_words(dice, value)
-    size = 16 if parameter.name == "port" else 64
-    return odd_number(dice, value) % 2**size
+    return odd_number(dice, value) % 2 ** (8 * ctypes.sizeof(parameter.type))

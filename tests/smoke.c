@@ -731,12 +731,14 @@ static void names(void)
     check(strcmp(version, RELAY_VERSION) == 0, "the version's numbers");
     check(strcmp(relay_refusal_name(RELAY_OK), "ok") == 0, "what is no refusal");
     check(strcmp(relay_refusal_name(RELAY_REFUSED_REPLAY), "replay") == 0, "a refusal's name");
-    check(strcmp(relay_refusal_name(RELAY_EMPTY), "empty") == 0, "the newest refusal's name");
-    check(strcmp(relay_refusal_name(15), "unknown") == 0, "no refusal's number");
-    for (uint64_t a = 0; a < 15; a++)
-        for (uint64_t b = a + 1; b <= 15; b++)
+    check(strcmp(relay_refusal_name(RELAY_EMPTY), "empty") == 0, "another name of a refusal");
+    check(strcmp(relay_refusal_name(RELAY_REFUSED_UNKNOWN_SETTING), "unknown setting") == 0,
+          "the newest refusal's name");
+    check(strcmp(relay_refusal_name(16), "unknown") == 0, "no refusal's number");
+    for (uint64_t a = 0; a < 16; a++)
+        for (uint64_t b = a + 1; b <= 16; b++)
             check(strcmp(relay_refusal_name(a), relay_refusal_name(b)) != 0, "names that differ");
-    printf("version %s: 14 refusals, each with its name\n", RELAY_VERSION);
+    printf("version %s: 15 refusals, each with its name\n", RELAY_VERSION);
 }
 
 /* ---- wrong lengths */
@@ -803,6 +805,76 @@ static void mended(void)
     printf("mended: offset 20 is now 19, direction 9 is now 2\n");
 }
 
+/* ---- settings files */
+
+/* Method 3, a path limit of 1,500 bytes, the target, and a setting that is not known yet. */
+static const uint64_t SETTINGS[] = {RELAY_SETTING_METHOD, 1, RELAY_SETTING_LIMIT, 4,
+                                    RELAY_SETTING_TARGET, ADDRESS_LEN, 200, 2};
+enum { SETTING_WORDS = sizeof SETTINGS / sizeof SETTINGS[0], SETTINGS_LEN = 82 };
+
+static void write_settings(uint8_t *file)
+{
+    uint8_t bodies[5 + ADDRESS_LEN + 2] = {3, 0, 0, 0x05, 0xdc};
+    uint64_t answer[RELAY_ANSWER_WORDS];
+    memcpy(bodies + 5, ADDRESS, ADDRESS_LEN);
+    memset(file, 0xa5, SETTINGS_LEN + 1);
+    check_number(relay_settings_write(7, SETTINGS, SETTING_WORDS, bodies, sizeof bodies, file,
+                                      SETTINGS_LEN - 1, answer, RELAY_ANSWER_WORDS),
+                 RELAY_REFUSED_ROOM, "a file in too little room");
+    check(all(file, SETTINGS_LEN + 1, 0xa5), "nothing is written");
+    check_number(relay_settings_write(7, SETTINGS, SETTING_WORDS, bodies, sizeof bodies, file,
+                                      SETTINGS_LEN + 1, answer, RELAY_ANSWER_WORDS),
+                 RELAY_OK, "writing settings");
+    check(answer[RELAY_AT_FILE_LENGTH] == SETTINGS_LEN && file[SETTINGS_LEN] == 0xa5,
+          "the file's length, and the byte behind it");
+    bodies[0] = 6;
+    check_number(relay_settings_write(7, SETTINGS, SETTING_WORDS, bodies, sizeof bodies, file,
+                                      SETTINGS_LEN, answer, RELAY_ANSWER_WORDS),
+                 RELAY_REFUSED_ARGUMENT, "method 6");
+}
+
+static void read_settings(uint8_t *file)
+{
+    uint64_t answer[RELAY_ANSWER_WORDS];
+    check_number(relay_settings_read(file, SETTINGS_LEN, answer, RELAY_ANSWER_WORDS), RELAY_OK,
+                 "reading settings");
+    check(answer[RELAY_AT_EDITION] == 7 && answer[RELAY_AT_SET] == 0xd, "edition, and which");
+    check(answer[RELAY_AT_METHOD] == RELAY_CHACHA20_POLY1305 && answer[RELAY_AT_RETENTION] == 0 &&
+              answer[RELAY_AT_LIMIT] == 1500,
+          "method, no retention, limit");
+    check(answer[RELAY_AT_TARGET_KIND] == 3 && answer[RELAY_AT_TARGET_PORT] == 443 &&
+              answer[RELAY_AT_TARGET_SECOND] == 11 &&
+              same(file + answer[RELAY_AT_TARGET_FIRST], text("example.com"), 11),
+          "the target");
+    file[0] ^= 1;
+    check_number(relay_settings_read(file, SETTINGS_LEN, answer, RELAY_ANSWER_WORDS),
+                 RELAY_REFUSED_NOT_AUTHENTIC, "a damaged file");
+    check_number(relay_settings_read(file, RELAY_MIN_SETTINGS - 1, answer, RELAY_ANSWER_WORDS),
+                 RELAY_REFUSED_LENGTH, "a file of 35 bytes");
+}
+
+/* A newer file: its only setting has number 5 and no body. */
+static void newer_settings(void)
+{
+    const uint8_t file[] = {0x00, 0x08, 0x00, 0x01, 0x00, 0x05, 0x00, 0x0a, 0x00, 0x00, 0x0d, 0xf5,
+                            0x87, 0x26, 0xf4, 0x86, 0x5a, 0xe5, 0xb8, 0xc4, 0x1b, 0xdc, 0xf0, 0xd2,
+                            0x78, 0x22, 0x9d, 0x5b, 0x29, 0x5b, 0x8b, 0xbb, 0xcd, 0xb9, 0x67, 0x16,
+                            0x13, 0x77, 0x6e, 0x98, 0xab, 0x80};
+    uint64_t answer[RELAY_ANSWER_WORDS] = {99, 98};
+    check_number(relay_settings_read(file, sizeof file, answer, RELAY_ANSWER_WORDS),
+                 RELAY_REFUSED_UNKNOWN_SETTING, "a setting that is not known");
+    check(answer[RELAY_AT_SETTING] == 5 && answer[1] == 98, "its number, and nothing else");
+}
+
+static void settings(void)
+{
+    uint8_t file[SETTINGS_LEN + 1];
+    write_settings(file);
+    read_settings(file);
+    newer_settings();
+    printf("settings: %d bytes written and read, an unknown one refused\n", SETTINGS_LEN);
+}
+
 int main(void)
 {
     for (method = METHODS; method < METHODS + METHOD_COUNT; method++) {
@@ -821,6 +893,7 @@ int main(void)
     sip004();
     compared();
     mended();
+    settings();
     wrong_lengths();
     names();
     printf("smoke test passed\n");

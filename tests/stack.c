@@ -207,6 +207,27 @@ static void recording_mend(void)
                                   RELAY_ANSWER_WORDS);
 }
 
+/* A settings file of a target and of a setting that is not known; the bytes before its hash. */
+static uint8_t bodies[RELAY_MAX_SETTINGS], file[RELAY_MAX_SETTINGS];
+static size_t hashed_len;
+
+enum { CONTENTS = 4 + 2 * 6, HASH = 32 };
+
+static void settings_write(void)
+{
+    const size_t bodies_len = hashed_len - CONTENTS;
+    const uint64_t settings[] = {RELAY_SETTING_TARGET, sizeof ADDRESS, RELAY_SETTING_SKIPPED,
+                                 bodies_len - sizeof ADDRESS};
+    memcpy(bodies, ADDRESS, sizeof ADDRESS);
+    number = relay_settings_write(1, settings, 4, bodies, bodies_len, file, sizeof file, answer,
+                                  RELAY_ANSWER_WORDS);
+}
+
+static void settings_read(void)
+{
+    number = relay_settings_read(file, hashed_len + HASH, answer, RELAY_ANSWER_WORDS);
+}
+
 /* With the most stack that each was seen to take. */
 static struct function {
     const char *name;
@@ -237,6 +258,8 @@ static struct function {
     {"relay_plan_check", plan_check, 0},
     {"relay_recording_compare", recording_compare, 0},
     {"relay_recording_mend", recording_mend, 0},
+    {"relay_settings_read", settings_read, 0},
+    {"relay_settings_write", settings_write, 0},
 };
 
 enum { FUNCTIONS = sizeof functions / sizeof functions[0] };
@@ -373,6 +396,20 @@ static void try_plans_and_recordings(void)
     measure(recording_mend, RELAY_OK);
 }
 
+/* Around blocks and chunks of the hash, up to the longest file. */
+static void try_settings(void)
+{
+    static const size_t lens[] = {23,   64,   65,   1024,  1025,
+                                  2048, 2049, 5121, 32769, RELAY_MAX_SETTINGS - HASH};
+    for (size_t i = 0; i < sizeof lens / sizeof lens[0]; i++) {
+        hashed_len = lens[i];
+        measure(settings_write, RELAY_OK);
+        measure(settings_read, RELAY_OK);
+        file[0] ^= 1;
+        measure(settings_read, RELAY_REFUSED_NOT_AUTHENTIC);
+    }
+}
+
 /* A line for each function; the last one names the deepest. */
 static void report(void)
 {
@@ -427,6 +464,7 @@ int main(void)
         key_len = 16 + 8 * (size_t)(method - RELAY_SIP004_AES_128_GCM);
         try_sip004();
     }
+    try_settings();
     report();
     return 0;
 }

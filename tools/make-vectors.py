@@ -1,11 +1,11 @@
 #!/usr/bin/env python3
-"""Makes the data of the proved program vectors, and what it must print.
+"""Makes the data of the proved programs vectors and settings_vectors, and what they must print.
 
     python3 tools/make-vectors.py            write the files
     python3 tools/make-vectors.py --check    compare them with what would be written
 
 Each file is made by a module of its own, from published vectors and the independent reference.
-tools/vectors.py describes the files.
+tools/vectors.py and tools/settings_vectors.py describe the files.
 """
 
 import sys
@@ -20,10 +20,11 @@ import datagram_vectors  # noqa: E402
 import gcm_vectors  # noqa: E402
 import hash_vectors  # noqa: E402
 import session_vectors  # noqa: E402
+import settings_vectors  # noqa: E402
 import sip004_vectors  # noqa: E402
 import stream_vectors  # noqa: E402
 
-# In the program's order.
+# In the order of the program vectors.
 MODULES = (
     aes_vectors,
     blake3_vectors,
@@ -52,6 +53,9 @@ def main():
         problems += file.problems
         print(file.agreement, flush=True)
     contents[folder / "stdout"] = "".join(line + "\n" for line in lines).encode("ascii")
+    of_settings, agreement = settings_vectors.make()
+    contents |= of_settings
+    print(agreement, flush=True)
     if check:
         for path, content in contents.items():
             if not path.is_file() or path.read_bytes() != content:

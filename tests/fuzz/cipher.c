@@ -1,5 +1,6 @@
 #include "cipher.h"
 
+#include "blake3.h"
 #include "chacha.h"
 #include "relay.h"
 
@@ -48,87 +49,14 @@ size_t sip004_key_length(uint64_t method)
     }
 }
 
-uint64_t get_number(const uint8_t *bytes, size_t len)
-{
-    uint64_t number = 0;
-    for (size_t i = 0; i < len; i++)
-        number = number << 8 | bytes[i];
-    return number;
-}
-
-void put_number(uint8_t *bytes, size_t len, uint64_t number)
-{
-    for (size_t i = len; i-- > 0; number >>= 8)
-        bytes[i] = (uint8_t)number;
-}
-
-/* ---- BLAKE3 for one block: sections 2.2 and 2.3 of the paper */
-
-enum { CHUNK_START = 1, CHUNK_END = 2, ROOT = 8, CONTEXT = 32, MATERIAL = 64 };
-
-static const uint32_t IV[8] = {0x6a09e667, 0xbb67ae85, 0x3c6ef372, 0xa54ff53a,
-                               0x510e527f, 0x9b05688c, 0x1f83d9ab, 0x5be0cd19};
-static const uint8_t PERMUTATION[16] = {2, 6, 3, 10, 7, 0, 4, 13, 1, 11, 12, 5, 9, 14, 15, 8};
-static const uint8_t QUARTERS[8][4] = {{0, 4, 8, 12},  {1, 5, 9, 13},  {2, 6, 10, 14},
-                                       {3, 7, 11, 15}, {0, 5, 10, 15}, {1, 6, 11, 12},
-                                       {2, 7, 8, 13},  {3, 4, 9, 14}};
-
-static uint32_t rotated(uint32_t x, unsigned count)
-{
-    return x >> count | x << (32 - count);
-}
-
-static void mix(uint32_t *v, const uint8_t *q, uint32_t x, uint32_t y)
-{
-    uint32_t *a = &v[q[0]], *b = &v[q[1]], *c = &v[q[2]], *d = &v[q[3]];
-    *a += *b + x;
-    *d = rotated(*d ^ *a, 16);
-    *c += *d;
-    *b = rotated(*b ^ *c, 12);
-    *a += *b + y;
-    *d = rotated(*d ^ *a, 8);
-    *c += *d;
-    *b = rotated(*b ^ *c, 7);
-}
-
-/* The first eight words of the root's output over one block of bytes. */
-static void hash_block(const uint32_t *h, const uint8_t *data, size_t len, uint32_t flags,
-                       uint32_t *out)
-{
-    uint8_t block[64] = {0};
-    uint32_t m[16], next[16], v[16];
-    memcpy(block, data, len);
-    for (int i = 0; i < 16; i++)
-        m[i] = block[4 * i] | (uint32_t)block[4 * i + 1] << 8 | (uint32_t)block[4 * i + 2] << 16 |
-               (uint32_t)block[4 * i + 3] << 24;
-    memcpy(v, h, 32);
-    memcpy(v + 8, IV, 16);
-    v[12] = v[13] = 0;
-    v[14] = (uint32_t)len;
-    v[15] = flags | CHUNK_START | CHUNK_END | ROOT;
-    for (int round = 0; round < 7; round++) {
-        for (int i = 0; i < 8; i++)
-            mix(v, QUARTERS[i], m[2 * i], m[2 * i + 1]);
-        for (int i = 0; i < 16; i++)
-            next[i] = m[PERMUTATION[i]];
-        memcpy(m, next, sizeof m);
-    }
-    for (int i = 0; i < 8; i++)
-        out[i] = v[i] ^ v[i + 8];
-}
-
 void derive_subkey(const uint8_t *key, size_t key_len, const uint8_t *salt, size_t salt_len,
                    uint8_t *subkey)
 {
-    static const char context[] = "shadowsocks 2022 session subkey";
-    uint8_t material[64];
-    uint32_t context_key[8], words[8];
+    uint8_t material[64], derived[HASH_LEN];
     memcpy(material, key, key_len);
     memcpy(material + key_len, salt, salt_len);
-    hash_block(IV, (const uint8_t *)context, sizeof context - 1, CONTEXT, context_key);
-    hash_block(context_key, material, key_len + salt_len, MATERIAL, words);
-    for (size_t i = 0; i < key_len; i++)
-        subkey[i] = (uint8_t)(words[i / 4] >> 8 * (i % 4));
+    blake3_derive_key("shadowsocks 2022 session subkey", material, key_len + salt_len, derived);
+    memcpy(subkey, derived, key_len);
 }
 
 /* ---- HKDF, AES and GCM by OpenSSL */

@@ -1,11 +1,13 @@
 /*
  * The ciphers of the protocol, independent of the library: AES, GCM and HKDF by
- * OpenSSL, BLAKE3's key derivation from its paper, ChaCha as in chacha.h. With
+ * OpenSSL, BLAKE3's key derivation as in blake3.h, ChaCha as in chacha.h. With
  * them the fuzz target makes authentic messages of any contents, and knows what
  * is authentic.
  */
 #ifndef CIPHER_H
 #define CIPHER_H
+
+#include "octets.h"
 
 #include <stddef.h>
 #include <stdint.h>
@@ -47,9 +49,5 @@ void piece_seal(uint64_t method, const uint8_t *subkey, uint64_t counter, const 
                 size_t len, uint8_t *out);
 int piece_open(uint64_t method, const uint8_t *subkey, uint64_t counter, const uint8_t *sealed,
                size_t len, uint8_t *out);
-
-/* Numbers of `len` bytes, big-endian. */
-uint64_t get_number(const uint8_t *bytes, size_t len);
-void put_number(uint8_t *bytes, size_t len, uint64_t number);
 
 #endif

@@ -29,7 +29,4 @@ struct expectation expect(const struct call *call);
 /* Of a call about plans whose answer has its length: the number, and what is written. */
 uint64_t expect_plan(const struct call *call, struct expectation *e);
 
-/* The length of the address that the bytes begin with; 0 for none. */
-size_t address_length(const uint8_t *bytes, size_t len);
-
 #endif

@@ -1,6 +1,7 @@
 #include "expect.h"
 
 #include "lend.h"
+#include "octets.h"
 #include "relay.h"
 
 /* What a datagram has besides address, padding and piece: as it is sealed, and of its header. */

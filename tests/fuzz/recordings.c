@@ -7,7 +7,9 @@
  * An input begins with a byte of ways and one of room. Then come the entries of
  * both files, four bytes each, and patches of three bytes until its end.
  */
+#include "files.h"
 #include "lend.h"
+#include "octets.h"
 #include "relay.h"
 
 #include <stdarg.h>
@@ -18,92 +20,35 @@
 int LLVMFuzzerTestOneInput(const uint8_t *data, size_t size);
 
 enum {
-    FILE_ROOM = 40000,
     TEXT_ROOM = 65536,
     CONTENTS = 15,
-    NUMBERS = 6, /* 0 and the refusals up to 5 */
     MAX_FILE = 32768,
     MAX_ENTRIES = 4096,
     MAX_BODY = 65507,
-    CHANGES = 4 + 12 * (FILE_ROOM / CONTENTS), /* words of the longest report */
+    CHANGES = 4 + 12 * (MAX_FILE + 1) / CONTENTS, /* words of the longest report */
 };
 
 /* Ways of an input. */
 enum { SAME_ENTRIES = 1, LONG_FILE = 2, TOO_LONG = 4, BAD_ANSWER = 8, RAW = 16, AT_START = 32 };
 
-struct file {
-    uint8_t bytes[FILE_ROOM];
-    size_t len;
-};
-
-/* What is left of an input. */
-struct input {
-    const uint8_t *at;
-    size_t left;
-};
-
-static uint8_t next(struct input *input)
-{
-    if (input->left == 0)
-        return 0;
-    input->left--;
-    return *input->at++;
-}
-
-static void fail(const char *promise)
-{
-    fprintf(stderr, "broken: %s\n", promise);
-    abort();
-}
-
 /* ---- files */
-
-static void put(struct file *file, size_t at, uint64_t value, unsigned bytes)
-{
-    for (unsigned i = 0; i < bytes; i++)
-        file->bytes[at + i] = (uint8_t)(value >> 8 * (bytes - 1 - i));
-}
-
-static uint64_t number_at(const struct file *file, size_t at, unsigned bytes)
-{
-    uint64_t value = 0;
-    for (unsigned i = 0; i < bytes; i++)
-        value = value << 8 | file->bytes[at + i];
-    return value;
-}
 
 /* A well-formed recording of up to seven entries. */
 static void make_file(struct file *file, struct input *input)
 {
     size_t count = next(input) % 8, place = 4 + CONTENTS * count;
-    put(file, 0, count, 4);
+    put_number(file->bytes, 4, count);
     for (size_t i = 0; i < count; i++) {
         uint8_t kind = next(input), clock = next(input), fill = next(input);
         size_t at = 4 + CONTENTS * i, len = next(input) % 40;
-        put(file, at, place, 4);
-        put(file, at + 4, len, 2);
-        put(file, at + 6, kind % 3, 1);
-        put(file, at + 7, (uint64_t)clock << 56 | clock, 8);
+        put_number(file->bytes + at, 4, place);
+        put_number(file->bytes + at + 4, 2, len);
+        put_number(file->bytes + at + 6, 1, kind % 3);
+        put_number(file->bytes + at + 7, 8, (uint64_t)clock << 56 | clock);
         memset(file->bytes + place, fill, len);
         place += len;
     }
     file->len = place;
-}
-
-static void patch(struct file *file, struct input *input)
-{
-    size_t place = next(input);
-    uint8_t value = next(input);
-    if (place < file->len)
-        file->bytes[place] = value;
-}
-
-static void lengthen(struct file *file, size_t len)
-{
-    if (file->len < len) {
-        memset(file->bytes + file->len, 0, len - file->len);
-        file->len = len;
-    }
 }
 
 /* ---- what should be */
@@ -112,14 +57,14 @@ static int well_formed(const struct file *file)
 {
     if (file->len < 4)
         return 0;
-    uint64_t count = number_at(file, 0, 4), place = 4 + CONTENTS * count;
+    uint64_t count = get_number(file->bytes, 4), place = 4 + CONTENTS * count;
     if (count > MAX_ENTRIES || place > file->len)
         return 0;
     for (size_t at = 4; at < 4 + CONTENTS * count; at += CONTENTS) {
-        if (number_at(file, at, 4) != place || number_at(file, at + 4, 2) > MAX_BODY ||
-            file->bytes[at + 6] > 2)
+        uint64_t len = get_number(file->bytes + at + 4, 2);
+        if (get_number(file->bytes + at, 4) != place || len > MAX_BODY || file->bytes[at + 6] > 2)
             return 0;
-        place += number_at(file, at + 4, 2);
+        place += len;
     }
     return place <= file->len;
 }
@@ -138,9 +83,10 @@ static void line(const char *format, ...)
 
 static void expect_index(const struct file *a, const struct file *b, size_t i)
 {
-    size_t at = 4 + CONTENTS * i, len = (size_t)number_at(a, at + 4, 2);
-    size_t other = (size_t)number_at(b, at + 4, 2);
-    const uint8_t *x = a->bytes + number_at(a, at, 4), *y = b->bytes + number_at(b, at, 4);
+    size_t at = 4 + CONTENTS * i, len = (size_t)get_number(a->bytes + at + 4, 2);
+    size_t other = (size_t)get_number(b->bytes + at + 4, 2);
+    const uint8_t *x = a->bytes + get_number(a->bytes + at, 4);
+    const uint8_t *y = b->bytes + get_number(b->bytes + at, 4);
     if (len != other) {
         line("length %zu %zu %zu\n", i, len, other);
     } else if (memcmp(a->bytes + at + 6, b->bytes + at + 6, 9) != 0) {
@@ -160,7 +106,7 @@ static uint64_t expect_compare(const struct file *a, const struct file *b)
         return RELAY_REFUSED_LENGTH;
     if (!well_formed(a) || !well_formed(b))
         return RELAY_REFUSED_MALFORMED;
-    size_t m = (size_t)number_at(a, 0, 4), n = (size_t)number_at(b, 0, 4);
+    size_t m = (size_t)get_number(a->bytes, 4), n = (size_t)get_number(b->bytes, 4);
     expected_len = 0;
     line("entries %zu %zu\n", m, n);
     for (size_t i = 0; i < m || i < n; i++) {
@@ -197,21 +143,21 @@ static uint64_t least(uint64_t a, uint64_t b)
 /* Of a file of 4 bytes at least. */
 static void expect_mend(const struct file *file)
 {
-    uint64_t stands = number_at(file, 0, 4);
+    uint64_t stands = get_number(file->bytes, 4);
     uint64_t count = least(least(stands, MAX_ENTRIES), (file->len - 4) / CONTENTS);
     uint64_t place = 4 + CONTENTS * count;
     change_words = 0;
     mended = *file;
-    put(&mended, 0, count, 4);
+    put_number(mended.bytes, 4, count);
     change(RELAY_CHANGE_OF_COUNT, 0, stands, count);
     for (uint64_t i = 0; i < count; i++) {
         size_t at = 4 + CONTENTS * (size_t)i;
-        uint64_t len = number_at(file, at + 4, 2), direction = file->bytes[at + 6];
+        uint64_t len = get_number(file->bytes + at + 4, 2), direction = file->bytes[at + 6];
         uint64_t cut = least(least(len, MAX_BODY), file->len - place);
-        put(&mended, at, place, 4);
-        put(&mended, at + 4, cut, 2);
-        put(&mended, at + 6, least(direction, 2), 1);
-        change(i, 1, number_at(file, at, 4), place);
+        put_number(mended.bytes + at, 4, place);
+        put_number(mended.bytes + at + 4, 2, cut);
+        put_number(mended.bytes + at + 6, 1, least(direction, 2));
+        change(i, 1, get_number(file->bytes + at, 4), place);
         change(i, 2, len, cut);
         change(i, 3, direction, least(direction, 2));
         place += cut;
@@ -222,22 +168,6 @@ static void expect_mend(const struct file *file)
 
 static uint64_t compares[NUMBERS], mends[NUMBERS];
 
-/* How often each number of a function was given; those that it may give and never did. */
-static uint64_t tell(const char *name, const uint64_t *counts, unsigned may)
-{
-    uint64_t calls = 0;
-    fprintf(stderr, "%-28s", name);
-    for (unsigned n = 0; n < NUMBERS; n++) {
-        calls += counts[n];
-        if (counts[n] > 0)
-            fprintf(stderr, " %u: %llu", n, (unsigned long long)counts[n]);
-        else if (may >> n & 1)
-            fprintf(stderr, " %u: never", n);
-    }
-    fprintf(stderr, "\n");
-    return calls;
-}
-
 static void report(void)
 {
     uint64_t calls = tell("relay_recording_compare", compares, 0x2f);
@@ -245,22 +175,13 @@ static void report(void)
     fprintf(stderr, "%llu calls checked\n", (unsigned long long)calls);
 }
 
-/* The room given: exact, one more, one less, none, much. */
-static size_t room_of(uint8_t room, size_t due)
-{
-    const size_t rooms[8] = {due, due, due, due + 1, due ? due - 1 : 0, 0, due + 100, due};
-    return rooms[room % 8];
-}
-
 static void check_compare(const struct file *a, const struct file *b, uint8_t ways, uint8_t room)
 {
     static uint8_t lent_out[TEXT_ROOM + 200];
     uint64_t answer[RELAY_ANSWER_WORDS + 1];
     int at_start = (ways & AT_START) != 0;
-    size_t words = RELAY_ANSWER_WORDS, due;
+    size_t words = answer_words(ways & BAD_ANSWER, room), due;
     uint64_t number = expect_compare(a, b);
-    if (ways & BAD_ANSWER)
-        words = room % 2 ? RELAY_ANSWER_WORDS - 1 : RELAY_ANSWER_WORDS + 1;
     due = room_of(room, number == RELAY_OK ? expected_len : 7);
     memset(lent_out, 0xa5, sizeof lent_out);
     memset(answer, 0x5a, sizeof answer);
@@ -296,10 +217,8 @@ static void check_mend(const struct file *file, uint8_t ways, uint8_t room)
     static uint64_t lent_report[CHANGES + 100];
     uint64_t answer[RELAY_ANSWER_WORDS + 1];
     int at_start = (ways & AT_START) != 0;
-    size_t words = RELAY_ANSWER_WORDS, due = 0;
+    size_t words = answer_words(ways & BAD_ANSWER, room), due = 0;
     uint64_t number = RELAY_REFUSED_LENGTH;
-    if (ways & BAD_ANSWER)
-        words = room % 2 ? RELAY_ANSWER_WORDS - 1 : RELAY_ANSWER_WORDS + 1;
     if (file->len >= 4) {
         expect_mend(file);
         due = room_of(room, change_words);

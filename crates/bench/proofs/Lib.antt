@@ -1,3 +1,4 @@
 pub mod HashLaws
 pub mod SubkeyLaws
 pub mod TagLaws
+pub mod DigestLaws

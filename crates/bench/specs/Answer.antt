@@ -8,6 +8,7 @@ use Rattle.octets.specs.Buffers.{put}
 use Rattle.octets.specs.Numbers.{be, toBe}
 use Rattle.ghash.specs.Ghash.{blocks, ghash}
 use Rattle.chacha_poly.specs.Aead as aead
+use Rattle.blake3.specs.Tree.{hash}
 use Rattle.protocol.specs.Method.{cipherOf}
 use Rattle.protocol.specs.Subkey.{subkey}
 use Rattle.session_record.specs.declared.Peer.{Peer}
@@ -52,6 +53,13 @@ subkeyLawful key salt out = leb (length key) 32 && (leb (length salt) 32 && leb 
 
 unfoldable pub subkeyOut : List ℕ → List ℕ → List ℕ → List ℕ
 subkeyOut key salt out = cond (subkeyLawful key salt out) (put out 0 (subkey key salt)) out
+
+-- a hash asks for room for 32 bytes
+unfoldable pub digestFits : List ℕ → Bool
+digestFits out = leb 32 (length out)
+
+unfoldable pub digestOut : List ℕ → List ℕ → List ℕ
+digestOut text out = cond (digestFits out) (put out 0 (hash text)) out
 
 -- ChaCha and Poly1305: there is room for a tag, and what is written then
 unfoldable pub tagFits : List ℕ → Bool

@@ -14,6 +14,7 @@ ghost use lib.ListN.{length};
 ghost use Rattle.bench.specs.Answer.{answer, number, hashLawful, hashOut, subkeyLawful, subkeyOut};
 ghost use Rattle.bench.specs.Answer.{tagFits, whereTagFits, textFits, verdictNumber, verdictOut};
 ghost use Rattle.bench.specs.Answer.{firstDatagram, firstDatagramOut, sealedNumber, openedNumber, nobody};
+ghost use Rattle.bench.specs.Answer.{digestFits, digestOut};
 ghost use Rattle.bench.specs.Answer.{subkeyIn, firstChunk, firstChunkOut, chunkNumber, payloadReceiver, steppedNumber};
 ghost use Rattle.datagram_open.specs.Deciding as deciding;
 ghost use Rattle.stream_open.specs.Chunks as chunks;
@@ -221,6 +222,20 @@ pub extern "C" fn bench_subkey(key: &[u8], salt: &[u8], out: &mut [u8]) -> u32
         return 1;
     }
     protocol::derive_subkey(key, salt, out);
+    0
+}
+
+// The BLAKE3 hash of a text to the front of the lent buffer: 0, or 1 and nothing written where there is no room for 32 bytes.
+#[no_mangle]
+pub extern "C" fn bench_blake3(text: &[u8], out: &mut [u8]) -> u32
+    ensures { λ r. ⌜ r ≡ answer (digestFits (now (out .entry))) ⌝ }
+    ensures { λ r. ⌜ now (out .exit) ≡ digestOut (now (text .entry)) (now (out .entry)) ⌝ }
+{
+    if out.len() < 32 {
+        return 1;
+    }
+    let digest = blake3_tree::hash(text);
+    octets::copy(out, 0, &digest);
     0
 }
 

@@ -1,20 +1,22 @@
--- The key words of the subkey's context, computed; what a derivation answers.
+-- The key words of the subkey's context, computed; what a derivation answers; the length of a hash.
 -- Assumes nothing.
 use mathlib.Core.Bool.{Bool, true, false, _&&_, and-false}
 use mathlib.Core.Path.{_≡_, refl, sym, ap, _∙_}
 use mathlib.Core.List.{List, [], _∷_}
 use Prim.Native.Nat.{ℕ, _<_, _≤_}
+use native.Mathlib.Omega.{arith}
 use borrow.Author.Tests.{le-leb, lt-leb}
 use lib.Dec.{leb}
 use lib.ListN.{length, replicate}
+use lib.Seq.{length-take-le}
 use Rattle.octets.specs.Numbers.{le}
 use Rattle.octets.specs.Buffers.{Octets}
 use Rattle.blake3_mixing.specs.Mixing.{add32, sum3, rotr, xor}
-use Rattle.blake3_compression.specs.Compression.{firstEight}
+use Rattle.blake3_compression.specs.Compression.{firstEight, iv}
 use Rattle.blake3.specs.Words.{blockWords}
 use Rattle.blake3_mixing.specs.Mixing.{half, G}
 use Rattle.blake3_compression.specs.Compression.{initial, wordsAt, setAt, mixAt, columns, diagonals, oneRound, permuted, rounds, final, compressed}
-use Rattle.blake3.specs.Tree.{Node, blocks, chunk, tree, rootOf, outputWords, output, contextKey, deriveAt, deriveKey}
+use Rattle.blake3.specs.Tree.{Node, blocks, chunk, tree, rootOf, outputWords, output, hash, contextKey, deriveAt, deriveKey}
 use Rattle.blake3.proofs.WordLaws.{length-wordBytes, octets-wordBytes}
 use Rattle.blake3.specs.Derivation.{short, answer, derived, subkeyContext}
 
@@ -30,7 +32,7 @@ pub derive-subkey : (material : List ℕ) → deriveAt subkeyKey material ≡ de
 unfolding deriveKey
 derive-subkey material = ap (λ (k : List ℕ). deriveAt k material) (sym subkey-context)
 
--- ---- what is derived is 64 bytes
+-- ---- what is derived is 64 bytes, and a hash 32
 
 length-output : (n : Node) → length (output n) ≡ 64
 unfolding output outputWords compressed final
@@ -39,6 +41,10 @@ length-output n = length-wordBytes (outputWords n 0)
 octets-output : (n : Node) → Octets (output n)
 unfolding output
 octets-output n = octets-wordBytes (outputWords n 0)
+
+pub length-hash : (s : List ℕ) → length (hash s) ≡ 32
+unfolding hash
+length-hash s = let n = rootOf iv 0 s in length-take-le 32 (output n) (omega (arith, length-output n))
 
 pub length-deriveKey : (context material : List ℕ) → length (deriveKey context material) ≡ 64
 unfolding deriveKey deriveAt

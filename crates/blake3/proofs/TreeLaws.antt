@@ -1,21 +1,29 @@
--- The tree over one block is the block's own chunk.
+-- The tree over some bytes: that of fewer levels, or the parent of two. Over one block it is the block's own chunk.
 -- Assumes nothing.
 use mathlib.Core.Path.{_≡_, sym, ap, _∙_}
 use mathlib.Core.List.{List}
-use Prim.Native.Nat.{ℕ, zero, suc, _+_, _-_, _*_, _/_, _^_, _≤_}
+use Prim.Native.Nat.{ℕ, zero, suc, _+_, _-_, _*_, _/_, _^_, _<_, _≤_}
 use native.Mathlib.Nat.{suc-add, zero-add, le-trans, le-add-left, mul-le-mul-left}
 use native.Mathlib.Omega.{arith}
-use borrow.Author.Tests.{le-leb}
-use lib.ListN.{length}
+use borrow.Author.Tests.{le-leb, lt-leb}
+use lib.ListN.{length, take, drop}
 use lib.Pow.{pow-mono}
 use Rattle.blake3.specs.Words.{blockWords}
 use Rattle.blake3_compression.specs.Compression.{compressed}
-use Rattle.blake3.specs.Tree.{Node, blocks, chunk, tree, rootOf, outputWords}
+use Rattle.blake3.specs.Tree.{Node, blocks, chunk, chainingValue, parentNode, tree, rootOf, outputWords}
 
 module _ (k : List ℕ) (d t : ℕ) (s : List ℕ) where
   tree-down : (n : ℕ) → length s ≤ 1024 * 2 ^ n → tree (suc n) k d t s ≡ tree n k d t s
   unfolding tree
   tree-down n h = rw (le-leb (length s) (1024 * 2 ^ n) h, tree)
+
+  pub tree-split : (n : ℕ) → 1024 * 2 ^ n < length s
+      → tree (suc n) k d t s
+      ≡ parentNode k d
+      (chainingValue (tree n k d t (take (1024 * 2 ^ n) s)))
+      (chainingValue (tree n k d (t + 2 ^ n) (drop (1024 * 2 ^ n) s)))
+  unfolding tree
+  tree-split n h = rw (lt-leb (length s) (1024 * 2 ^ n) h, tree)
 
   -- levels above the bytes' own change nothing
   pub tree-fits : (j n : ℕ) → length s ≤ 1024 * 2 ^ n → tree (j + n) k d t s ≡ tree n k d t s

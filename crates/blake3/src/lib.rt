@@ -2,7 +2,7 @@
 // one block, the root of its own tree, and costs one compression.
 use blake3_compression::compress;
 ghost use mathlib.Core.Path.{_≡_};
-ghost use Prim.Native.Nat.{_≤_};
+ghost use Prim.Native.Nat.{_*_, _≤_};
 ghost use lib.ListN.{length};
 ghost use Rattle.octets.specs.Buffers.{put};
 ghost use Rattle.blake3_compression.specs.Compression.{firstEight};
@@ -10,17 +10,17 @@ ghost use Rattle.blake3.specs.Words.{blockWords, wordBytes};
 ghost use Rattle.blake3.specs.Tree.{rootOf, outputWords, contextKey, deriveAt, deriveKey};
 ghost use Rattle.blake3.specs.Derivation.{derived, subkeyContext};
 
-const CHUNK_START: u32 = 1;
+pub const CHUNK_START: u32 = 1;
 
-const CHUNK_END: u32 = 2;
+pub const CHUNK_END: u32 = 2;
 
-const ROOT: u32 = 8;
+pub const ROOT: u32 = 8;
 
 const DERIVE_KEY_CONTEXT: u32 = 32;
 
 const DERIVE_KEY_MATERIAL: u32 = 64;
 
-const IV: [u32; 8] = [
+pub const IV: [u32; 8] = [
     0x6A09_E667,
     0xBB67_AE85,
     0x3C6E_F372,
@@ -50,7 +50,7 @@ pub struct Derived {
 }
 
 // The sixteen words of a block, with zeros behind it.
-fn block_words(s: &[u8]) -> [u32; 16]
+pub fn block_words(s: &[u8]) -> [u32; 16]
     ensures { λ r. ⌜ r ≡ blockWords (now (s .entry)) ⌝ }
 {
     [
@@ -73,19 +73,18 @@ fn block_words(s: &[u8]) -> [u32; 16]
     ]
 }
 
-fn first_eight(o: [u32; 16]) -> [u32; 8]
+pub fn first_eight(o: [u32; 16]) -> [u32; 8]
     ensures { λ r. ⌜ r ≡ firstEight o ⌝ }
 {
     [o[0], o[1], o[2], o[3], o[4], o[5], o[6], o[7]]
 }
 
-// The bytes of sixteen words, to the front of a buffer.
-fn write_words(out: &mut [u8], o: &[u32])
-    requires { ⌜ length (now o) ≡ 16 ⌝ }
-    requires { ⌜ length (now out) ≡ 64 ⌝ }
+// The bytes of some words, to the front of a buffer.
+pub fn write_words(out: &mut [u8], o: &[u32])
+    requires { ⌜ 4 * length (now o) ≤ length (now out) ⌝ }
     ensures { λ _. ⌜ now (out .exit) ≡ put (now (out .entry)) 0 (wordBytes (now (o .entry))) ⌝ }
 {
-    for i in 0..16 {
+    for i in 0..o.len() {
         octets::write_u32_le(out, 4 * i, o[i]);
     }
 }

@@ -1,142 +1,194 @@
-// The compression function of BLAKE3.
+// The compression function of BLAKE3, on a state that is held as its four columns; a message is held in the same way. The compiler
+// keeps structs in registers, and arrays in memory.
 use blake3_mixing::Quad;
 use blake3_mixing::mix;
 ghost use mathlib.Core.Path.{_≡_};
-ghost use Prim.Native.Nat.{_<_};
-ghost use Rattle.blake3_compression.specs.Compression.{mixAt, columns, diagonals, oneRound, permuted, rounds, initial, final, compressed};
+ghost use Rattle.blake3_compression.specs.Compression.{columns, diagonals, oneRound, permuted, rounds, initial, final, compressed};
+ghost use Rattle.blake3_compression.specs.Columns.{words, diagonal as diagonalOf, sixteen};
 
-// G on the words of the state v at the places a, b, c and d.
-fn mix_at(v: [u32; 16], a: usize, b: usize, c: usize, d: usize, x: u32, y: u32) -> [u32; 16]
-    requires { ⌜ (a < 16) × (b < 16) × (c < 16) × (d < 16) ⌝ }
-    ensures { λ t. ⌜ t ≡ mixAt v a b c d x y ⌝ }
-{
-    let q = mix(
-        Quad {
-            a: v[a],
-            b: v[b],
-            c: v[c],
-            d: v[d],
-        },
-        x,
-        y,
-    );
-    let mut t = v;
-    t[a] = q.a;
-    t[b] = q.b;
-    t[c] = q.c;
-    t[d] = q.d;
-    t
+pub struct State {
+    pub p: Quad,
+    pub q: Quad,
+    pub r: Quad,
+    pub s: Quad,
 }
 
-fn mix_columns(v: [u32; 16], m: [u32; 16]) -> [u32; 16]
-    ensures { λ t. ⌜ t ≡ columns v m ⌝ }
+fn mix_columns(t: State, m: State) -> State
+    ensures { λ u. ⌜ words u ≡ columns (words t) (words m) ⌝ }
 {
-    let v1 = mix_at(v, 0, 4, 8, 12, m[0], m[1]);
-    let v2 = mix_at(v1, 1, 5, 9, 13, m[2], m[3]);
-    let v3 = mix_at(v2, 2, 6, 10, 14, m[4], m[5]);
-    mix_at(v3, 3, 7, 11, 15, m[6], m[7])
+    let p = mix(t.p, m.p.a, m.q.a);
+    let q = mix(t.q, m.r.a, m.s.a);
+    let r = mix(t.r, m.p.b, m.q.b);
+    let s = mix(t.s, m.r.b, m.s.b);
+    State { p, q, r, s }
 }
 
-fn mix_diagonals(v: [u32; 16], m: [u32; 16]) -> [u32; 16]
-    ensures { λ t. ⌜ t ≡ diagonals v m ⌝ }
+// The words of four columns that lie on a diagonal which starts in the first.
+fn diagonal(a: Quad, b: Quad, c: Quad, d: Quad) -> Quad
+    ensures { λ q. ⌜ q ≡ diagonalOf a b c d ⌝ }
 {
-    let v1 = mix_at(v, 0, 5, 10, 15, m[8], m[9]);
-    let v2 = mix_at(v1, 1, 6, 11, 12, m[10], m[11]);
-    let v3 = mix_at(v2, 2, 7, 8, 13, m[12], m[13]);
-    mix_at(v3, 3, 4, 9, 14, m[14], m[15])
+    Quad {
+        a: a.a,
+        b: b.b,
+        c: c.c,
+        d: d.d,
+    }
 }
 
-fn round(v: [u32; 16], m: [u32; 16]) -> [u32; 16]
-    ensures { λ t. ⌜ t ≡ oneRound v m ⌝ }
+// Of four diagonals, the columns are the diagonals that run the other way.
+fn mix_diagonals(t: State, m: State) -> State
+    ensures { λ u. ⌜ words u ≡ diagonals (words t) (words m) ⌝ }
 {
-    mix_diagonals(mix_columns(v, m), m)
+    let p = mix(diagonal(t.p, t.q, t.r, t.s), m.p.c, m.q.c);
+    let q = mix(diagonal(t.q, t.r, t.s, t.p), m.r.c, m.s.c);
+    let r = mix(diagonal(t.r, t.s, t.p, t.q), m.p.d, m.q.d);
+    let s = mix(diagonal(t.s, t.p, t.q, t.r), m.r.d, m.s.d);
+    State {
+        p: diagonal(p, s, r, q),
+        q: diagonal(q, p, s, r),
+        r: diagonal(r, q, p, s),
+        s: diagonal(s, r, q, p),
+    }
+}
+
+fn round(t: State, m: State) -> State
+    ensures { λ u. ⌜ words u ≡ oneRound (words t) (words m) ⌝ }
+{
+    mix_diagonals(mix_columns(t, m), m)
 }
 
 // The message words in the next round's order.
-fn permute(m: [u32; 16]) -> [u32; 16]
-    ensures { λ t. ⌜ t ≡ permuted m ⌝ }
+fn permute(m: State) -> State
+    ensures { λ u. ⌜ words u ≡ permuted (words m) ⌝ }
 {
-    [
-        m[2],
-        m[6],
-        m[3],
-        m[10],
-        m[7],
-        m[0],
-        m[4],
-        m[13],
-        m[1],
-        m[11],
-        m[12],
-        m[5],
-        m[9],
-        m[14],
-        m[15],
-        m[8],
-    ]
+    State {
+        p: Quad {
+            a: m.r.a,
+            b: m.s.b,
+            c: m.q.a,
+            d: m.q.c,
+        },
+        q: Quad {
+            a: m.r.b,
+            b: m.p.a,
+            c: m.s.c,
+            d: m.r.d,
+        },
+        r: Quad {
+            a: m.s.a,
+            b: m.p.b,
+            c: m.p.d,
+            d: m.s.d,
+        },
+        s: Quad {
+            a: m.r.c,
+            b: m.q.d,
+            c: m.q.b,
+            d: m.p.c,
+        },
+    }
 }
 
-fn seven_rounds(v: [u32; 16], m: [u32; 16]) -> [u32; 16]
-    ensures { λ t. ⌜ t ≡ rounds 7 v m ⌝ }
+fn seven_rounds(t: State, m: State) -> State
+    ensures { λ u. ⌜ words u ≡ rounds 7 (words t) (words m) ⌝ }
 {
-    let mut s = v;
+    let mut v = t;
     let mut w = m;
     let mut left: u32 = 7;
     while 0 < left {
-        let t = round(s, w);
-        s = t;
-        let u = permute(w);
-        w = u;
+        let next = round(v, w);
+        v = next;
+        let order = permute(w);
+        w = order;
         left -= 1;
     }
-    s
+    v
 }
 
 // The state before the first round.
-fn start(h: [u32; 8], t: u64, b: u32, d: u32) -> [u32; 16]
-    ensures { λ r. ⌜ r ≡ initial h t b d ⌝ }
+fn start(h: [u32; 8], t: u64, b: u32, d: u32) -> State
+    ensures { λ u. ⌜ words u ≡ initial h t b d ⌝ }
 {
-    [
-        h[0],
-        h[1],
-        h[2],
-        h[3],
-        h[4],
-        h[5],
-        h[6],
-        h[7],
-        0x6A09_E667,
-        0xBB67_AE85,
-        0x3C6E_F372,
-        0xA54F_F53A,
-        (t % 0x1_0000_0000) as u32,
-        (t / 0x1_0000_0000) as u32,
-        b,
-        d,
-    ]
+    State {
+        p: Quad {
+            a: h[0],
+            b: h[4],
+            c: 0x6A09_E667,
+            d: (t % 0x1_0000_0000) as u32,
+        },
+        q: Quad {
+            a: h[1],
+            b: h[5],
+            c: 0xBB67_AE85,
+            d: (t / 0x1_0000_0000) as u32,
+        },
+        r: Quad {
+            a: h[2],
+            b: h[6],
+            c: 0x3C6E_F372,
+            d: b,
+        },
+        s: Quad {
+            a: h[3],
+            b: h[7],
+            c: 0xA54F_F53A,
+            d,
+        },
+    }
+}
+
+fn columns_of(m: [u32; 16]) -> State
+    ensures { λ u. ⌜ words u ≡ sixteen m ⌝ }
+{
+    State {
+        p: Quad {
+            a: m[0],
+            b: m[4],
+            c: m[8],
+            d: m[12],
+        },
+        q: Quad {
+            a: m[1],
+            b: m[5],
+            c: m[9],
+            d: m[13],
+        },
+        r: Quad {
+            a: m[2],
+            b: m[6],
+            c: m[10],
+            d: m[14],
+        },
+        s: Quad {
+            a: m[3],
+            b: m[7],
+            c: m[11],
+            d: m[15],
+        },
+    }
 }
 
 // The output, from the last state.
-fn finish(v: [u32; 16], h: [u32; 8]) -> [u32; 16]
-    ensures { λ r. ⌜ r ≡ final v h ⌝ }
+fn finish(v: State, h: [u32; 8]) -> [u32; 16]
+    ensures { λ r. ⌜ r ≡ final (words v) h ⌝ }
 {
     [
-        v[0] ^ v[8],
-        v[1] ^ v[9],
-        v[2] ^ v[10],
-        v[3] ^ v[11],
-        v[4] ^ v[12],
-        v[5] ^ v[13],
-        v[6] ^ v[14],
-        v[7] ^ v[15],
-        v[8] ^ h[0],
-        v[9] ^ h[1],
-        v[10] ^ h[2],
-        v[11] ^ h[3],
-        v[12] ^ h[4],
-        v[13] ^ h[5],
-        v[14] ^ h[6],
-        v[15] ^ h[7],
+        v.p.a ^ v.p.c,
+        v.q.a ^ v.q.c,
+        v.r.a ^ v.r.c,
+        v.s.a ^ v.s.c,
+        v.p.b ^ v.p.d,
+        v.q.b ^ v.q.d,
+        v.r.b ^ v.r.d,
+        v.s.b ^ v.s.d,
+        v.p.c ^ h[0],
+        v.q.c ^ h[1],
+        v.r.c ^ h[2],
+        v.s.c ^ h[3],
+        v.p.d ^ h[4],
+        v.q.d ^ h[5],
+        v.r.d ^ h[6],
+        v.s.d ^ h[7],
     ]
 }
 
@@ -144,5 +196,5 @@ fn finish(v: [u32; 16], h: [u32; 8]) -> [u32; 16]
 pub fn compress(h: [u32; 8], m: [u32; 16], t: u64, b: u32, d: u32) -> [u32; 16]
     ensures { λ r. ⌜ r ≡ compressed h m t b d ⌝ }
 {
-    finish(seven_rounds(start(h, t, b, d), m), h)
+    finish(seven_rounds(start(h, t, b, d), columns_of(m)), h)
 }

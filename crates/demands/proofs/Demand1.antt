@@ -12,9 +12,10 @@ use borrow.Author.Tests.{eqb-true, eqb-false}
 use Rattle.octets.proofs.BufferLaws.{length-put}
 use Rattle.protocol.specs.declared.Refusal.{Refusal}
 use Rattle.protocol.specs.Method.{cipherOf}
-use Rattle.protocol.specs.Refusal.{refusalNumber, wantedBytes}
-use Rattle.session_table.specs.Table.{recordWords, tableWords, lawful, taken, newTable, makeLawful, made, madeRetention}
-use Rattle.session_table.proofs.TableLaws.{wrong-length, else-itself, new-length, made-in-range, below-range, above-range}
+use Rattle.protocol.specs.Refusal.{refusalNumber, added}
+use Rattle.session_table.specs.Table.{recordWords, tableWords, lawful, taken, newTable, makeLawful, made, madeRetention, lawfulRetention}
+use Rattle.retention.proofs.RetentionLaws.{else-itself}
+use Rattle.session_table.proofs.TableLaws.{wrong-length, new-length, made-in-range, below-range, above-range}
 use Rattle.session_table.specs.Sizes.{capacity}
 use Rattle.salt_pool.specs.Pool as pool
 use Rattle.datagram_seal.specs.declared.Sender.{Sender}
@@ -70,7 +71,7 @@ module _ (method : ℕ) (key nonce : List ℕ) (sender : Sender) (time : ℕ) (a
       by-order (Datagram n) e = sealed n e
       by-order (Refused r) e =
           refused r
-          (of-order (sealOrder method (length key) (length nonce) sender address padding (length payload) (length out)) _ (refusalNumber r) (wantedBytes r)
+          (of-order (sealOrder method (length key) (length nonce) sender address padding (length payload) (length out)) _ (refusalNumber r) (added r)
           (sym (orders .datagram-sealed method (length key) (length nonce) sender address padding (length payload) (length out)) ∙ ap saidSealed e)) e
 
       kept : (a : Sealed) → answer ≡ a → length (sealOut answer text out) ≡ length out
@@ -119,7 +120,7 @@ tables-made =
       table-made-R = λ R t e l u. table-R R t e l u .0;
       too-few-seconds = λ R t l u. let k = itself R l in below-range R t (omega (arith, k, u));
       too-many-seconds = λ R t l. let k = itself R (omega (arith, l)) in above-range R t (omega (arith, k, l));
-      other-length = λ R t n. wrong-length (length t) (madeRetention R) n;
+      other-length = λ R t n. wrong-length (length t) (lawfulRetention R) n;
       table-refused = λ R t e. ap (λ (b : Bool). cond b (newTable (madeRetention R)) t) e;
       table-length = λ R t. made-length (makeLawful R t) (newTable (madeRetention R)) t
           (λ e. new-length (madeRetention R) ∙ sym (eqb-true (length t) tableWords (and-eq-true-iff (eqb (length t) tableWords) _ .0 e .0)));

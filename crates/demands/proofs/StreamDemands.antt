@@ -11,7 +11,7 @@ use lib.ListN.{length, replicate, length-replicate}
 use borrow.Author.Tests.{eq-eqb, ne-eqb}
 use Rattle.octets.specs.Buffers.{put}
 use Rattle.protocol.specs.declared.Refusal.{Refusal}
-use Rattle.protocol.specs.declared.Refusal.the-variants.{Settings, Length as TooLong, Room, NotAuthentic, Malformed, WrongType, WrongTime, Replay, Full, More, Counter, Argument, Binding, Empty}
+use Rattle.protocol.specs.declared.Refusal.the-variants.{Settings, Length as TooLong, Room, NotAuthentic, Malformed, WrongType, WrongTime, Replay, Full, More, Counter, Argument, Binding, Empty, UnknownSetting}
 use Rattle.protocol.specs.Refusal.{refusalNumber, endsStream}
 use Rattle.protocol.specs.Orders.{among}
 use Rattle.protocol.specs.Method.{keyFits, keyLength, saltLength, cipherOf}
@@ -72,6 +72,7 @@ ends-alike Counter = refl
 ends-alike Argument = refl
 ends-alike Binding = refl
 ends-alike Empty = refl
+ends-alike (UnknownSetting setting) = refl
 
 module _ (st : Receiver) (s out : List ℕ) where
   abbrev answer : VariableOpened
@@ -278,6 +279,7 @@ step-numbers method =
     ends Counter of = refl
     ends Argument of = refl
     ends Binding of = refl
+    ends (UnknownSetting setting) of = refl
 
 steps-keep : (st : Receiver) (s out : List ℕ) → StepKeeps stepRefusals stepEnds (framingOf (st .method)) st s out
 steps-keep st s out = step-keeps stepRefusals stepEnds (framingOf (st .method)) (step-numbers (st .method)) st s out

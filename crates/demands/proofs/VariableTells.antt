@@ -13,7 +13,7 @@ use Rattle.octets.specs.Buffers.{put}
 use Rattle.octets.proofs.BufferLaws.{put-again}
 use Rattle.protocol.specs.declared.Refusal.{Refusal}
 use Rattle.protocol.specs.declared.Refusal.the-variants.{Settings, Room, NotAuthentic, Malformed, More}
-use Rattle.protocol.specs.Refusal.{refusalNumber, wantedBytes}
+use Rattle.protocol.specs.Refusal.{refusalNumber, added}
 use Rattle.protocol.specs.Method.{keyLength}
 use Rattle.socks5.specs.declared.Address.{Address}
 use Rattle.socks5.specs.declared.Parsed.{Parsed}
@@ -279,7 +279,7 @@ more-tells st s out wanted e = go (way st s out)
     go : Way st s out → Missing st s wanted
     go (refused r o p er eo) = absurd (not-ten r p (ap refusalNumber (same r er)))
     go (missing n eu short er eo) =
-        record { size = n; at-turn = eu; asks = sym (ap wantedBytes (same (More (n + 16)) er)); short = short }
+        record { size = n; at-turn = eu; asks = sym (ap added (same (More (n + 16)) er)); short = short }
     go (zeroed n eu room er eo) = absurd (let z : _≡_ {A = ℕ} 5 10 = ap refusalNumber (same Malformed er) in omega arith)
     go (opened h d q) = absurd (not-header _ (More wanted) h e (q .answers))
 

@@ -15,7 +15,7 @@ use Rattle.session_table.specs.Table.{retention, recordAt, lawful, freshIn, ses
 use Rattle.session_book.specs.Call.{Answer, refused, opened}
 use Rattle.protocol.specs.Method.{keyFits, cipherOf}
 use Rattle.protocol.specs.declared.Refusal.{Refusal}
-use Rattle.protocol.specs.declared.Refusal.the-variants.{Settings, Length, Room, NotAuthentic, Malformed, WrongType, WrongTime, Replay, Full, More, Counter, Argument, Binding, Empty}
+use Rattle.protocol.specs.declared.Refusal.the-variants.{Settings, Length, Room, NotAuthentic, Malformed, WrongType, WrongTime, Replay, Full, More, Counter, Argument, Binding, Empty, UnknownSetting}
 use Rattle.protocol.specs.Refusal.{refusalNumber}
 use Rattle.protocol.specs.Time.{timeValid}
 use Rattle.socks5.specs.declared.Address.{Address}
@@ -50,6 +50,7 @@ ofOpener Counter = false
 ofOpener Argument = false
 ofOpener Binding = true
 ofOpener Empty = false
+ofOpener (UnknownSetting setting) = false
 
 -- a header, or the number of one of these refusals
 pub data Answered (a : Answer Header) : Type 0 where

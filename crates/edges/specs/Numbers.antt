@@ -19,8 +19,8 @@ use Rattle.protocol.specs.declared.Numbered.{Numbered}
 use Rattle.protocol.specs.declared.Numbered.the-variants.{Known, Unknown}
 use Rattle.protocol.specs.Method.{methodOf, keyFits, keyLength, saltLength}
 use Rattle.protocol.specs.declared.Refusal.{Refusal}
-use Rattle.protocol.specs.declared.Refusal.the-variants.{Settings, Length, Room, NotAuthentic, Malformed, WrongType, WrongTime, Replay, Full, More, Counter, Argument, Binding, Empty}
-use Rattle.protocol.specs.Refusal.{refusalNumber, wantedBytes}
+use Rattle.protocol.specs.declared.Refusal.the-variants.{Settings, Length, Room, NotAuthentic, Malformed, WrongType, WrongTime, Replay, Full, More, Counter, Argument, Binding, Empty, UnknownSetting}
+use Rattle.protocol.specs.Refusal.{refusalNumber, added}
 use Rattle.protocol.specs.Subkey.{subkey, sessionSubkey}
 use Rattle.protocol.specs.Time.{tolerance}
 use Rattle.socks5.specs.declared.Target.{Target}
@@ -100,7 +100,7 @@ sizesOf Unknown = []
 abbrev pub refusals : List Refusal
 refusals =
     Settings ∷ Length ∷ Room ∷ NotAuthentic ∷ Malformed ∷ WrongType ∷ WrongTime ∷ Replay ∷ Full ∷ More 43 ∷ Counter ∷ Argument
-    ∷ Binding ∷ Empty ∷ []
+    ∷ Binding ∷ Empty ∷ UnknownSetting 127 ∷ []
 
 unfoldable pub methodFacts : List Fact
 methodFacts =
@@ -116,9 +116,9 @@ methodFacts =
     ∷ fact (sizesOf (methodOf (2 ^ 32 + 1))) []
     ∷ fact (keyLength 1 ∷ keyLength 2 ∷ saltLength 1 ∷ saltLength 2 ∷ []) (16 ∷ 32 ∷ 16 ∷ 32 ∷ [])
     ∷ fact (bits (keyFits 1 16 ∷ keyFits 1 32 ∷ keyFits 2 32 ∷ keyFits 2 16 ∷ keyFits 0 0 ∷ [])) (1 ∷ 0 ∷ 1 ∷ 0 ∷ 0 ∷ [])
-    ∷ fact (map refusalNumber refusals) (1 ∷ 2 ∷ 3 ∷ 4 ∷ 5 ∷ 6 ∷ 7 ∷ 8 ∷ 9 ∷ 10 ∷ 11 ∷ 12 ∷ 13 ∷ 14 ∷ [])
-    -- only 10 adds a count
-    ∷ fact (map wantedBytes refusals) (0 ∷ 0 ∷ 0 ∷ 0 ∷ 0 ∷ 0 ∷ 0 ∷ 0 ∷ 0 ∷ 43 ∷ 0 ∷ 0 ∷ 0 ∷ 0 ∷ [])
+    ∷ fact (map refusalNumber refusals) (1 ∷ 2 ∷ 3 ∷ 4 ∷ 5 ∷ 6 ∷ 7 ∷ 8 ∷ 9 ∷ 10 ∷ 11 ∷ 12 ∷ 13 ∷ 14 ∷ 15 ∷ [])
+    -- only 10 adds a count, and 15 a setting
+    ∷ fact (map added refusals) (0 ∷ 0 ∷ 0 ∷ 0 ∷ 0 ∷ 0 ∷ 0 ∷ 0 ∷ 0 ∷ 43 ∷ 0 ∷ 0 ∷ 0 ∷ 0 ∷ 127 ∷ [])
     ∷ number tolerance 30
     ∷ []
 
@@ -487,7 +487,7 @@ hostFacts =
     ∷ fact (refusedAnswer Room sevens) sevens
     ∷ fact (steppedAnswer (StepOpened (record { used = 18; length = 5 })) sevens) (18 ∷ 5 ∷ replicate 7 7)
     -- of all refusals 4, 5 and 14 end a stream
-    ∷ fact (map turnBehind refusals) (1 ∷ 1 ∷ 1 ∷ 0 ∷ 0 ∷ 1 ∷ 1 ∷ 1 ∷ 1 ∷ 1 ∷ 1 ∷ 1 ∷ 1 ∷ 0 ∷ [])
+    ∷ fact (map turnBehind refusals) (1 ∷ 1 ∷ 1 ∷ 0 ∷ 0 ∷ 1 ∷ 1 ∷ 1 ∷ 1 ∷ 1 ∷ 1 ∷ 1 ∷ 1 ∷ 0 ∷ 1 ∷ [])
     ∷ fact (map turnAfterHeader (Settings ∷ NotAuthentic ∷ More 19 ∷ Room ∷ Malformed ∷ [])) (4 ∷ 0 ∷ 4 ∷ 4 ∷ 0 ∷ [])
     -- sealing on a stream that has ended, and at another turn: an empty payload, one of a byte, and no method
     ∷ fact

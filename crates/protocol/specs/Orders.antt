@@ -4,7 +4,7 @@ use mathlib.Core.List.{List, [], _∷_}
 use Prim.Native.Nat.{ℕ}
 use lib.Dec.{eqb}
 use Rattle.protocol.specs.declared.Refusal.{Refusal}
-use Rattle.protocol.specs.Refusal.{refusalNumber, wantedBytes}
+use Rattle.protocol.specs.Refusal.{refusalNumber, added}
 
 -- ---- which refusals are given, by their numbers
 
@@ -27,6 +27,10 @@ rule n b = record { number = n; adds = 0; when = b }
 abbrev pub more : ℕ → Bool → Rule
 more wanted b = record { number = 10; adds = wanted; when = b }
 
+-- number 15 adds the setting's number
+abbrev pub unknownSetting : ℕ → Bool → Rule
+unknownSetting setting b = record { number = 15; adds = setting; when = b }
+
 -- what a call says: a refusal's number with what it adds, or its value
 pub data Said (A : Type 0) : Type 0 where
   refuses : (number adds : ℕ) → Said A
@@ -37,4 +41,4 @@ first [] v = gives v
 first (r ∷ rs) v = cond (r .when) (refuses (r .number) (r .adds)) (first rs v)
 
 abbrev pub refusesWith : {A : Type 0} → Refusal → Said A
-refusesWith r = refuses (refusalNumber r) (wantedBytes r)
+refusesWith r = refuses (refusalNumber r) (added r)

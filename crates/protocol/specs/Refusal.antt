@@ -1,8 +1,8 @@
--- The numbers given back: one for each refusal, the count that number 10 adds, and which of them end a stream.
+-- The numbers given back: one for each refusal, what numbers 10 and 15 add, and which of them end a stream.
 use mathlib.Core.Bool.{Bool, true, false}
 use Prim.Native.Nat.{ℕ}
 use Rattle.protocol.specs.declared.Refusal.{Refusal}
-use Rattle.protocol.specs.declared.Refusal.the-variants.{Settings, Length, Room, NotAuthentic, Malformed, WrongType, WrongTime, Replay, Full, More, Counter, Argument, Binding, Empty}
+use Rattle.protocol.specs.declared.Refusal.the-variants.{Settings, Length, Room, NotAuthentic, Malformed, WrongType, WrongTime, Replay, Full, More, Counter, Argument, Binding, Empty, UnknownSetting}
 
 abbrev pub refusalNumber : Refusal → ℕ
 refusalNumber Settings = 1
@@ -19,23 +19,25 @@ refusalNumber Counter = 11
 refusalNumber Argument = 12
 refusalNumber Binding = 13
 refusalNumber Empty = 14
+refusalNumber (UnknownSetting setting) = 15
 
--- the number of bytes wanted in all, and 0 for the others
-abbrev pub wantedBytes : Refusal → ℕ
-wantedBytes (More wanted) = wanted
-wantedBytes Settings = 0
-wantedBytes Length = 0
-wantedBytes Room = 0
-wantedBytes NotAuthentic = 0
-wantedBytes Malformed = 0
-wantedBytes WrongType = 0
-wantedBytes WrongTime = 0
-wantedBytes Replay = 0
-wantedBytes Full = 0
-wantedBytes Counter = 0
-wantedBytes Argument = 0
-wantedBytes Binding = 0
-wantedBytes Empty = 0
+-- the number of bytes wanted in all, the unknown setting's number, and 0 for the others
+abbrev pub added : Refusal → ℕ
+added (More wanted) = wanted
+added (UnknownSetting setting) = setting
+added Settings = 0
+added Length = 0
+added Room = 0
+added NotAuthentic = 0
+added Malformed = 0
+added WrongType = 0
+added WrongTime = 0
+added Replay = 0
+added Full = 0
+added Counter = 0
+added Argument = 0
+added Binding = 0
+added Empty = 0
 
 -- the only place that says so: a wrong tag, a malformed header and an empty chunk end the stream that is opened; it answers
 -- number 4 from then on
@@ -54,3 +56,4 @@ endsStream (More wanted) = false
 endsStream Counter = false
 endsStream Argument = false
 endsStream Binding = false
+endsStream (UnknownSetting setting) = false

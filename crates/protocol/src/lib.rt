@@ -1,7 +1,7 @@
 // What the layers of SIP022 share: methods, refusals, the time rule.
 ghost use mathlib.Core.Path.{_≡_};
 ghost use Rattle.protocol.specs.Method.{maxKey, aes128, aes256, chacha, chacha20, chacha12, chacha8, methodOf, keyFits, keyLength, saltLength, cipherOf};
-ghost use Rattle.protocol.specs.Refusal.{refusalNumber, wantedBytes, endsStream};
+ghost use Rattle.protocol.specs.Refusal.{refusalNumber, added, endsStream};
 ghost use Rattle.protocol.specs.Subkey.{subkey};
 ghost use Rattle.protocol.specs.Time.{timeValid};
 ghost use Prim.Native.Nat.{_≤_};
@@ -165,7 +165,7 @@ pub fn cipher_of(method: u64) -> Cipher
     }
 }
 
-// Why a call was refused. More carries the number of bytes wanted in all.
+// Why a call was refused. More carries the number of bytes wanted in all, UnknownSetting the setting's number.
 pub enum Refusal {
     Settings,
     Length,
@@ -181,6 +181,7 @@ pub enum Refusal {
     Argument,
     Binding,
     Empty,
+    UnknownSetting(u64),
 }
 
 impl Refusal {
@@ -202,12 +203,13 @@ impl Refusal {
             Refusal::Argument => 12,
             Refusal::Binding => 13,
             Refusal::Empty => 14,
+            Refusal::UnknownSetting(_) => 15,
         }
     }
 
-    // The number of bytes wanted in all; 0 for every other refusal.
-    pub fn wanted(self) -> u64
-        ensures { λ r. ⌜ r ≡ wantedBytes self ⌝ }
+    // What a refusal tells beside its number: the bytes wanted in all, or the setting's number; 0 for every other.
+    pub fn added(self) -> u64
+        ensures { λ r. ⌜ r ≡ added self ⌝ }
     {
         match self {
             Refusal::Settings => 0,
@@ -224,6 +226,7 @@ impl Refusal {
             Refusal::Argument => 0,
             Refusal::Binding => 0,
             Refusal::Empty => 0,
+            Refusal::UnknownSetting(n) => n,
         }
     }
 
@@ -246,6 +249,7 @@ impl Refusal {
             Refusal::Argument => false,
             Refusal::Binding => false,
             Refusal::Empty => true,
+            Refusal::UnknownSetting(_) => false,
         }
     }
 }

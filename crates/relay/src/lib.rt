@@ -5,6 +5,7 @@ mod datagrams;
 mod edition_2017;
 mod plans;
 mod recordings;
+mod settings;
 mod streams;
 
 pub use stream_answers::SETTINGS;

@@ -5,42 +5,30 @@ use mathlib.Core.Bool.{Bool, true, false, _&&_, cond, and-false, and-eq-true-iff
 use mathlib.Core.List.{List, _∷_}
 use mathlib.Core.Option.{Option, none, some}
 use mathlib.Core.Path.{_≡_, sym, ap, _∙_}
-use lib.Dec.{leb, eqb}
+use lib.Dec.{eqb}
 use lib.ListN.{length, set, replicate, length-replicate}
-use borrow.Author.Tests.{eq-eqb, ne-eqb, eqb-true, le-leb, lt-leb}
+use borrow.Author.Tests.{eq-eqb, ne-eqb, eqb-true}
 use Rattle.session_record.specs.declared.Peer.{Peer}
 use Rattle.session_table.specs.declared.Admitted.the-variants.{Replay}
-use Rattle.session_table.specs.Sizes.{capacity, leastRetention, greatestRetention, defaultRetention}
+use Rattle.retention.proofs.RetentionLaws.{within, below, above}
+use Rattle.session_table.specs.Sizes.{capacity, leastRetention, greatestRetention}
 use Rattle.session_record.specs.Record.{freshIn, acceptIn, newRecord}
-use Rattle.session_table.specs.Table.{tableWords, recordWords, inRange, lawful, newTable, madeRetention, makeLawful, made, recordAt, repeated, sessionPlace, freePlace, Entry, stores, replay, full, meetBy, meet, keep, admitted}
+use Rattle.session_table.specs.Table.{tableWords, recordWords, lawful, newTable, madeRetention, lawfulRetention, makeLawful, made, recordAt, repeated, sessionPlace, freePlace, Entry, stores, replay, full, meetBy, meet, keep, admitted}
 
--- ---- a length n and an R
+-- ---- a length n and a test of R
 
-module _ (n R : ℕ) where
-  pub wrong-length : (n ≡ tableWords → ⊥) → (eqb n tableWords && inRange R) ≡ false
-  wrong-length e = ap (λ (b : Bool). b && inRange R) (ne-eqb n tableWords e)
+module _ (n : ℕ) (b : Bool) where
+  pub wrong-length : (n ≡ tableWords → ⊥) → (eqb n tableWords && b) ≡ false
+  wrong-length e = ap (λ (c : Bool). c && b) (ne-eqb n tableWords e)
 
-  module _ (e : n ≡ tableWords) where
-    right : (eqb n tableWords && inRange R) ≡ inRange R
-    right = ap (λ (b : Bool). b && inRange R) (eq-eqb n tableWords e)
-
-    pub too-short : R < leastRetention → (eqb n tableWords && inRange R) ≡ false
-    too-short l = right ∙ ap (λ (b : Bool). b && leb R greatestRetention) (lt-leb leastRetention R l)
-
-    pub long-enough : leastRetention ≤ R → (eqb n tableWords && inRange R) ≡ leb R greatestRetention
-    long-enough l = right ∙ ap (λ (b : Bool). b && leb R greatestRetention) (le-leb leastRetention R l)
+  pub right-length : n ≡ tableWords → (eqb n tableWords && b) ≡ b
+  right-length e = ap (λ (c : Bool). c && b) (eq-eqb n tableWords e)
 
 -- a lawful table has its length
 pub table-length : (t : List ℕ) → lawful t ≡ true → length t ≡ tableWords
 table-length t e = eqb-true (length t) tableWords (and-eq-true-iff (eqb (length t) tableWords) _ .0 e .0)
 
 -- ---- making
-
-pub zero-is-default : (R : ℕ) → R ≡ 0 → defaultRetention ≡ madeRetention R
-zero-is-default R e = sym (ap (λ (b : Bool). cond b defaultRetention R) (eq-eqb R 0 e))
-
-pub else-itself : (R : ℕ) → (R ≡ 0 → ⊥) → R ≡ madeRetention R
-else-itself R n = sym (ap (λ (b : Bool). cond b defaultRetention R) (ne-eqb R 0 n))
 
 pub not-made : (R : ℕ) (t : List ℕ) → makeLawful R t ≡ false → (false ≡ makeLawful R t) × (t ≡ made R t)
 not-made R t e = (sym e, sym (ap (λ (b : Bool). cond b (newTable (madeRetention R)) t) e))
@@ -67,19 +55,16 @@ module _ (R : ℕ) (t : List ℕ) where
   made-in-range e l u = (lawful-R, ap (λ (b : Bool). cond b (newTable (madeRetention R)) t) lawful-R)
     where
       lawful-R : makeLawful R t ≡ true
-      lawful-R = long-enough (length t) (madeRetention R) e l ∙ le-leb (madeRetention R) greatestRetention u
+      lawful-R = right-length (length t) (lawfulRetention R) e ∙ within (madeRetention R) l u
 
-  outside : inRange (madeRetention R) ≡ false → makeLawful R t ≡ false
+  outside : lawfulRetention R ≡ false → makeLawful R t ≡ false
   outside e = ap (_&&_ (eqb (length t) tableWords)) e ∙ and-false (eqb (length t) tableWords)
 
   pub below-range : madeRetention R < leastRetention → makeLawful R t ≡ false
-  below-range l = outside (ap (λ (b : Bool). b && leb (madeRetention R) greatestRetention) (lt-leb leastRetention (madeRetention R) l))
+  below-range l = outside (below (madeRetention R) l)
 
   pub above-range : greatestRetention < madeRetention R → makeLawful R t ≡ false
-  above-range l =
-      outside
-      (ap (_&&_ (leb leastRetention (madeRetention R))) (lt-leb (madeRetention R) greatestRetention l)
-      ∙ and-false (leb leastRetention (madeRetention R)))
+  above-range l = outside (above (madeRetention R) l)
 
 -- ---- what a packet ID meets
 

@@ -11,7 +11,8 @@ use Rattle.session_window.specs.Window.{join4}
 use Rattle.session_record.specs.declared.Peer.{Peer}
 use Rattle.session_table.specs.declared.Admitted.{Admitted}
 use Rattle.session_table.specs.declared.Admitted.the-variants.{Accepted, Replay, Full}
-use Rattle.session_table.specs.Sizes.{capacity, leastRetention, greatestRetention, defaultRetention}
+pub use Rattle.retention.specs.Retention.{inRange, madeRetention, lawfulRetention}
+use Rattle.session_table.specs.Sizes.{capacity}
 use Rattle.session_record.specs.Record.{oneMore}
 pub use Rattle.session_record.specs.Record.{Record, freshIn, markedWith, acceptIn, newRecord}
 
@@ -30,23 +31,17 @@ start i = 1 + i * recordWords
 abbrev pub retention : List ℕ → ℕ
 retention t = getD t 0 0
 
-abbrev pub inRange : ℕ → Bool
-inRange R = leb leastRetention R && leb R greatestRetention
-
 -- a table of the right length, its R in range
 abbrev pub lawful : List ℕ → Bool
 lawful t = eqb (length t) tableWords && inRange (retention t)
 
--- ---- making: R and zeros; 0 stands for `defaultRetention`
+-- ---- making: R and zeros; 0 stands for the default
 
 abbrev pub newTable : ℕ → List ℕ
 newTable R = R ∷ replicate (capacity * recordWords) 0
 
-abbrev pub madeRetention : ℕ → ℕ
-madeRetention R = cond (eqb R 0) defaultRetention R
-
 abbrev pub makeLawful : ℕ → List ℕ → Bool
-makeLawful R t = eqb (length t) tableWords && inRange (madeRetention R)
+makeLawful R t = eqb (length t) tableWords && lawfulRetention R
 
 abbrev pub made : ℕ → List ℕ → List ℕ
 made R t = cond (makeLawful R t) (newTable (madeRetention R)) t

@@ -12,20 +12,13 @@ ghost use Prim.Native.Nat.{_<_};
 ghost use lib.ListN.{length};
 ghost use Rattle.session_record.specs.Record.{recordOf};
 ghost use Rattle.session_table.specs.Sizes.{capacity};
-ghost use Rattle.session_table.specs.Table.{tableWords, retention, lawful, madeRetention, makeLawful, made, recordAt, wordsOf, store as storeOf, repeated, live, sessionPlace, taken, freePlace, meetBy, meet, keep, admitted};
+ghost use Rattle.session_table.specs.Table.{tableWords, retention, lawful, makeLawful, made, recordAt, wordsOf, store as storeOf, repeated, live, sessionPlace, taken, freePlace, meetBy, meet, keep, admitted};
 
 pub const SESSIONS: usize = 64;
 
 pub const WORDS: usize = 13;
 
 pub const TABLE: usize = 1 + SESSIONS * WORDS;
-
-// The retention in seconds: the least, the greatest, and the one that 0 stands for when a table is made.
-const LEAST_RETENTION: u64 = 60;
-
-const GREATEST_RETENTION: u64 = 3600;
-
-const DEFAULT_RETENTION: u64 = 300;
 
 // The words of a record behind the first, which tells whether it is in use.
 const ID: usize = 1;
@@ -187,11 +180,7 @@ pub fn is_lawful(table: &[u64]) -> bool
     if table.len() != TABLE {
         return false;
     }
-    let retention = table[0];
-    if retention < LEAST_RETENTION {
-        return false;
-    }
-    retention <= GREATEST_RETENTION
+    retention::in_range(table[0])
 }
 
 // ---- one packet
@@ -243,33 +232,20 @@ pub fn admit(table: &mut [u64], clock: u64, id: u64, p: u64, peer: Peer) -> Admi
 
 // ---- making
 
-// 0 stands for the default.
-fn made_retention(retention: u64) -> u64
-    ensures { λ r. ⌜ r ≡ madeRetention retention ⌝ }
-{
-    if retention == 0 {
-        return DEFAULT_RETENTION;
-    }
-    retention
-}
-
 // Makes a table of the lent words: the retention, the default for 0, and zeros. False, and nothing written, where the length is
 // wrong or the retention is neither 0 nor in its range.
 pub fn make(retention: u64, table: &mut [u64]) -> bool
     ensures { λ r. ⌜ r ≡ makeLawful retention (now (table .entry)) ⌝ }
     ensures { λ r. ⌜ now (table .exit) ≡ made retention (now (table .entry)) ⌝ }
 {
-    let keep = made_retention(retention);
     if table.len() != TABLE {
         return false;
     }
-    if keep < LEAST_RETENTION {
+    if !retention::is_lawful(retention) {
         return false;
     }
-    if GREATEST_RETENTION < keep {
-        return false;
-    }
+    let made = retention::made(retention);
     records::clear(table);
-    table[0] = keep;
+    table[0] = made;
     true
 }

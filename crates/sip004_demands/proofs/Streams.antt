@@ -12,7 +12,7 @@ use borrow.Author.Tests.{lt-ltb, ltb-true, ltb-false}
 use Rattle.aes.specs.Keyed.{nkOf}
 use Rattle.protocol.specs.declared.Cipher.the-variants.{AesGcm}
 use Rattle.protocol.specs.declared.Refusal.{Refusal}
-use Rattle.protocol.specs.declared.Refusal.the-variants.{Settings, Length as TooLong, Room, NotAuthentic, Malformed, WrongType, WrongTime, Replay, Full, More, Counter, Argument, Binding, Empty}
+use Rattle.protocol.specs.declared.Refusal.the-variants.{Settings, Length as TooLong, Room, NotAuthentic, Malformed, WrongType, WrongTime, Replay, Full, More, Counter, Argument, Binding, Empty, UnknownSetting}
 use Rattle.protocol.specs.Refusal.{refusalNumber, endsStream}
 use Rattle.protocol.specs.Orders.{among}
 use Rattle.stream_pieces.specs.Framing.{under}
@@ -152,6 +152,7 @@ step-numbers method =
     ends Counter of = refl
     ends Argument of = refl
     ends Binding of = refl
+    ends (UnknownSetting setting) of = refl
 
 pub streams-keep : StreamsKeep
 streams-keep =

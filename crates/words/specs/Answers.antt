@@ -1,11 +1,11 @@
 -- The words of an answer: what each function writes for a C program to read.
-use mathlib.Core.Bool.{cond}
+use mathlib.Core.Bool.{Bool, cond, _||_}
 use mathlib.Core.List.{List, [], _∷_}
 use Prim.Native.Nat.{ℕ}
 use lib.Dec.{eqb}
 use lib.ListN.{set}
 use Rattle.protocol.specs.declared.Refusal.{Refusal}
-use Rattle.protocol.specs.Refusal.{refusalNumber, wantedBytes}
+use Rattle.protocol.specs.Refusal.{refusalNumber, added}
 use Rattle.socks5.specs.declared.Target.{Target}
 use Rattle.socks5.specs.declared.Target.the-variants.{V4, V6, Name}
 use Rattle.datagram_read.specs.declared.Header.{Header}
@@ -52,7 +52,10 @@ headWords used length time = used ∷ length ∷ time ∷ []
 abbrev pub chunkWords : Chunk → List ℕ
 chunkWords c = c .used ∷ c .length ∷ []
 
--- ---- a refusal: number 10 adds how many bytes are wanted in all, and the others leave the answer as it was
+-- ---- a refusal: number 10 adds how many bytes are wanted in all, 15 the setting's number, and the others leave the answer as it was
+
+abbrev pub adds : ℕ → Bool
+adds n = eqb n 10 || eqb n 15
 
 unfoldable pub refusedAnswer : Refusal → List ℕ → List ℕ
-refusedAnswer r answer = cond (eqb (refusalNumber r) 10) (set answer 0 (wantedBytes r)) answer
+refusedAnswer r answer = cond (adds (refusalNumber r)) (set answer 0 (added r)) answer

@@ -6,11 +6,11 @@ use stream_open::Chunk;
 use stream_open_variable::VariableHeader;
 ghost use mathlib.Core.Path.{_≡_};
 ghost use lib.ListN.{length};
-ghost use Rattle.words.specs.Answers.{answerWords, kindOf, firstOf, secondOf, headerWords, variableWords, headWords, chunkWords, refusedAnswer};
+ghost use Rattle.words.specs.Answers.{answerWords, kindOf, firstOf, secondOf, headerWords, variableWords, headWords, chunkWords, adds, refusedAnswer};
 ghost use Rattle.protocol.specs.Refusal.{refusalNumber};
 
 // The kind byte of a target.
-fn kind(target: Target) -> u64
+pub fn kind(target: Target) -> u64
     ensures { λ r. ⌜ r ≡ kindOf target ⌝ }
 {
     match target {
@@ -21,7 +21,7 @@ fn kind(target: Target) -> u64
 }
 
 // The number of an IPv4 address, the first one of an IPv6 address, or the place of a name.
-fn first(target: Target) -> u64
+pub fn first(target: Target) -> u64
     ensures { λ r. ⌜ r ≡ firstOf target ⌝ }
 {
     match target {
@@ -32,7 +32,7 @@ fn first(target: Target) -> u64
 }
 
 // The second number of an IPv6 address, or the length of a name.
-fn second(target: Target) -> u64
+pub fn second(target: Target) -> u64
     ensures { λ r. ⌜ r ≡ secondOf target ⌝ }
 {
     match target {
@@ -91,15 +91,25 @@ pub fn chunk_words(c: Chunk) -> [u64; 2]
     [c.used as u64, c.length as u64]
 }
 
-// The number of a refusal; number 10 adds how many bytes are wanted in all.
+// Whether a refusal of this number tells something beside it.
+fn adds(number: u64) -> bool
+    ensures { λ r. ⌜ r ≡ adds number ⌝ }
+{
+    if number == 10 {
+        return true;
+    }
+    number == 15
+}
+
+// The number of a refusal; number 10 adds how many bytes are wanted in all, and 15 the setting's number.
 pub fn refuse(refusal: Refusal, answer: &mut [u64]) -> u64
     requires { ⌜ length (now answer) ≡ answerWords ⌝ }
     ensures { λ r. ⌜ r ≡ refusalNumber refusal ⌝ }
     ensures { λ r. ⌜ now (answer .exit) ≡ refusedAnswer refusal (now (answer .entry)) ⌝ }
 {
     let n = refusal.number();
-    if n == 10 {
-        answer[0] = refusal.wanted();
+    if adds(n) {
+        answer[0] = refusal.added();
     }
     n
 }

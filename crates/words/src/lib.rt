@@ -4,9 +4,12 @@ mod answers;
 mod states;
 
 pub use answers::chunk_words;
+pub use answers::first;
 pub use answers::head_words;
 pub use answers::header_words;
+pub use answers::kind;
 pub use answers::refuse;
+pub use answers::second;
 pub use answers::variable_words;
 pub use states::is_receiver;
 pub use states::is_session;

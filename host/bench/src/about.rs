@@ -34,8 +34,8 @@ Against  OpenSSL, nettle and BearSSL alone for GCM bodies, chunks, AES, and GHAS
          with their own HKDF and SHA-1 for datagrams of 2017
          these and libsodium for ChaCha20 and Poly1305, which nettle has with one AES block more; the subkey of a long nonce
          (HChaCha20) is libsodium's own, and plain Rust's for the others
-         plain Rust for ChaCha12 and ChaCha8, which no library has, and for subkeys; the key of their context is computed before
-         the calls";
+         plain Rust for ChaCha12 and ChaCha8, which no library has, for BLAKE3 and for subkeys; the key of their context is
+         computed before the calls";
 
 const CALLS: &str = "         buffers are warm; keys are expanded and subkeys derived at each call";
 

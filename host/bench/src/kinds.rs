@@ -92,6 +92,8 @@ pub enum Kind {
         rounds: usize,
     },
     Poly1305,
+    /// BLAKE3 of a text.
+    Hash,
     Subkey,
 }
 
@@ -111,6 +113,7 @@ pub enum Section {
     Primitives,
     ChaChaPrimitives,
     ReducedPrimitives,
+    Hashes,
     Subkeys,
 }
 
@@ -154,6 +157,7 @@ impl Kind {
             Kind::Ghash => "GHASH".to_string(),
             Kind::Stream { rounds } => format!("ChaCha{rounds} stream"),
             Kind::Poly1305 => "Poly1305".to_string(),
+            Kind::Hash => "BLAKE3 hash".to_string(),
             Kind::Subkey => "BLAKE3 subkey".to_string(),
         }
     }
@@ -179,6 +183,7 @@ impl Kind {
             Kind::Counter { .. } | Kind::Ghash => Section::Primitives,
             Kind::Stream { rounds: 20 } | Kind::Poly1305 => Section::ChaChaPrimitives,
             Kind::Stream { .. } => Section::ReducedPrimitives,
+            Kind::Hash => Section::Hashes,
             Kind::Subkey => Section::Subkeys,
         }
     }
@@ -195,7 +200,7 @@ fn others(cipher: Cipher) -> Others {
 
 impl Section {
     /// In the order of the table: the whole first, its parts behind it.
-    pub const ALL: [Section; 14] = [
+    pub const ALL: [Section; 15] = [
         Section::Datagrams,
         Section::Forgeries,
         Section::ChaChaDatagrams,
@@ -209,6 +214,7 @@ impl Section {
         Section::Primitives,
         Section::ChaChaPrimitives,
         Section::ReducedPrimitives,
+        Section::Hashes,
         Section::Subkeys,
     ];
 
@@ -227,6 +233,7 @@ impl Section {
             Section::Primitives => "AES and GHASH",
             Section::ChaChaPrimitives => "ChaCha20, Poly1305",
             Section::ReducedPrimitives => "ChaCha12, ChaCha8",
+            Section::Hashes => "Hashes",
             Section::Subkeys => "Subkeys",
         }
     }
@@ -246,6 +253,7 @@ impl Section {
             Section::ReducedDatagrams
             | Section::ReducedChunks
             | Section::ReducedPrimitives
+            | Section::Hashes
             | Section::Subkeys => Others::Plain,
         }
     }

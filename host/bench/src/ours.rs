@@ -127,6 +127,7 @@ extern "C" {
         out: *mut u8,
         out_len: usize,
     ) -> u64;
+    fn bench_blake3(text: *const u8, text_len: usize, out: *mut u8, out_len: usize) -> u32;
     fn bench_subkey(
         key: *const u8,
         key_len: usize,
@@ -328,6 +329,17 @@ pub fn chacha_poly_open(
         2 => false,
         _ => panic!("bench_chacha_poly_open refused its lengths"),
     }
+}
+
+/// The BLAKE3 hash of `text`, 32 bytes, to the front of `out`.
+///
+/// # Panics
+///
+/// If `out` is shorter.
+pub fn hash(text: &[u8], out: &mut [u8]) {
+    // SAFETY: as in `aes_ctr`, with `out` the one that is borrowed mutably.
+    let refused = unsafe { bench_blake3(text.as_ptr(), text.len(), out.as_mut_ptr(), out.len()) };
+    assert_eq!(refused, 0, "bench_blake3 refused its room");
 }
 
 /// Derives the session subkey, as long as `key`, from `key` and `salt` to the front

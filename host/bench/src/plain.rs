@@ -9,7 +9,7 @@ mod poly1305;
 mod sessions;
 
 pub use address::Address;
-pub use blake3::DeriveKey;
+pub use blake3::{hash as blake3, DeriveKey};
 pub use chacha::ChaCha;
 pub use chachas::Plain;
 pub use sessions::{Peer, Sessions};

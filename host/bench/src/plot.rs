@@ -160,6 +160,7 @@ fn parts(svg: &mut Svg, lines: &[Line]) {
         Kind::Stream { rounds: 20 },
         Kind::Poly1305,
         chacha20,
+        Kind::Hash,
         Kind::Subkey,
     ];
     let longest = kinds.into_iter().filter_map(|kind| longest(lines, kind));

@@ -53,7 +53,8 @@ pub fn lines() -> Vec<Line> {
         let speeds = [200.0, 100.0, 150.0, 120.0, 6_000.0, 3_000.0, 2_000.0];
         line(kind, 65_504, speeds)
     }));
-    lines.push(subkey());
+    lines.push(against_plain(Kind::Hash, 65_503));
+    lines.push(against_plain(Kind::Subkey, 64));
     lines
 }
 
@@ -79,10 +80,10 @@ fn line(kind: Kind, size: usize, speeds: [f64; 7]) -> Line {
     Line::new(kind, size, &times_of(times))
 }
 
-fn subkey() -> Line {
-    let (ours, plain) = (times(64, 200.0), times(64, 150.0));
+fn against_plain(kind: Kind, size: usize) -> Line {
+    let (ours, plain) = (times(size, 200.0), times(size, 150.0));
     let times = times_of([(Column::Ours, ours), (Column::Plain, plain)]);
-    Line::new(Kind::Subkey, 64, &times)
+    Line::new(kind, size, &times)
 }
 
 /// These columns' samples, and none of the others.

@@ -24,7 +24,7 @@ pub(crate) fn length(word: u64) -> usize {
     usize::try_from(word).expect("a length fits the address space")
 }
 
-/// A port or a length of padding.
+/// A port, a length of padding, or a number of a settings file.
 pub(crate) fn half_word(word: u64) -> u16 {
-    u16::try_from(word).expect("a port or padding has 16 bits")
+    u16::try_from(word).expect("a port, padding or a file's number has 16 bits")
 }

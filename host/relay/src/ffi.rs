@@ -225,6 +225,23 @@ extern "C" {
         answer: *mut u64,
         answer_len: usize,
     ) -> u64;
+    fn relay_settings_read(
+        file: *const u8,
+        file_len: usize,
+        answer: *mut u64,
+        answer_len: usize,
+    ) -> u64;
+    fn relay_settings_write(
+        edition: u16,
+        settings: *const u64,
+        settings_len: usize,
+        bodies: *const u8,
+        bodies_len: usize,
+        out: *mut u8,
+        out_len: usize,
+        answer: *mut u64,
+        answer_len: usize,
+    ) -> u64;
     fn relay_sip004_datagram_seal(
         method: u64,
         key: *const u8,
@@ -724,6 +741,41 @@ pub(crate) fn recording_mend(file: &mut [u8], report: &mut [u64]) -> Result<Answ
             file.len(),
             report.as_mut_ptr(),
             report.len(),
+            answer.as_mut_ptr(),
+            answer.len(),
+        )
+    };
+    answer::checked(number, answer)
+}
+
+/// Reads a settings file.
+pub(crate) fn settings_read(file: &[u8]) -> Result<Answer, Refusal> {
+    let mut answer = NO_ANSWER;
+    // SAFETY: the rule of lending.
+    let number = unsafe {
+        relay_settings_read(file.as_ptr(), file.len(), answer.as_mut_ptr(), answer.len())
+    };
+    answer::checked(number, answer)
+}
+
+/// Writes a settings file.
+pub(crate) fn settings_write(
+    edition: u16,
+    settings: &[u64],
+    bodies: &[u8],
+    out: &mut [u8],
+) -> Result<Answer, Refusal> {
+    let mut answer = NO_ANSWER;
+    // SAFETY: the rule of lending.
+    let number = unsafe {
+        relay_settings_write(
+            edition,
+            settings.as_ptr(),
+            settings.len(),
+            bodies.as_ptr(),
+            bodies.len(),
+            out.as_mut_ptr(),
+            out.len(),
             answer.as_mut_ptr(),
             answer.len(),
         )

@@ -15,6 +15,7 @@
 //! | plan a long report in datagrams | [`Plan`] |
 //! | tell where two recordings differ | [`recording::compare`] |
 //! | mend a damaged recording | [`recording::mend`] |
+//! | read and write settings files | [`settings::read`], [`settings::write`] |
 //! | seal or open datagrams and streams of the 2017 edition (SIP004) | [`sip004`] |
 //!
 //! # A datagram
@@ -130,7 +131,7 @@
 //!
 //! # Stack
 //!
-//! A call takes up to 8,632 bytes of stack in the library; allow 16 KiB.
+//! A call takes up to 8,648 bytes of stack in the library; allow 16 KiB.
 //!
 //! # Timing
 //!
@@ -160,6 +161,7 @@ mod refusal;
 mod seal_session;
 mod secret;
 mod session;
+pub mod settings;
 pub mod sip004;
 pub mod stream;
 mod table;

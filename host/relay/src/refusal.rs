@@ -34,14 +34,14 @@ pub enum Refusal {
     Settings,
     /// Number 2: a datagram has under 32 (with ChaCha 40) or over 65,507 bytes, or a chunk
     /// over 65,535. In the 2017 edition a datagram has at least its salt and 16 bytes, and
-    /// a chunk 16,383 at most.
+    /// a chunk 16,383 at most. A settings file has 36 to 65,535 bytes.
     Length,
     /// Number 3: the output buffer is shorter than the bytes due.
     Room,
-    /// Number 4: a tag is wrong, or the stream has ended.
+    /// Number 4: a tag or the hash of a settings file is wrong, or the stream has ended.
     NotAuthentic,
     /// Number 5: the header is too short, or its address or padding is bad. In the 2017
-    /// edition: a stream's length is above 16,383.
+    /// edition: a stream's length is above 16,383. Of a file: it is no well-formed one.
     Malformed,
     /// Number 6: the type byte is the other direction's, or no type at all.
     Type,
@@ -59,13 +59,20 @@ pub enum Refusal {
     },
     /// Number 11: the packet IDs of a session or the counter of a stream are used up.
     Counter,
-    /// Number 12: the address, the padding or the session IDs may not be sealed.
+    /// Number 12: the address, the padding or the session IDs may not be sealed, or
+    /// settings may not be written.
     Argument,
     /// Number 13: the datagram is meant for another client, or the response answers
     /// another request.
     Binding,
     /// Number 14: a stream's payload has no bytes.
     Empty,
+    /// Number 15: a settings file has a setting that is not known and may not be passed
+    /// over.
+    UnknownSetting {
+        /// The lowest number of such a setting, below 128.
+        number: u16,
+    },
 }
 
 impl Refusal {
@@ -93,11 +100,14 @@ impl Refusal {
             12 => Self::Argument,
             13 => Self::Binding,
             14 => Self::Empty,
+            15 => Self::UnknownSetting {
+                number: answer::half_word(first),
+            },
             _ => unreachable!("librelay.a returned {number}, which is no refusal of relay.h"),
         }
     }
 
-    /// The refusal's number, 1 to 14, as C callers get it.
+    /// The refusal's number, 1 to 15, as C callers get it.
     pub fn number(self) -> u64 {
         match self {
             Self::Settings => 1,
@@ -114,6 +124,7 @@ impl Refusal {
             Self::Argument => 12,
             Self::Binding => 13,
             Self::Empty => 14,
+            Self::UnknownSetting { .. } => 15,
         }
     }
 }
@@ -124,19 +135,27 @@ impl fmt::Display for Refusal {
             Self::Settings => {
                 "a salt of the wrong length, another method's pool, or unlawful words"
             }
-            Self::Length => "a datagram or a chunk that is too short or too long",
+            Self::Length => "a datagram, a chunk or a file that is too short or too long",
             Self::Room => "the output buffer is too short",
-            Self::NotAuthentic => "a wrong tag, or the stream has ended",
-            Self::Malformed => "malformed header, address, padding or length",
+            Self::NotAuthentic => "a wrong tag or hash, or the stream has ended",
+            Self::Malformed => "malformed header, address, padding, length or file",
             Self::Type => "wrong type byte",
             Self::Time => "timestamp over 30 seconds from the clock",
             Self::Replay => "packet ID not fresh, or salt seen before",
             Self::Full => "no room for a new session or salt",
             Self::More { wanted } => return write!(f, "bytes missing: {wanted} wanted in all"),
             Self::Counter => "packet IDs or stream counter used up",
-            Self::Argument => "address, padding or session IDs may not be sealed",
+            Self::Argument => {
+                "address, padding or session IDs may not be sealed, or settings not written"
+            }
             Self::Binding => "meant for another client or request",
             Self::Empty => "a stream's payload of no bytes",
+            Self::UnknownSetting { number } => {
+                return write!(
+                    f,
+                    "setting {number} is not known, and may not be passed over"
+                )
+            }
         };
         f.write_str(words)
     }
@@ -150,7 +169,7 @@ mod tests {
 
     #[test]
     fn numbers_are_read_back() {
-        for number in 1..=14 {
+        for number in 1..=15 {
             assert_eq!(Refusal::from_library(number, 43).number(), number);
         }
     }
@@ -163,8 +182,16 @@ mod tests {
     }
 
     #[test]
-    #[should_panic(expected = "librelay.a returned 15")]
+    fn the_unknown_setting_is_kept() {
+        let refusal = Refusal::from_library(15, 127);
+        assert_eq!(refusal, Refusal::UnknownSetting { number: 127 });
+        let words = "setting 127 is not known, and may not be passed over";
+        assert_eq!(refusal.to_string(), words);
+    }
+
+    #[test]
+    #[should_panic(expected = "librelay.a returned 16")]
     fn an_unknown_number_is_a_fault_of_the_library() {
-        Refusal::from_library(15, 0);
+        Refusal::from_library(16, 0);
     }
 }

@@ -11,10 +11,10 @@ use Rattle.blake3.proofs.write_words.Statement.{statement}
 use Rattle.blake3.proofs.write_words.Tie as tie
 
 abbrev Inv-loop : tie.InvT-loop
-Inv-loop out₀ o i₀ out i = (i ≤ 16) × (length out ≡ 64) × (out ≡ put out₀ 0 (wordBytes (take i o)))
+Inv-loop out₀ o i₀ i-end out i = (i ≤ length o) × (length out ≡ length out₀) × (out ≡ put out₀ 0 (wordBytes (take i o)))
 
 abbrev μ-loop : tie.MeasureT-loop
-μ-loop out₀ o i₀ out i = 16 - i
+μ-loop out₀ o i₀ i-end out i = length o - i
 
 loop-holds : tie.Need-loop-holds Inv-loop μ-loop
 unfolding wordBytes

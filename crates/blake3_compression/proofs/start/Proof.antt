@@ -1,12 +1,12 @@
 use mathlib.Core.Path.{refl}
-use Rattle.blake3_compression.specs.Compression.{initial}
-use Rattle.blake3_compression.specs.Compression.{firstEight}
+use Rattle.blake3_compression.specs.Columns.{words}
+use Rattle.blake3_compression.specs.Compression.{initial, firstEight}
 use borrow.Author.Needs.{needs}
 use Rattle.blake3_compression.proofs.start.Statement.{statement}
 use Rattle.blake3_compression.proofs.start.Tie as tie
 
 returns : tie.Need-returns
-unfolding initial firstEight
+unfolding words initial firstEight
 returns c = refl
 
 pub start-spec : {M : Type 1} → statement M

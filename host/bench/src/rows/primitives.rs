@@ -9,7 +9,7 @@ use crate::kinds::Kind;
 use crate::nettle::Nettle;
 use crate::openssl::{AesBlock, OpenSsl};
 use crate::ours;
-use crate::plain::DeriveKey;
+use crate::plain::{blake3, DeriveKey};
 
 const KEY_LENGTHS: [usize; 3] = [16, 24, 32];
 
@@ -31,6 +31,17 @@ const FIRST_COUNTER: u32 = 2;
 /// ChaCha's rounds by method, and its first block of a text.
 const ROUNDS: [usize; 3] = [20, 12, 8];
 const FIRST_BLOCK: u32 = 1;
+
+/// One chunk of BLAKE3, and the longest payload of a datagram.
+const HASHES: [usize; 2] = [1_024, 65_503];
+
+/// Lengths at which blocks, chunks or parts of the tree end, or one byte behind that.
+const HASH_EDGES: [usize; 12] = [
+    0, 1, 64, 65, 1_025, 2_048, 3_073, 4_096, 4_097, 8_192, 31_744, 102_400,
+];
+
+/// The length of a hash.
+const DIGEST: usize = 32;
 
 /// The length of a datagram's session ID, which is its subkey's salt.
 const SESSION_ID: usize = 8;
@@ -59,6 +70,9 @@ pub fn rows() -> Vec<Row> {
         }
     }
     rows.extend(HASHED.map(poly1305));
+    rows.extend(HASHES.map(hash));
+    // One block, whole chunks of a subtree, and ends of chunks.
+    rows.extend(HASH_EDGES.map(|size| hash(size).compared_only("tree")));
     // A stream's subkey of the longest method, a session's of the shortest.
     rows.push(subkey(32, SALT.len()));
     rows.push(subkey(16, SESSION_ID));
@@ -222,6 +236,22 @@ fn one_time_key() -> OneTimeKey {
         bytes,
         aes_key,
         block,
+    }
+}
+
+fn hash(size: usize) -> Row {
+    Row {
+        kind: Kind::Hash,
+        size,
+        input: text(size),
+        buffer: DIGEST,
+        special: None,
+        contestants: vec![
+            Contestant::new(Library::Ours, ours::hash),
+            Contestant::new(Library::Plain, |text, out| {
+                out.copy_from_slice(&blake3(text));
+            }),
+        ],
     }
 }
 

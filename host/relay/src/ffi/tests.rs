@@ -5,8 +5,8 @@ use std::fs;
 use std::path::Path;
 
 use crate::{
-    answer, recording, sip004, Method, Nonce, Pool, Refusal, SealSession, Table, MAX_CHUNK,
-    MAX_DATAGRAM,
+    answer, recording, settings, sip004, Method, Nonce, Pool, Refusal, SealSession, Table,
+    MAX_CHUNK, MAX_DATAGRAM,
 };
 
 /// The header without its comments.
@@ -81,7 +81,7 @@ fn list(parameters: &str) -> Vec<String> {
 fn every_function_is_declared_as_in_the_header() {
     let in_header = parameters(&header(), "uint64_t");
     let here = parameters(include_str!("../ffi.rs"), "fn");
-    assert_eq!(in_header.len(), 24);
+    assert_eq!(in_header.len(), 26);
     assert_eq!(here.len(), in_header.len());
     for (name, parameters) in in_header {
         let expected: Vec<String> = list(&parameters).iter().map(|p| in_rust(p)).collect();
@@ -104,6 +104,13 @@ fn sizes_are_the_headers() {
         ("SIP004_MAX_CHUNK", sip004::MAX_CHUNK),
         ("MAX_COMPARED", recording::MAX_COMPARED),
         ("CHANGE_WORDS", recording::Change::WORDS),
+        ("MIN_SETTINGS", settings::MIN_FILE),
+        ("MAX_SETTINGS", settings::MAX_FILE),
+        ("SETTING_METHOD", settings::METHOD.into()),
+        ("SETTING_RETENTION", settings::RETENTION.into()),
+        ("SETTING_LIMIT", settings::LIMIT.into()),
+        ("SETTING_TARGET", settings::TARGET.into()),
+        ("SETTING_SKIPPED", settings::FIRST_SKIPPED.into()),
     ] {
         assert_eq!(numbers[&format!("RELAY_{name}")], size as u64, "{name}");
     }
@@ -119,7 +126,7 @@ fn the_version_is_the_headers() {
 fn methods_and_refusals_have_the_headers_numbers() {
     let (numbers, header) = (numbers(), header());
     let names: Vec<&str> = header.split("case RELAY_REFUSED_").skip(1).collect();
-    assert_eq!(names.len(), 14);
+    assert_eq!(names.len(), 15);
     for method in Method::ALL {
         let name = method.name().trim_start_matches("2022-blake3-");
         let name = name.to_uppercase().replace('-', "_");
@@ -144,6 +151,7 @@ fn methods_and_refusals_have_the_headers_numbers() {
         ("ARGUMENT", Refusal::Argument),
         ("BINDING", Refusal::Binding),
         ("EMPTY", Refusal::Empty),
+        ("UNKNOWN_SETTING", Refusal::UnknownSetting { number: 0 }),
     ] {
         let number = refusal.number();
         assert_eq!(numbers[&format!("RELAY_REFUSED_{name}")], number);
@@ -179,6 +187,17 @@ fn answers_have_the_headers_order() {
         "HEAD_USED",
         "HEAD_LENGTH",
     ];
+    let settings = [
+        "EDITION",
+        "SET",
+        "METHOD",
+        "RETENTION",
+        "LIMIT",
+        "TARGET_KIND",
+        "TARGET_FIRST",
+        "TARGET_SECOND",
+        "TARGET_PORT",
+    ];
     let places = |names: &[&str]| -> Vec<u64> {
         let numbers = names
             .iter()
@@ -187,6 +206,8 @@ fn answers_have_the_headers_order() {
     };
     assert!(places(&datagram).into_iter().eq(0..9));
     assert!(places(&request).into_iter().eq(0..8));
+    assert!(places(&settings).into_iter().eq(0..9));
+    assert_eq!(places(&["SETTING", "FILE_LENGTH"]), [0, 0]);
     assert_eq!(
         places(&[
             "USED",

@@ -11,6 +11,7 @@ mod pools;
 mod recordings;
 mod refusals;
 mod sessions;
+mod settings;
 mod sip004;
 mod streams;
 mod words;

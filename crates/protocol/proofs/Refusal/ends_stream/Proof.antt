@@ -47,10 +47,14 @@ returns-13 c = ap endsStream (sym (c .enum-told13 .given .1))
 returns-14 : tie.Need-returns-14
 returns-14 c = ap endsStream (sym (c .enum-told14 .given .1))
 
+returns-15 : tie.Need-returns-15
+returns-15 c = ap endsStream (sym (c .enum-told15 .given .1))
+
 pub ends-stream-spec : {M : Type 1} → statement M
 ends-stream-spec =
     tie.close
     (tie.spec
+    (λ c. search needs)
     (λ c. search needs)
     (λ c. search needs)
     (λ c. search needs)
@@ -78,4 +82,5 @@ ends-stream-spec =
     returns-11
     returns-12
     returns-13
-    returns-14)
+    returns-14
+    returns-15)

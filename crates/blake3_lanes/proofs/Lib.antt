@@ -1,0 +1,4 @@
+pub mod ChunkLaws
+pub mod LaneLaws
+pub mod EachLaws
+pub mod BlockLaws

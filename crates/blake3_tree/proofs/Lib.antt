@@ -1,0 +1,4 @@
+pub mod ChunkLaws
+pub mod JoinLaws
+pub mod FourLaws
+pub mod HashLaws
