@@ -3,15 +3,23 @@
 CARGO := cargo
 HOST := --locked --quiet --manifest-path host/Cargo.toml
 LIBRARY := target/staticlib/librelay.a
+BOX := target/host/release/bhajnolith
 
-# Where `make install` puts the library, its header and relay.pc; a package's build sets DESTDIR too.
+# Where `make install` puts the library, its header and relay.pc, the program, its manual page and its systemd unit; a package's
+# build sets DESTDIR too.
 PREFIX := /usr/local
 prefix := $(abspath $(PREFIX))
+BINDIR := $(prefix)/bin
 LIBDIR := $(prefix)/lib
 INCLUDEDIR := $(prefix)/include
-VERSION = $(shell sed -n 's/^version = "\(.*\)"/\1/p' host/relay/Cargo.toml)
+MANDIR := $(prefix)/share/man
+UNITDIR := $(prefix)/lib/systemd/system
+VERSION = $(shell sed -n 's/^version = "\(.*\)"/\1/p' host/Cargo.toml)
+# All that is installed, by its place.
+INSTALLED = $(INCLUDEDIR)/relay.h $(LIBDIR)/librelay.a $(LIBDIR)/pkgconfig/relay.pc $(BINDIR)/bhajnolith \
+	$(MANDIR)/man1/bhajnolith.1 $(UNITDIR)/bhajnolith@.service
 
-.PHONY: run test mistakes library quickstart install uninstall bench fuzz vectors arguments seconds
+.PHONY: run test mistakes library box demo quickstart install uninstall bench fuzz vectors arguments seconds
 # rt keeps its notes in one folder, and arguments are tested before the library is made.
 .NOTPARALLEL:
 
@@ -44,28 +52,49 @@ library: $(LIBRARY)
 target/staticlib/lib%.a: crates.txt $(shell find crates/*/src crates/*/specs crates/*/proofs -type f)
 	@tools/library $*
 
+# The program: relay box, branch box and their tools. With it made, `make install` needs no Cargo.
+box: $(BOX)
+
+$(BOX): $(LIBRARY) host/Cargo.toml host/Cargo.lock $(shell find host/cli host/relay -type f)
+	@tools/need cargo=cargo-web
+	@$(CARGO) build --release $(HOST) -p bhajnolith
+	@touch $@
+
+# A relay and a branch on loopback, as README shows them.
+demo: box
+	@tools/need python3=python3
+	@examples/loopback.py $(BOX)
+
 # The C program of the README.
 quickstart: library
 	@mkdir -p target/examples
 	cc -std=c11 -Wall -Wextra -Wpedantic -Werror -Iinclude examples/quickstart.c $(LIBRARY) -o target/examples/quickstart
 	target/examples/quickstart
 
-install: library
-	install -d $(DESTDIR)$(INCLUDEDIR) $(DESTDIR)$(LIBDIR)/pkgconfig
+# Puts the places and the version where a file wants them.
+FILL_IN = sed -e 's|@PREFIX@|$(prefix)|' -e 's|@BINDIR@|$(BINDIR)|' -e 's|@LIBDIR@|$(LIBDIR)|' \
+	-e 's|@INCLUDEDIR@|$(INCLUDEDIR)|' -e 's|@VERSION@|$(VERSION)|'
+
+install: library box
+	install -d $(addprefix $(DESTDIR),$(dir $(INSTALLED)))
 	install -m 644 include/relay.h $(DESTDIR)$(INCLUDEDIR)/relay.h
 	install -m 644 $(LIBRARY) $(DESTDIR)$(LIBDIR)/librelay.a
-	sed -e 's|@PREFIX@|$(prefix)|' -e 's|@LIBDIR@|$(LIBDIR)|' -e 's|@INCLUDEDIR@|$(INCLUDEDIR)|' -e 's|@VERSION@|$(VERSION)|' \
-		include/relay.pc.in >target/relay.pc
+	$(FILL_IN) include/relay.pc.in >target/relay.pc
 	install -m 644 target/relay.pc $(DESTDIR)$(LIBDIR)/pkgconfig/relay.pc
+	install -m 755 $(BOX) $(DESTDIR)$(BINDIR)/bhajnolith
+	install -m 644 docs/bhajnolith.1 $(DESTDIR)$(MANDIR)/man1/bhajnolith.1
+	$(FILL_IN) host/cli/bhajnolith@.service.in >target/bhajnolith@.service
+	install -m 644 target/bhajnolith@.service $(DESTDIR)$(UNITDIR)/bhajnolith@.service
 
 uninstall:
-	rm -f $(DESTDIR)$(INCLUDEDIR)/relay.h $(DESTDIR)$(LIBDIR)/librelay.a $(DESTDIR)$(LIBDIR)/pkgconfig/relay.pc
+	rm -f $(addprefix $(DESTDIR),$(INSTALLED))
 
-# The table of speeds and its plot, in target/bench. ARGS=--quick for a short run. docs/PERFORMANCE.md speaks of copies of a full
-# run's: cp target/bench/speed.txt target/bench/speed.svg docs/
+# The table of speeds and its plot, in target/bench. ARGS=--quick for a short run. The box on loopback is measured beside ss-server
+# where it is installed. docs/PERFORMANCE.md speaks of copies of a full run's: cp target/bench/speed.txt target/bench/speed.svg docs/
 bench: PROGRAM := bench
 bench: arguments library target/staticlib/libbench.a
 	@tools/need libcrypto.so=libssl-dev libnettle.so=nettle-dev libbearssl.so=libbearssl-dev libsodium.so=libsodium-dev
+	@$(CARGO) build --release $(HOST) -p bhajnolith
 	@$(CARGO) run --release $(HOST) -p $(PROGRAM) -- $(ARGS)
 
 # The fuzz target under AddressSanitizer, for so many seconds.

@@ -17,3 +17,8 @@ require_seconds() {
         exit 2
     fi
 }
+
+# The first text that README shows below a heading.
+readme_text() {
+    sed -n "/^## $1\$/,/^## /{/^\`\`\`text\$/,/^\`\`\`\$/{/^\`\`\`\$/q;/^\`\`\`/!p}}" README.md
+}

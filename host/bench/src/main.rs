@@ -1,6 +1,6 @@
 //! Speed of the proved code beside OpenSSL's, nettle's, BearSSL's and libsodium's, with
 //! and without processor instructions, and for what they have not beside plain Rust, in
-//! one table of one run and as a plot.
+//! one table of one run and as a plot. Behind it the box on loopback, beside another relay.
 //!
 //! All outputs are compared first; a difference ends the run with exit status 1.
 //! No speed does.
@@ -18,6 +18,7 @@ mod ciphers;
 mod contest;
 mod editions;
 mod kinds;
+mod loopback;
 mod measure;
 #[allow(unsafe_code)]
 mod nettle;
@@ -98,6 +99,7 @@ fn outputs(out: &Path) -> Result<[PathBuf; 2], String> {
 
 fn run(pace: Pace, out: &Path) -> Result<(), Box<dyn Error>> {
     let [table_path, plot_path] = outputs(out)?;
+    loopback::prepare()?;
     for name in [openssl::CAPABILITIES, nettle::CAPABILITIES] {
         if env::var_os(name).is_some() {
             return Err(format!(
@@ -121,7 +123,8 @@ fn run(pace: Pace, out: &Path) -> Result<(), Box<dyn Error>> {
         batches: pace.batches,
     };
     let lines = contest.measure()?;
-    let table = table::text(&about, &lines);
+    let loopback = loopback::measure(pace)?;
+    let table = format!("{}\n{}", table::text(&about, &lines), loopback.text());
     print!("{table}");
     for (path, content) in [(table_path, table), (plot_path, plot::draw(&about, &lines))] {
         fs::write(&path, content)?;

@@ -105,7 +105,7 @@ impl Group {
 }
 
 /// Columns under one title.
-struct Span {
+pub struct Span {
     title: &'static str,
     heads: Vec<&'static str>,
     /// Blanks between its columns.
@@ -113,6 +113,16 @@ struct Span {
 }
 
 impl Span {
+    pub fn new(title: &'static str, heads: Vec<&'static str>) -> Self {
+        let gap = GAP;
+        Self { title, heads, gap }
+    }
+
+    fn narrow(title: &'static str, heads: Vec<&'static str>) -> Self {
+        let gap = NARROW_GAP;
+        Self { title, heads, gap }
+    }
+
     /// Of all its columns.
     fn width(&self, widths: &[usize]) -> usize {
         widths.iter().sum::<usize>() + self.gap * (widths.len() - 1)
@@ -141,19 +151,41 @@ pub fn text(about: &About, lines: &[Line]) -> String {
     text.join("\n")
 }
 
-/// Titles, names of the columns, and a row for each of the section's lines.
+/// Titles, names of the columns, and a row for each of the section's lines, as wide as those of
+/// all sections with the same others.
 fn section_lines(section: Section, lines: &[Line]) -> Vec<String> {
-    let (spans, widths) = (spans(section), widths(section, lines));
-    let rows = rows(section, lines);
-    let rows = rows.iter().map(|row| joined(row, &spans, &widths));
-    [titles(&spans, &widths)].into_iter().chain(rows).collect()
+    let alike = |other: &Section| other.others() == section.others();
+    let alike = Section::ALL.into_iter().filter(alike);
+    let all: Vec<_> = alike
+        .flat_map(|other| headed(&spans(other), &rows(other, lines)))
+        .collect();
+    let (spans, rows) = (spans(section), rows(section, lines));
+    placed(&spans, &headed(&spans, &rows), &widths(&spans, &all))
 }
 
-/// The cells of the section: the names of its columns, and those of each line.
+/// Titles, names of the columns, and rows of cells.
+pub fn laid_out(spans: &[Span], rows: &[Vec<String>]) -> Vec<String> {
+    let rows = headed(spans, rows);
+    placed(spans, &rows, &widths(spans, &rows))
+}
+
+fn placed(spans: &[Span], rows: &[Vec<String>], widths: &[usize]) -> Vec<String> {
+    let rows = rows.iter().map(|row| joined(row, spans, widths));
+    [titles(spans, widths)].into_iter().chain(rows).collect()
+}
+
+/// The names of the columns, and the rows below them.
+fn headed(spans: &[Span], rows: &[Vec<String>]) -> Vec<Vec<String>> {
+    let heads = spans.iter().flat_map(|span| &span.heads);
+    let heads = heads.map(|head| head.to_string()).collect();
+    [heads].into_iter().chain(rows.iter().cloned()).collect()
+}
+
+/// The cells of the section's lines.
 fn rows(section: Section, lines: &[Line]) -> Vec<Vec<String>> {
-    let heads = heads(section).into_iter().map(str::to_string).collect();
-    let lines = of(section, lines).map(|line| cells(section, line));
-    [heads].into_iter().chain(lines).collect()
+    of(section, lines)
+        .map(|line| cells(section, line))
+        .collect()
 }
 
 fn of(section: Section, lines: &[Line]) -> impl Iterator<Item = &Line> {
@@ -183,24 +215,18 @@ fn spans(section: Section) -> Vec<Span> {
     } else {
         "calls/s"
     };
-    let span = |title, heads, gap| Span { title, heads, gap };
     let mut spans = vec![
-        span(section.title(), vec!["", "bytes"], GAP),
-        span("ours", vec!["MB/s", rate, "µs"], GAP),
+        Span::new(section.title(), vec!["", "bytes"]),
+        Span::new("ours", vec!["MB/s", rate, "µs"]),
     ];
     let groups = groups(section).iter();
     spans.extend(
         groups
             .clone()
-            .map(|group| span(group.title, group.heads(), NARROW_GAP)),
+            .map(|group| Span::narrow(group.title, group.heads())),
     );
-    spans.extend(groups.map(|group| span(group.ratio, group.ratio_heads(), GAP)));
+    spans.extend(groups.map(|group| Span::new(group.ratio, group.ratio_heads())));
     spans
-}
-
-fn heads(section: Section) -> Vec<&'static str> {
-    let spans = spans(section).into_iter();
-    spans.flat_map(|span| span.heads).collect()
 }
 
 /// A line's cells, in the order of the section's heads.
@@ -219,20 +245,16 @@ fn cells(section: Section, line: &Line) -> Vec<String> {
     cells
 }
 
-/// As wide as the widest cell, in all sections with the same others, and together wide
-/// enough for a title.
-fn widths(section: Section, lines: &[Line]) -> Vec<usize> {
-    let mut widths = vec![0; heads(section).len()];
-    let alike = |other: &Section| other.others() == section.others();
-    for other in Section::ALL.into_iter().filter(alike) {
-        for row in rows(other, lines) {
-            for (width_now, cell) in widths.iter_mut().zip(row) {
-                *width_now = width(&cell).max(*width_now);
-            }
+/// As wide as the widest cell, and together wide enough for a title.
+fn widths(spans: &[Span], rows: &[Vec<String>]) -> Vec<usize> {
+    let mut widths = vec![0; spans.iter().map(|span| span.heads.len()).sum()];
+    for row in rows {
+        for (width_now, cell) in widths.iter_mut().zip(row) {
+            *width_now = width(cell).max(*width_now);
         }
     }
     let mut first = 0;
-    for span in spans(section) {
+    for span in spans {
         let own = first..first + span.heads.len();
         // With a line and a blank on either side.
         let wanted = width(span.title) + 4;
@@ -279,14 +301,14 @@ fn titles(spans: &[Span], widths: &[usize]) -> String {
 }
 
 /// Median and quartiles.
-fn with_quartiles(summary: Option<Summary>) -> String {
+pub fn with_quartiles(summary: Option<Summary>) -> String {
     or_dash(summary, |summary| {
         let [median, lower, upper] = [summary.median, summary.lower, summary.upper].map(rounded);
         format!("{median} ({lower}–{upper})")
     })
 }
 
-fn or_dash<T>(value: Option<T>, write: impl Fn(T) -> String) -> String {
+pub fn or_dash<T>(value: Option<T>, write: impl Fn(T) -> String) -> String {
     value.map_or_else(|| "-".to_string(), write)
 }
 

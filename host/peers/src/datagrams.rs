@@ -7,7 +7,7 @@ use relay::{Address, MAX_DATAGRAM};
 
 use crate::streams::{same, told};
 use crate::tally::Tally;
-use crate::{address, random, Outcome, PATIENCE};
+use crate::{random, Outcome, PATIENCE};
 
 /// Payloads up to one that fits an Ethernet frame, and one that does not: the peer has
 /// room for less than two frames.
@@ -40,7 +40,7 @@ impl Sealed {
         let mut text = vec![0; datagram.len()];
         let length = sip004::open_datagram(&self.key, &datagram, &mut text)
             .map_err(|refusal| format!("the library refuses a datagram: {refusal}"))?;
-        let (address, payload) = address::split(&text[..length])?.ok_or("no whole address")?;
+        let (address, payload) = Address::split(&text[..length])?.ok_or("no whole address")?;
         Ok((from, address, payload.to_vec()))
     }
 }

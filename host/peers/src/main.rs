@@ -15,8 +15,6 @@
 
 #![forbid(unsafe_code)]
 
-mod address;
-mod base64;
 mod datagrams;
 mod peer;
 mod ports;
@@ -30,6 +28,7 @@ use std::error::Error;
 use std::process::ExitCode;
 use std::time::{Duration, Instant};
 
+use relay::base64;
 use relay::sip004::{Key, Method};
 
 use tally::Tally;
@@ -59,7 +58,7 @@ fn run() -> Outcome<Tally> {
     for method in Method::ALL {
         let secret = random::bytes(method.key_len())?;
         let key = Key::new(method, &secret)?;
-        let secret = base64::url_safe(&secret);
+        let secret = base64::encode_url(&secret);
         server::exchange(&key, &secret, &mut tally)?;
         tunnel::exchange(&key, &secret, &mut tally)?;
     }

@@ -1,16 +1,21 @@
 //! Ports of the loopback interface that nobody uses.
 
 use std::io;
-use std::net::{Ipv4Addr, SocketAddr, TcpListener, UdpSocket};
+use std::net::{IpAddr, Ipv4Addr, SocketAddr, TcpListener, UdpSocket};
 
 /// How often a port is looked for that is free for both protocols.
 const TRIES: usize = 20;
 
 /// A listener and a socket of one free port.
 pub fn bind() -> io::Result<(TcpListener, UdpSocket)> {
+    bind_at(Ipv4Addr::LOCALHOST.into())
+}
+
+/// A listener and a socket of one free port of an address.
+pub fn bind_at(ip: IpAddr) -> io::Result<(TcpListener, UdpSocket)> {
     let mut tries = 0;
     loop {
-        let listener = TcpListener::bind((Ipv4Addr::LOCALHOST, 0))?;
+        let listener = TcpListener::bind((ip, 0))?;
         tries += 1;
         match UdpSocket::bind(listener.local_addr()?) {
             Ok(socket) => return Ok((listener, socket)),

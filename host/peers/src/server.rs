@@ -31,7 +31,8 @@ fn over_tcp(socket: TcpStream, key: &Key, length: usize, tally: &mut Tally) -> O
     let target = TcpListener::bind((Ipv4Addr::LOCALHOST, 0))?;
     let address = Address::from(target.local_addr()?);
     let first = random::bytes(length)?;
-    let mut sealed = Sealed::new(socket, key)?;
+    let (socket, mut buffers) = (streams::with_timeouts(socket)?, Default::default());
+    let mut sealed = Sealed::new(&socket, key, &mut buffers)?;
     sealed.send(&[address.as_bytes(), &first].concat())?;
     let mut plain = streams::accept(&target)?;
     streams::same(&first, &streams::receive(&mut plain, length)?)?;

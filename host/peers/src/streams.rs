@@ -5,11 +5,12 @@ use std::net::{TcpListener, TcpStream};
 use std::thread;
 use std::time::{Duration, Instant};
 
-use relay::sip004::{Key, Receiver, Sender, MAX_CHUNK};
-use relay::{Address, Refusal, Step};
+use relay::io::{Buffers, Incoming, Outgoing};
+use relay::sip004::{Key, MAX_CHUNK};
+use relay::Address;
 
 use crate::tally::Tally;
-use crate::{address, random, Outcome, PATIENCE};
+use crate::{random, Outcome, PATIENCE};
 
 /// What goes from one end to the other at once: from a byte over what fills a block and
 /// a frame to the longest chunk. More than that is several chunks.
@@ -24,104 +25,61 @@ const WRITES: [usize; 3] = [1, 20, usize::MAX];
 const PAUSE: Duration = Duration::from_millis(1);
 
 /// The end of a connection whose bytes the library seals and opens.
-pub struct Sealed {
-    socket: TcpStream,
-    key: Key,
-    sender: Sender,
-    /// The salt, until it is sent with the first chunk.
-    unsent: Vec<u8>,
-    /// `None` until the other's salt has come in.
-    receiver: Option<Receiver>,
-    arrived: Vec<u8>,
-    opened: Vec<u8>,
+pub struct Sealed<'a> {
+    incoming: Incoming<'a, &'a TcpStream>,
+    outgoing: Outgoing<'a, Pieces<'a>>,
 }
 
-impl Sealed {
-    pub fn new(socket: TcpStream, key: &Key) -> Outcome<Self> {
+impl<'a> Sealed<'a> {
+    pub fn new(
+        socket: &'a TcpStream,
+        key: &'a Key,
+        [up, down]: &'a mut [Buffers; 2],
+    ) -> Outcome<Self> {
         let salt = random::bytes(key.method().salt_len())?;
+        let sink = Pieces { socket, written: 0 };
         Ok(Self {
-            socket: with_timeouts(socket)?,
-            key: key.clone(),
-            sender: Sender::begin(key, &salt)?,
-            unsent: salt,
-            receiver: None,
-            arrived: Vec::new(),
-            opened: Vec::new(),
+            incoming: Incoming::sip004(socket, key, down),
+            outgoing: Outgoing::sip004(sink, key, &salt, up)?,
         })
     }
 
     /// Sends a text in as few chunks as hold it.
     pub fn send(&mut self, text: &[u8]) -> Outcome<()> {
-        let mut bytes = std::mem::take(&mut self.unsent);
-        for payload in text.chunks(MAX_CHUNK) {
-            let start = bytes.len();
-            bytes.resize(start + Sender::sealed_chunk_len(payload.len())?, 0);
-            self.sender.seal_chunk(payload, &mut bytes[start..])?;
-        }
-        let mut rest = &bytes[..];
-        for length in WRITES {
-            let (front, behind) = rest.split_at(length.min(rest.len()));
-            let sent = self.socket.write_all(front);
-            sent.map_err(|error| told("a sealed stream", &error))?;
-            rest = behind;
-        }
-        Ok(())
+        let sent = self.outgoing.write_all(text);
+        sent.map_err(|error| told("a sealed stream", &error))
     }
 
     /// So many bytes of the text that the other end sends.
     pub fn receive(&mut self, length: usize) -> Outcome<Vec<u8>> {
-        while self.opened.len() < length {
-            self.open_more()?;
-        }
-        Ok(self.opened.drain(..length).collect())
+        let mut text = vec![0; length];
+        let received = self.incoming.read_exact(&mut text);
+        received.map_err(|error| told("a sealed stream", &error))?;
+        Ok(text)
     }
 
     /// The address with which a client's text begins.
     pub fn receive_address(&mut self) -> Outcome<Address> {
-        loop {
-            if let Some((address, rest)) = address::split(&self.opened)? {
-                self.opened = rest.to_vec();
-                return Ok(address);
-            }
-            self.open_more()?;
-        }
+        let received = self.incoming.read_address();
+        received.map_err(|error| told("a sealed stream", &error))
+    }
+}
+
+/// A socket that takes sealed bytes in writes of several lengths.
+struct Pieces<'a> {
+    socket: &'a TcpStream,
+    written: usize,
+}
+
+impl Write for Pieces<'_> {
+    fn write(&mut self, bytes: &[u8]) -> io::Result<usize> {
+        let length = WRITES[self.written % WRITES.len()].min(bytes.len());
+        self.written += 1;
+        self.socket.write(&bytes[..length])
     }
 
-    /// Opens what has come in, or waits for more.
-    fn open_more(&mut self) -> Outcome<()> {
-        let Some(receiver) = &mut self.receiver else {
-            let length = self.key.method().salt_len();
-            if self.arrived.len() < length {
-                return self.wait();
-            }
-            let salt: Vec<u8> = self.arrived.drain(..length).collect();
-            self.receiver = Some(Receiver::begin(&self.key, &salt)?);
-            return Ok(());
-        };
-        let mut out = [0; MAX_CHUNK];
-        match receiver.open_chunk(&self.arrived, &mut out) {
-            Ok(step) => {
-                self.arrived.drain(..step.used());
-                if let Step::Payload { length, .. } = step {
-                    self.opened.extend(&out[..length]);
-                }
-                Ok(())
-            }
-            Err(Refusal::More { .. }) => self.wait(),
-            Err(refusal) => Err(format!("the library refuses a piece: {refusal}").into()),
-        }
-    }
-
-    fn wait(&mut self) -> Outcome<()> {
-        let mut bytes = [0; 4_096];
-        let read = self.socket.read(&mut bytes);
-        match read.map_err(|error| told("a sealed stream", &error))? {
-            0 => Err("a sealed stream was closed".into()),
-            length => {
-                self.arrived.extend(&bytes[..length]);
-                Ok(())
-            }
-        }
+    fn flush(&mut self) -> io::Result<()> {
+        self.socket.flush()
     }
 }
 

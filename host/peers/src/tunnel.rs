@@ -55,7 +55,8 @@ fn over_tcp(
     let first = random::bytes(FIRST)?;
     let mut plain = streams::with_timeouts(user)?;
     streams::send(&mut plain, &first)?;
-    let mut sealed = Sealed::new(streams::accept(listener)?, key)?;
+    let (socket, mut buffers) = (streams::accept(listener)?, Default::default());
+    let mut sealed = Sealed::new(&socket, key, &mut buffers)?;
     let asked = sealed.receive_address()?;
     if asked != *address {
         return Err(format!("the tunnel asks for {asked}, not {address}").into());

@@ -7,9 +7,8 @@ use std::error::Error;
 use std::fs::File;
 use std::io::{self, Read};
 use std::net::{SocketAddr, UdpSocket};
-use std::time::{SystemTime, UNIX_EPOCH};
 
-use relay::{Address, Invalid, Key, Method, Nonce, Peer, SealSession, Table, MAX_DATAGRAM};
+use relay::{Address, Clock, Key, Method, Nonce, Peer, Replies, SealSession, Table, MAX_DATAGRAM};
 
 fn main() -> Result<(), Box<dyn Error>> {
     let method = match env::args().nth(1) {
@@ -17,26 +16,34 @@ fn main() -> Result<(), Box<dyn Error>> {
         None => Method::ChaCha20Poly1305,
     };
     let key = Key::new(method, &random::<32>()?[..method.key_len()])?;
+    let clock = Clock::new();
     let client = UdpSocket::bind("127.0.0.1:0")?;
     let server = UdpSocket::bind("127.0.0.1:0")?;
 
     // The client seals a question for a target behind the server.
     let mut session = SealSession::client(u64::from_be_bytes(random()?));
-    let target = Address::name(b"time.example", 37)?;
+    let target: Address = "time.example:37".parse()?;
     let mut wire = vec![0; MAX_DATAGRAM];
     let (nonce, question) = (nonce(method)?, b"What time is it?");
-    let length = session.seal(&key, nonce, now()?, &target, 0, question, &mut wire)?;
+    let length = session.seal(&key, nonce, clock.now(), &target, 0, question, &mut wire)?;
     client.send_to(&wire[..length], server.local_addr()?)?;
     println!("client   sends {length} bytes with {method}");
 
-    serve(&server, &key)?;
+    serve(&server, &key, &clock)?;
 
     // The client has a table for the server's sessions.
     let mut servers = Table::new(60)?;
     let mut plaintext = vec![0; MAX_DATAGRAM];
     let (length, caller) = client.recv_from(&mut wire)?;
     let (own, peer) = (session.id(), Peer::from(caller));
-    let header = servers.open_client(&key, now()?, own, peer, &wire[..length], &mut plaintext)?;
+    let header = servers.open_client(
+        &key,
+        clock.now(),
+        own,
+        peer,
+        &wire[..length],
+        &mut plaintext,
+    )?;
     let answer = String::from_utf8_lossy(header.payload(&plaintext));
     let told_by = header.address(&plaintext);
     println!("client   is told {answer:?} by {told_by}");
@@ -44,7 +51,7 @@ fn main() -> Result<(), Box<dyn Error>> {
 }
 
 /// Opens one question, refuses a copy of it, and answers.
-fn serve(server: &UdpSocket, key: &Key) -> Result<(), Box<dyn Error>> {
+fn serve(server: &UdpSocket, key: &Key, clock: &Clock) -> Result<(), Box<dyn Error>> {
     let mut wire = vec![0; MAX_DATAGRAM];
     let mut plaintext = vec![0; MAX_DATAGRAM];
 
@@ -52,45 +59,39 @@ fn serve(server: &UdpSocket, key: &Key) -> Result<(), Box<dyn Error>> {
     let mut clients = Table::new(60)?;
     let (length, caller) = server.recv_from(&mut wire)?;
     let peer = Peer::from(caller);
-    let header = clients.open_server(key, now()?, peer, &wire[..length], &mut plaintext)?;
+    let header = clients.open_server(key, clock.now(), peer, &wire[..length], &mut plaintext)?;
     let question = String::from_utf8_lossy(header.payload(&plaintext));
     let asked_for = header.address(&plaintext);
     println!("server   is asked {question:?} for {asked_for}");
 
-    let copy = clients.open_server(key, now()?, peer, &wire[..length], &mut plaintext);
+    let copy = clients.open_server(key, clock.now(), peer, &wire[..length], &mut plaintext);
     println!("server   refuses a copy: {}", copy.unwrap_err());
-    println!("server   has {}", clients.display(now()?));
+    println!("server   has {}", clients.display(clock.now()));
 
     // The answer goes to where the session was last heard.
-    let replies_to = header.session_id;
-    let peer = clients.peer_of(replies_to, now()?).ok_or("forgotten")?;
-    let mut replies = begin(replies_to, &clients)?;
+    let (mut replies, mut random) = (Replies::new(), File::open("/dev/urandom")?);
     let source = Address::from(SocketAddr::from(([192, 0, 2, 37], 37)));
-    let (nonce, answer) = (nonce(key.method())?, b"Tea time.");
-    let length = replies.seal(key, nonce, now()?, &source, 0, answer, &mut wire)?;
+    let (now, client, answer) = (clock.now(), header.session_id, b"Tea time.");
+    let (length, peer) = replies
+        .seal(
+            key,
+            &clients,
+            now,
+            client,
+            &source,
+            answer,
+            &mut random,
+            &mut wire,
+        )?
+        .ok_or("the client is forgotten")?;
     server.send_to(&wire[..length], SocketAddr::from(peer))?;
     Ok(())
-}
-
-/// Begins a reply session. Its ID is drawn again if a client has it.
-fn begin(client: u64, clients: &Table) -> Result<SealSession, Box<dyn Error>> {
-    loop {
-        let id = u64::from_be_bytes(random()?);
-        match SealSession::server(id, client, now()?, clients) {
-            Err(Invalid::SessionId { .. }) => continue,
-            begun => return Ok(begun?),
-        }
-    }
 }
 
 /// Another one for each datagram, where the method takes one.
 fn nonce(method: Method) -> io::Result<Option<Nonce>> {
     let random = method.takes_nonce().then(random).transpose()?;
     Ok(random.map(Nonce::new))
-}
-
-fn now() -> Result<u64, Box<dyn Error>> {
-    Ok(SystemTime::now().duration_since(UNIX_EPOCH)?.as_secs())
 }
 
 fn random<const N: usize>() -> io::Result<[u8; N]> {

@@ -2,6 +2,7 @@
 
 use std::fmt;
 use std::net::{Ipv4Addr, Ipv6Addr, SocketAddr};
+use std::str::FromStr;
 
 use crate::Invalid;
 
@@ -15,7 +16,7 @@ const PORT: usize = 2;
 
 /// Kind, length, a name of one byte or the longest one, and the port.
 const SHORTEST: usize = 1 + 1 + 1 + PORT;
-const LONGEST: usize = 1 + 1 + 255 + PORT;
+pub(crate) const LONGEST: usize = 1 + 1 + 255 + PORT;
 
 /// An address to seal: an IPv4 or IPv6 address or a name, and a port.
 ///
@@ -28,7 +29,8 @@ const LONGEST: usize = 1 + 1 + 255 + PORT;
 /// let resolver = Address::from(SocketAddr::from(([192, 0, 2, 1], 53)));
 /// assert_eq!(resolver.as_bytes(), [1, 192, 0, 2, 1, 0, 53]);
 ///
-/// let site = Address::name(b"example.com", 443)?;
+/// let site: Address = "example.com:443".parse()?;
+/// assert_eq!(site, Address::name(b"example.com", 443)?);
 /// assert_eq!(site.to_string(), "example.com:443");
 /// # Ok::<(), relay::Invalid>(())
 /// ```
@@ -60,14 +62,7 @@ impl Address {
     /// [`Invalid::AddressKind`], [`Invalid::NameLength`] (0) or
     /// [`Invalid::AddressLength`] if they are not.
     pub fn from_bytes(bytes: &[u8]) -> Result<Self, Invalid> {
-        let wanted = match *bytes {
-            [IPV4, ..] => 1 + 4 + PORT,
-            [IPV6, ..] => 1 + 16 + PORT,
-            [NAME, 0, ..] => return Err(Invalid::NameLength { length: 0 }),
-            [NAME, name, ..] => 2 + usize::from(name) + PORT,
-            [NAME] | [] => SHORTEST,
-            [kind, ..] => return Err(Invalid::AddressKind { kind }),
-        };
+        let wanted = Self::length_in(bytes)?.unwrap_or(SHORTEST);
         let length = bytes.len();
         if length != wanted {
             return Err(Invalid::AddressLength { wanted, length });
@@ -80,6 +75,45 @@ impl Address {
         Ok(address)
     }
 
+    /// The address in front of bytes, and the bytes behind it. `None` wants more bytes.
+    ///
+    /// In the 2017 edition a client's text begins so.
+    ///
+    /// ```
+    /// use relay::Address;
+    ///
+    /// let address = Address::name(b"example.com", 80)?;
+    /// let text = [address.as_bytes(), b"GET /"].concat();
+    /// assert_eq!(Address::split(&text[..10])?, None);
+    /// assert_eq!(Address::split(&text)?, Some((address, &b"GET /"[..])));
+    /// # Ok::<(), relay::Invalid>(())
+    /// ```
+    ///
+    /// # Errors
+    ///
+    /// [`Invalid::AddressKind`] or [`Invalid::NameLength`] (0) if no address begins so.
+    pub fn split(text: &[u8]) -> Result<Option<(Self, &[u8])>, Invalid> {
+        let Some(length) = Self::length_in(text)? else {
+            return Ok(None);
+        };
+        match text.split_at_checked(length) {
+            Some((front, behind)) => Ok(Some((Self::from_bytes(front)?, behind))),
+            None => Ok(None),
+        }
+    }
+
+    /// How many bytes an address has that begins so. `None` wants more bytes.
+    fn length_in(bytes: &[u8]) -> Result<Option<usize>, Invalid> {
+        match *bytes {
+            [IPV4, ..] => Ok(Some(1 + 4 + PORT)),
+            [IPV6, ..] => Ok(Some(1 + 16 + PORT)),
+            [NAME, 0, ..] => Err(Invalid::NameLength { length: 0 }),
+            [NAME, name, ..] => Ok(Some(2 + usize::from(name) + PORT)),
+            [NAME] | [] => Ok(None),
+            [kind, ..] => Err(Invalid::AddressKind { kind }),
+        }
+    }
+
     /// The bytes that are sealed: 5 to 259.
     pub fn as_bytes(&self) -> &[u8] {
         &self.bytes[..self.length]
@@ -89,6 +123,27 @@ impl Address {
     pub fn port(&self) -> u16 {
         let port = &self.as_bytes()[self.length - PORT..];
         u16::from_be_bytes([port[0], port[1]])
+    }
+
+    /// The address and the port, unless it is a name.
+    pub fn socket_addr(&self) -> Option<SocketAddr> {
+        let port = self.port();
+        match *self.as_bytes() {
+            [IPV4, a, b, c, d, ..] => Some(SocketAddr::from(([a, b, c, d], port))),
+            [IPV6, ref host @ ..] => {
+                let octets: [u8; 16] = *host.first_chunk()?;
+                Some(SocketAddr::from((octets, port)))
+            }
+            _ => None,
+        }
+    }
+
+    /// The name, if it is one: any 1 to 255 bytes.
+    pub fn host_name(&self) -> Option<&[u8]> {
+        match self.as_bytes() {
+            [NAME, _, name @ .., _, _] => Some(name),
+            _ => None,
+        }
     }
 
     pub(crate) fn v4(address: Ipv4Addr, port: u16) -> Self {
@@ -131,17 +186,52 @@ impl Eq for Address {}
 
 impl fmt::Display for Address {
     fn fmt(&self, f: &mut fmt::Formatter<'_>) -> fmt::Result {
-        let port = self.port();
-        match self.as_bytes() {
-            [IPV4, a, b, c, d, ..] => write!(f, "{}:{port}", Ipv4Addr::new(*a, *b, *c, *d)),
-            [IPV6, host @ ..] => {
-                let octets: [u8; 16] = std::array::from_fn(|index| host[index]);
-                write!(f, "[{}]:{port}", Ipv6Addr::from(octets))
+        match (self.socket_addr(), self.host_name()) {
+            (Some(address), _) => write!(f, "{address}"),
+            // A name may hold any bytes.
+            (None, name) => {
+                let name = name.unwrap_or_default().escape_ascii();
+                write!(f, "{name}:{}", self.port())
             }
-            // Behind kind and length. A name may hold any bytes.
-            bytes => write!(f, "{}:{port}", bytes[2..bytes.len() - PORT].escape_ascii()),
         }
     }
+}
+
+impl FromStr for Address {
+    type Err = Invalid;
+
+    /// Reads `HOST:PORT`, where the host is an IPv4 address, an IPv6 address in brackets
+    /// or a name of letters, digits, `-`, `_` and `.`. A name does not end in a number, as
+    /// a mistyped IPv4 address does.
+    ///
+    /// # Errors
+    ///
+    /// [`Invalid::AddressText`], or [`Invalid::NameLength`] if a name is longer than 255
+    /// bytes.
+    fn from_str(text: &str) -> Result<Self, Invalid> {
+        let (host, port) = text.rsplit_once(':').ok_or(Invalid::AddressText)?;
+        let is_number = port.bytes().all(|digit| digit.is_ascii_digit());
+        let port = port.parse().ok().filter(|_| is_number);
+        let port = port.ok_or(Invalid::AddressText)?;
+        let brackets = host.strip_prefix('[').and_then(|h| h.strip_suffix(']'));
+        if let Some(v6) = brackets {
+            let address = v6.parse().map_err(|_| Invalid::AddressText)?;
+            return Ok(Self::v6(address, port));
+        }
+        match host.parse() {
+            Ok(address) => Ok(Self::v4(address, port)),
+            Err(_) if is_name(host) => Self::name(host.as_bytes(), port),
+            Err(_) => Err(Invalid::AddressText),
+        }
+    }
+}
+
+/// Whether a text is taken for the name of a host.
+fn is_name(text: &str) -> bool {
+    let is_letter = |byte: u8| byte.is_ascii_alphanumeric() || b"-_.".contains(&byte);
+    let labels = text.strip_suffix('.').unwrap_or(text);
+    let last = labels.rsplit('.').next().unwrap_or_default();
+    text.bytes().all(is_letter) && !last.bytes().all(|byte| byte.is_ascii_digit())
 }
 
 impl fmt::Debug for Address {

@@ -3,7 +3,7 @@
 use std::error::Error;
 use std::fmt;
 
-use crate::{sip004, Method, Refusal};
+use crate::{settings, sip004, Method, Refusal};
 
 /// Why a key, an address, a table or a session cannot be made of what was given.
 ///
@@ -68,19 +68,20 @@ pub enum Invalid {
         /// How many bytes were given.
         length: usize,
     },
+    /// A text is not an address: see [`Address`](crate::Address)'s `FromStr`.
+    AddressText,
+    /// A text is not Base64.
+    Base64 {
+        /// The place, in bytes, where it goes wrong.
+        place: usize,
+    },
 }
 
 impl fmt::Display for Invalid {
     fn fmt(&self, f: &mut fmt::Formatter<'_>) -> fmt::Result {
         match *self {
-            Self::KeyLength { method, length } => {
-                let wanted = method.key_len();
-                write!(f, "a key of {method} has {wanted} bytes, not {length}")
-            }
-            Self::Sip004KeyLength { method, length } => {
-                let wanted = method.key_len();
-                write!(f, "a key of {method} has {wanted} bytes, not {length}")
-            }
+            Self::KeyLength { method, length } => tell_key_length(f, method.into(), length),
+            Self::Sip004KeyLength { method, length } => tell_key_length(f, method.into(), length),
             Self::Retention { seconds } => {
                 write!(
                     f,
@@ -109,8 +110,21 @@ impl fmt::Display for Invalid {
                     "an address that begins so has {wanted} bytes, not {length}"
                 )
             }
+            Self::AddressText => f.write_str(
+                "an address is written 192.0.2.1:53, [2001:db8::1]:53 or example.com:53",
+            ),
+            Self::Base64 { place } => write!(f, "no Base64 at byte {place}"),
         }
     }
+}
+
+fn tell_key_length(
+    f: &mut fmt::Formatter<'_>,
+    method: settings::Method,
+    length: usize,
+) -> fmt::Result {
+    let wanted = method.key_len();
+    write!(f, "a key of {method} has {wanted} bytes, not {length}")
 }
 
 impl Error for Invalid {}
@@ -121,11 +135,13 @@ impl From<Invalid> for Refusal {
             Invalid::KeyLength { .. }
             | Invalid::Sip004KeyLength { .. }
             | Invalid::Retention { .. }
-            | Invalid::TableRetention { .. } => Self::Settings,
+            | Invalid::TableRetention { .. }
+            | Invalid::Base64 { .. } => Self::Settings,
             Invalid::SessionId { .. }
             | Invalid::NameLength { .. }
             | Invalid::AddressKind { .. }
-            | Invalid::AddressLength { .. } => Self::Argument,
+            | Invalid::AddressLength { .. }
+            | Invalid::AddressText => Self::Argument,
         }
     }
 }
@@ -140,7 +156,7 @@ mod tests {
     }
 
     #[test]
-    fn each_says_what_was_wrong() {
+    fn wrong_settings_say_what_was_wrong() {
         let key = said(Key::new(Method::Aes256Gcm, &[0; 33]));
         let older = said(sip004::Key::new(sip004::Method::Aes192Gcm, &[0; 32]));
         let retention = said(Table::new(59));
@@ -150,6 +166,10 @@ mod tests {
             (key, "a key of 2022-blake3-aes-256-gcm has 32 bytes, not 33"),
             (older, "a key of aes-192-gcm has 24 bytes, not 32"),
             (
+                said(Key::from_base64(Method::Aes128Gcm, " S0t?")),
+                "no Base64 at byte 4",
+            ),
+            (
                 retention,
                 "a retention is 60 to 3,600 seconds, or 0 for 300, not 59",
             ),
@@ -157,6 +177,10 @@ mod tests {
         ] {
             assert_eq!((text.as_str(), refusal), (expected, Refusal::Settings));
         }
+    }
+
+    #[test]
+    fn wrong_arguments_say_what_was_wrong() {
         let clients = Table::new(60).unwrap();
         for ((text, refusal), expected) in [
             (
@@ -174,6 +198,10 @@ mod tests {
             (
                 said(Address::from_bytes(b"\x03\x01a\x00")),
                 "an address that begins so has 5 bytes, not 4",
+            ),
+            (
+                said("192.0.2.1".parse::<Address>()),
+                "an address is written 192.0.2.1:53, [2001:db8::1]:53 or example.com:53",
             ),
         ] {
             assert_eq!((text.as_str(), refusal), (expected, Refusal::Argument));

@@ -3,7 +3,7 @@
 use std::fmt;
 
 use crate::secret::KeyBytes;
-use crate::{Invalid, Method};
+use crate::{base64, Invalid, Method};
 
 /// A shared key and its method.
 ///
@@ -41,6 +41,25 @@ impl Key {
         })
     }
 
+    /// Makes a key of the Base64 of its bytes, as people write keys down. What is decoded on
+    /// the way is overwritten; the text is the caller's.
+    ///
+    /// # Errors
+    ///
+    /// [`Invalid::Base64`] if the text is none ([`base64::decode`]), else as
+    /// [`new`](Key::new).
+    ///
+    /// ```
+    /// use relay::{Key, Method};
+    ///
+    /// let key = Key::from_base64(Method::Aes128Gcm, "S0tLS0tLS0tLS0tLS0tLSw==\n")?;
+    /// assert_eq!(key.method(), Method::Aes128Gcm);
+    /// # Ok::<(), relay::Invalid>(())
+    /// ```
+    pub fn from_base64(method: Method, text: &str) -> Result<Self, Invalid> {
+        base64::with_decoded(text, |key| Self::new(method, key))
+    }
+
     /// The method that the key is for.
     pub fn method(&self) -> Method {
         self.method
@@ -62,7 +81,22 @@ impl fmt::Debug for Key {
 #[cfg(test)]
 mod tests {
     use super::Key;
-    use crate::{Invalid, Method};
+    use crate::{base64, Invalid, Method};
+
+    #[test]
+    fn a_key_is_read_from_its_text() {
+        for method in Method::ALL {
+            let bytes = vec![0xfb; method.key_len()];
+            for text in [base64::encode(&bytes), base64::encode_url(&bytes)] {
+                let key = Key::from_base64(method, &text).unwrap();
+                assert_eq!((key.method(), key.bytes()), (method, &bytes[..]));
+            }
+            let length = bytes.len() + 1;
+            let longer = base64::encode(&vec![0xfb; length]);
+            let invalid = Key::from_base64(method, &longer).unwrap_err();
+            assert_eq!(invalid, Invalid::KeyLength { method, length });
+        }
+    }
 
     #[test]
     fn only_the_methods_own_length_is_taken() {

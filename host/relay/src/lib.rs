@@ -2,21 +2,28 @@
 //!
 //! The core is proved: each function meets its contract for every input, stays
 //! within the buffers that it is lent, and ends (`docs/PROMISES.md`). This crate
-//! gives it Rust's types and adds nothing to what it does. It opens no socket,
-//! reads no clock and makes no random numbers: the host brings the bytes, the time,
-//! the IDs, the salts and the nonces.
+//! gives it Rust's types. The core opens no socket, reads no clock and makes no random
+//! numbers: the host brings the bytes, the time, the IDs, the salts and the nonces. Around
+//! it stands what every host would write: a clock, replies, keys from text, and streams
+//! over readers and writers. Whatever is accepted or refused, the core decides.
 //!
 //! | to | use |
 //! |---|---|
+//! | read a key from text | [`Key::from_base64`], [`base64`] |
+//! | take the time | [`Clock`], the system's, which never goes back |
 //! | seal datagrams | [`SealSession`] |
 //! | open datagrams, once each | [`Table`], which gives a [`Header`] |
+//! | reply to clients' datagrams | [`Replies`] |
+//! | read and write a stream over a connection | [`io::Incoming`], [`io::Outgoing`] |
 //! | seal or open a stream from client to server | [`RequestStream`], with a [`Pool`] at the server |
 //! | seal or open a stream from server to client | [`ResponseStream`] |
 //! | plan a long report in datagrams | [`Plan`] |
 //! | tell where two recordings differ | [`recording::compare`] |
+//! | read a recording | [`recording::entries`] |
 //! | mend a damaged recording | [`recording::mend`] |
 //! | read and write settings files | [`settings::read`], [`settings::write`] |
 //! | seal or open datagrams and streams of the 2017 edition (SIP004) | [`sip004`] |
+//! | tell what to do about a refusal | [`Refusal::action`] |
 //!
 //! # A datagram
 //!
@@ -110,7 +117,7 @@
 //! salt that the front of a request stored stays, whatever is refused behind it. One that
 //! comes before the payload's tag was found good leaves the output buffer as it
 //! was; one that comes later sets the bytes of the plaintext to zero. Bytes behind
-//! those due are never written.
+//! those due are never written. What a host does about each is its [`Action`].
 //!
 //! # Stored state
 //!
@@ -144,12 +151,16 @@
 #![deny(unsafe_code)]
 #![warn(missing_docs)]
 
+mod action;
 mod address;
 mod answer;
+pub mod base64;
+mod clock;
 #[allow(unsafe_code)]
 mod ffi;
 mod header;
 mod invalid;
+pub mod io;
 mod key;
 mod method;
 mod nonce;
@@ -158,6 +169,7 @@ mod plan;
 mod pool;
 pub mod recording;
 mod refusal;
+mod replies;
 mod seal_session;
 mod secret;
 mod session;
@@ -167,7 +179,9 @@ pub mod stream;
 mod table;
 mod target;
 
+pub use action::Action;
 pub use address::Address;
+pub use clock::Clock;
 pub use header::Header;
 pub use invalid::Invalid;
 pub use key::Key;
@@ -177,9 +191,10 @@ pub use peer::Peer;
 pub use plan::{Piece, Pieces, Plan};
 pub use pool::Pool;
 pub use refusal::Refusal;
+pub use replies::Replies;
 pub use seal_session::SealSession;
 pub use session::Session;
-pub use stream::{RequestFront, RequestHeader, RequestReader, RequestStream};
+pub use stream::{RequestFront, RequestHeader, RequestStream};
 pub use stream::{ResponseHeader, ResponseStream, Step};
 pub use table::Table;
 pub use target::Target;

@@ -154,10 +154,18 @@ pub struct UnknownMethod {
 
 impl fmt::Display for UnknownMethod {
     fn fmt(&self, f: &mut fmt::Formatter<'_>) -> fmt::Result {
-        let [others @ .., last] = Method::ALL.map(Method::name);
-        let (others, name) = (others.join(", "), &self.name);
-        write!(f, "a method is {others} or {last}, not {name:?}")
+        tell_unknown(f, &Method::ALL.map(Method::name), &self.name)
     }
+}
+
+/// Says which methods there are, and that this is none of them.
+pub(crate) fn tell_unknown(f: &mut fmt::Formatter<'_>, all: &[&str], name: &str) -> fmt::Result {
+    let (last, others) = all.split_last().unwrap_or((&"none", &[]));
+    write!(
+        f,
+        "a method is {} or {last}, not {name:?}",
+        others.join(", ")
+    )
 }
 
 impl Error for UnknownMethod {}

@@ -7,7 +7,7 @@
 
 use std::fmt;
 
-use crate::{answer, ffi, Refusal};
+use crate::{answer, ffi, Refusal, MAX_DATAGRAM};
 
 /// The longest recording that is compared, in bytes.
 pub const MAX_COMPARED: usize = 32_768;
@@ -52,11 +52,116 @@ pub fn compare_into(first: &[u8], second: &[u8], out: &mut [u8]) -> Result<usize
     ffi::recording_compare(first, second, out).map(|words| answer::length(words[0]))
 }
 
+/// An entry of a recording.
+#[derive(Clone, Copy, Debug, PartialEq, Eq, Hash)]
+pub struct Entry<'a> {
+    /// 0, 1, or 2 for unknown.
+    pub direction: u8,
+    /// When it was recorded.
+    pub clock: u64,
+    /// The datagram.
+    pub body: &'a [u8],
+}
+
+/// The text of a comparison of a recording with itself: `entries 4096 4096` at most.
+const EQUAL_ROOM: usize = 18;
+
+/// The most entries of a recording.
+pub const MAX_ENTRIES: usize = 4_096;
+
+/// The bytes of a recording before its contents: the count of entries.
+pub const COUNT_LEN: usize = 4;
+
+/// The bytes of an entry besides its body.
+pub const CONTENTS_LEN: usize = 4 + 2 + 1 + 8;
+
+/// The entries of a recording, in order.
+///
+/// The library decides whether it is one: it compares the file with itself.
+///
+/// ```
+/// // Clock 7, direction 0, one body of two bytes.
+/// let file = *b"\0\0\0\x01\0\0\0\x13\0\x02\0\0\0\0\0\0\0\0\x07ab";
+/// let entry = relay::recording::entries(&file)?.next().unwrap();
+/// assert_eq!((entry.direction, entry.clock, entry.body), (0, 7, &b"ab"[..]));
+/// # Ok::<(), relay::Refusal>(())
+/// ```
+///
+/// # Errors
+///
+/// As [`compare`].
+pub fn entries(file: &[u8]) -> Result<impl Iterator<Item = Entry<'_>>, Refusal> {
+    compare_into(file, file, &mut [0; EQUAL_ROOM])?;
+    let (count, contents) = file.split_at_checked(COUNT_LEN).ok_or(Refusal::Malformed)?;
+    let contents = contents
+        .chunks_exact(CONTENTS_LEN)
+        .take(number(count) as usize);
+    Ok(contents.map_while(|entry| {
+        let (offset, rest) = entry.split_at(4);
+        let (length, rest) = rest.split_at(2);
+        let (direction, clock) = rest.split_first()?;
+        let (from, length) = (number(offset) as usize, number(length) as usize);
+        Some(Entry {
+            direction: *direction,
+            clock: number(clock),
+            body: file.get(from..)?.get(..length)?,
+        })
+    }))
+}
+
+/// The recording of entries.
+///
+/// ```
+/// use relay::recording::{self, Entry};
+///
+/// let entry = Entry { direction: 0, clock: 7, body: b"ab" };
+/// let file = recording::write(&[entry])?;
+/// assert_eq!(file, *b"\0\0\0\x01\0\0\0\x13\0\x02\0\0\0\0\0\0\0\0\x07ab");
+/// # Ok::<(), relay::Refusal>(())
+/// ```
+///
+/// # Errors
+///
+/// [`Refusal::Length`] if there are more than [`MAX_ENTRIES`], or one has more than
+/// [`MAX_DATAGRAM`] bytes; [`Refusal::Argument`] if a direction is above 2.
+pub fn write(entries: &[Entry]) -> Result<Vec<u8>, Refusal> {
+    if entries.len() > MAX_ENTRIES {
+        return Err(Refusal::Length);
+    }
+    let mut file = (entries.len() as u32).to_be_bytes().to_vec();
+    let mut offset = COUNT_LEN + entries.len() * CONTENTS_LEN;
+    for entry in entries {
+        let length = entry.body.len();
+        match (length, entry.direction) {
+            (0..=MAX_DATAGRAM, 0..=2) => {}
+            (0..=MAX_DATAGRAM, _) => return Err(Refusal::Argument),
+            _ => return Err(Refusal::Length),
+        }
+        // Neither is cut: 4,096 bodies of 65,507 bytes end below 2^32.
+        file.extend((offset as u32).to_be_bytes());
+        file.extend((length as u16).to_be_bytes());
+        file.push(entry.direction);
+        file.extend(entry.clock.to_be_bytes());
+        offset += length;
+    }
+    for entry in entries {
+        file.extend(entry.body);
+    }
+    Ok(file)
+}
+
+/// The number of up to 8 bytes, big-endian.
+fn number(bytes: &[u8]) -> u64 {
+    bytes
+        .iter()
+        .fold(0, |number, byte| number << 8 | u64::from(*byte))
+}
+
 /// The most changes that mending can make: the count, and three of each entry.
-const MAX_CHANGES: usize = 1 + 3 * 4_096;
+const MAX_CHANGES: usize = 1 + 3 * MAX_ENTRIES;
 
 /// The entry that a report has for the count.
-const OF_COUNT: u64 = 4_096;
+const OF_COUNT: u64 = MAX_ENTRIES as u64;
 
 /// A field of a recording's contents.
 #[derive(Clone, Copy, Debug, PartialEq, Eq, Hash)]

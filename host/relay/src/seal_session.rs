@@ -182,6 +182,11 @@ impl SealSession {
         self.words[3]
     }
 
+    /// Whether the packet IDs are used up: sealing is then [`Refusal::Counter`].
+    pub fn is_used_up(&self) -> bool {
+        self.next_packet() == u64::MAX
+    }
+
     /// The session as words, to be stored: 0 for a client's or 1 for a server's, its
     /// ID, the client's ID or 0, the next packet ID.
     ///

@@ -35,7 +35,12 @@
 //! # Ok::<(), relay::Refusal>(())
 //! ```
 
+use std::error::Error;
+use std::fmt;
+use std::str::FromStr;
+
 use crate::answer::{self, Answer};
+use crate::method::tell_unknown;
 use crate::{ffi, sip004, Address, Refusal, Target};
 
 /// The shortest file, in bytes: one without settings.
@@ -54,6 +59,16 @@ pub(crate) const LIMIT: u16 = 3;
 pub(crate) const TARGET: u16 = 4;
 
 /// A method of either edition of the protocol.
+///
+/// ```
+/// use relay::settings::Method;
+/// use relay::sip004;
+///
+/// let method: Method = "aes-192-gcm".parse()?;
+/// assert_eq!(method, Method::Sip004(sip004::Method::Aes192Gcm));
+/// assert_eq!((method.to_string(), method.key_len()), ("aes-192-gcm".to_string(), 24));
+/// # Ok::<(), relay::settings::UnknownMethod>(())
+/// ```
 #[derive(Clone, Copy, Debug, PartialEq, Eq, Hash)]
 pub enum Method {
     /// A method of Shadowsocks 2022.
@@ -63,6 +78,18 @@ pub enum Method {
 }
 
 impl Method {
+    /// Every method, by number.
+    pub const ALL: [Self; 8] = [
+        Self::Sip022(crate::Method::Aes128Gcm),
+        Self::Sip022(crate::Method::Aes256Gcm),
+        Self::Sip022(crate::Method::ChaCha20Poly1305),
+        Self::Sip022(crate::Method::ChaCha12Poly1305),
+        Self::Sip022(crate::Method::ChaCha8Poly1305),
+        Self::Sip004(sip004::Method::Aes128Gcm),
+        Self::Sip004(sip004::Method::Aes192Gcm),
+        Self::Sip004(sip004::Method::Aes256Gcm),
+    ];
+
     /// The method's number, as C callers and files have it.
     pub const fn number(self) -> u64 {
         match self {
@@ -73,11 +100,62 @@ impl Method {
 
     /// The method of a number, if there is one.
     pub fn from_number(number: u64) -> Option<Self> {
-        crate::Method::from_number(number)
-            .map(Self::Sip022)
-            .or_else(|| sip004::Method::from_number(number).map(Self::Sip004))
+        Self::ALL
+            .into_iter()
+            .find(|method| method.number() == number)
+    }
+
+    /// The method's name in its edition.
+    pub const fn name(self) -> &'static str {
+        match self {
+            Self::Sip022(method) => method.name(),
+            Self::Sip004(method) => method.name(),
+        }
+    }
+
+    /// The length of a key in bytes.
+    pub const fn key_len(self) -> usize {
+        match self {
+            Self::Sip022(method) => method.key_len(),
+            Self::Sip004(method) => method.key_len(),
+        }
     }
 }
+
+impl fmt::Display for Method {
+    fn fmt(&self, f: &mut fmt::Formatter<'_>) -> fmt::Result {
+        f.pad(self.name())
+    }
+}
+
+impl FromStr for Method {
+    type Err = UnknownMethod;
+
+    /// Finds a method by its exact name.
+    fn from_str(name: &str) -> Result<Self, UnknownMethod> {
+        Self::ALL
+            .into_iter()
+            .find(|method| method.name() == name)
+            .ok_or_else(|| UnknownMethod {
+                name: name.to_string(),
+            })
+    }
+}
+
+/// There is no method of that name in either edition.
+#[derive(Clone, Debug, PartialEq, Eq)]
+pub struct UnknownMethod {
+    /// The name that was given.
+    pub name: String,
+}
+
+impl fmt::Display for UnknownMethod {
+    fn fmt(&self, f: &mut fmt::Formatter<'_>) -> fmt::Result {
+        tell_unknown(f, &Method::ALL.map(Method::name), &self.name)
+    }
+}
+
+impl Error for UnknownMethod {}
 
 impl From<crate::Method> for Method {
     fn from(method: crate::Method) -> Self {
@@ -212,7 +290,7 @@ pub fn write(edition: u16, settings: &[Setting]) -> Result<Vec<u8>, Refusal> {
 ///
 /// # Errors
 ///
-/// As [`write`], and then [`Refusal::Room`] if the file is longer than the buffer. A
+/// As [`write()`], and then [`Refusal::Room`] if the file is longer than the buffer. A
 /// refusal writes nothing.
 pub fn write_into(edition: u16, settings: &[Setting], out: &mut [u8]) -> Result<usize, Refusal> {
     let (mut words, mut bodies) = (Vec::with_capacity(2 * settings.len()), Vec::new());
@@ -222,4 +300,38 @@ pub fn write_into(edition: u16, settings: &[Setting], out: &mut [u8]) -> Result<
         bodies.extend(body);
     }
     ffi::settings_write(edition, &words, &bodies, out).map(|words| answer::length(words[0]))
+}
+
+#[cfg(test)]
+mod tests {
+    use super::Method;
+    use crate::sip004;
+
+    #[test]
+    fn all_are_those_of_both_editions() {
+        let newer = crate::Method::ALL.into_iter().map(Method::from);
+        let older = sip004::Method::ALL.into_iter().map(Method::from);
+        assert!(newer.chain(older).eq(Method::ALL));
+        for method in Method::ALL {
+            assert_eq!(method.name().parse(), Ok(method));
+            assert_eq!(Method::from_number(method.number()), Some(method));
+            let keys = match method {
+                Method::Sip022(method) => method.key_len(),
+                Method::Sip004(method) => method.key_len(),
+            };
+            assert_eq!(
+                (method.key_len(), method.to_string()),
+                (keys, method.name().into())
+            );
+        }
+    }
+
+    #[test]
+    fn an_unknown_name_is_told_with_all_eight() {
+        let told = "aes-129-gcm".parse::<Method>().unwrap_err().to_string();
+        for method in Method::ALL {
+            assert!(told.contains(method.name()), "{told}");
+        }
+        assert!(told.ends_with("aes-192-gcm or aes-256-gcm, not \"aes-129-gcm\""));
+    }
 }

@@ -3,7 +3,7 @@
 mod request;
 mod response;
 
-pub use request::{RequestFront, RequestHeader, RequestReader};
+pub use request::{RequestFront, RequestHeader};
 pub use response::ResponseHeader;
 
 use std::fmt;

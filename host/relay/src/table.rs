@@ -7,7 +7,7 @@ use crate::session::{Session, RECORD_WORDS};
 use crate::{Header, Invalid, Key, Peer, Refusal};
 
 /// How many sessions a table can hold.
-const SESSIONS: usize = 64;
+pub(crate) const SESSIONS: usize = 64;
 
 /// What a receiver remembers of the sessions that send to it: which packet IDs it
 /// accepted, when, and from where, and how many repeats it refused.
@@ -127,10 +127,8 @@ impl Table {
     /// Words from elsewhere may hold two alive records of one ID. Then the first
     /// one counts, here as in the openers.
     pub fn sessions(&self, clock: u64) -> impl Iterator<Item = Session> + '_ {
-        let records = self.words[1..].chunks_exact(RECORD_WORDS);
-        let alive = records.filter_map(move |r| Session::alive(r, self.retention(), clock));
         let mut seen = Vec::new();
-        alive.filter(move |session| {
+        self.alive(clock).filter(move |session| {
             let is_first = !seen.contains(&session.id);
             seen.push(session.id);
             is_first
@@ -162,11 +160,20 @@ impl Table {
         Display { table: self, clock }
     }
 
+    /// The session of an ID, if it is alive at a clock.
+    pub fn session(&self, id: u64, clock: u64) -> Option<Session> {
+        self.alive(clock).find(|session| session.id == id)
+    }
+
     /// Where to send replies to a session that is alive at a clock.
     pub fn peer_of(&self, session_id: u64, clock: u64) -> Option<Peer> {
-        self.sessions(clock)
-            .find(|session| session.id == session_id)
-            .map(|session| session.peer)
+        self.session(session_id, clock).map(|session| session.peer)
+    }
+
+    /// What every record shows that is alive at a clock.
+    fn alive(&self, clock: u64) -> impl Iterator<Item = Session> + '_ {
+        let records = self.words[1..].chunks_exact(RECORD_WORDS);
+        records.filter_map(move |record| Session::alive(record, self.retention(), clock))
     }
 
     /// The table as words, to be stored: the retention, and 64 records of 13.

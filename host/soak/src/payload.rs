@@ -3,7 +3,7 @@
 use crate::random::Random;
 
 /// A message of a client: each client has a series, and numbers its messages.
-#[derive(Clone, Copy, Debug, PartialEq, Eq)]
+#[derive(Clone, Copy, Debug, PartialEq, Eq, PartialOrd, Ord)]
 pub struct Message {
     pub series: u16,
     pub number: u64,

@@ -4,7 +4,7 @@ use std::fmt;
 
 use super::Method;
 use crate::secret::KeyBytes;
-use crate::Invalid;
+use crate::{base64, Invalid};
 
 /// A shared key of the 2017 edition and its method.
 ///
@@ -41,6 +41,24 @@ impl Key {
         })
     }
 
+    /// Makes a key of the Base64 of its bytes, as [`relay::Key`](crate::Key::from_base64)
+    /// does.
+    ///
+    /// # Errors
+    ///
+    /// [`Invalid::Base64`] if the text is none, else as [`new`](Key::new).
+    ///
+    /// ```
+    /// use relay::sip004::{Key, Method};
+    ///
+    /// let key = Key::from_base64(Method::Aes128Gcm, "S0tLS0tLS0tLS0tLS0tLSw==")?;
+    /// assert_eq!(key.method(), Method::Aes128Gcm);
+    /// # Ok::<(), relay::Invalid>(())
+    /// ```
+    pub fn from_base64(method: Method, text: &str) -> Result<Self, Invalid> {
+        base64::with_decoded(text, |key| Self::new(method, key))
+    }
+
     /// The method that the key is for.
     pub fn method(&self) -> Method {
         self.method
@@ -62,7 +80,19 @@ impl fmt::Debug for Key {
 #[cfg(test)]
 mod tests {
     use super::{Key, Method};
-    use crate::Invalid;
+    use crate::{base64, Invalid};
+
+    #[test]
+    fn a_key_is_read_from_its_text() {
+        for method in Method::ALL {
+            let bytes = vec![0xfb; method.key_len()];
+            let key = Key::from_base64(method, &base64::encode(&bytes)).unwrap();
+            assert_eq!((key.method(), key.bytes()), (method, &bytes[..]));
+            let length = bytes.len() - 1;
+            let invalid = Key::from_base64(method, &base64::encode(&bytes[1..])).unwrap_err();
+            assert_eq!(invalid, Invalid::Sip004KeyLength { method, length });
+        }
+    }
 
     #[test]
     fn only_the_methods_own_length_is_taken() {

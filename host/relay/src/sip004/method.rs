@@ -4,6 +4,8 @@ use std::error::Error;
 use std::fmt;
 use std::str::FromStr;
 
+use crate::method::tell_unknown;
+
 /// A method of the 2017 edition: how long its keys and salts are.
 ///
 /// ```
@@ -98,9 +100,7 @@ pub struct UnknownMethod {
 
 impl fmt::Display for UnknownMethod {
     fn fmt(&self, f: &mut fmt::Formatter<'_>) -> fmt::Result {
-        let [first, second, third] = Method::ALL;
-        let name = &self.name;
-        write!(f, "a method is {first}, {second} or {third}, not {name:?}")
+        tell_unknown(f, &Method::ALL.map(Method::name), &self.name)
     }
 }
 

@@ -137,7 +137,8 @@ impl Stream<Request, Opening> {
     /// first bytes, as many as [`salt_len`](Method::salt_len), are the salt that the
     /// response names. The salt enters the pool exactly when the front is accepted,
     /// and stays there, whatever the variable header turns out to be: the same bytes
-    /// are then [`Replay`](Refusal::Replay). A [`RequestReader`] keeps track of that.
+    /// are then [`Replay`](Refusal::Replay). [`Incoming`](crate::io::Incoming::request)
+    /// keeps track of that.
     ///
     /// # Errors
     ///
@@ -181,107 +182,5 @@ impl Stream<Request, Opening> {
     ) -> Result<RequestHeader, Refusal> {
         ffi::stream_open_variable(&mut self.words, bytes, out)
             .map(|answer| RequestHeader::from_library(&answer))
-    }
-}
-
-/// Reads a request's head, for a server, as its bytes come in, in pieces of any
-/// size.
-///
-/// It makes each of the two calls on the stream once it has what the call wants, and
-/// the first one is never made again once it was accepted: a sender whose bytes
-/// arrive slowly is no replay of itself.
-///
-/// ```
-/// use relay::{Address, Key, Method, Pool, RequestReader, RequestStream};
-///
-/// let key = Key::new(Method::Aes128Gcm, &[0x4b; 16])?;
-/// let target = Address::name(b"example.com", 80)?;
-/// let mut wire = [0; 256];
-/// let (_, length) = RequestStream::seal(&key, &[0x51; 16], 0, &target, 0, b"GET ", &mut wire)?;
-///
-/// let (mut pool, mut out) = (Pool::new(Method::Aes128Gcm), [0; 256]);
-/// let mut reader = RequestReader::new();
-/// for byte in &wire[..length - 1] {
-///     assert_eq!(reader.read(&key, 0, &[*byte], &mut pool, &mut out)?, None);
-/// }
-/// let header = reader.read(&key, 0, &wire[length - 1..length], &mut pool, &mut out)?;
-/// assert_eq!(header.unwrap().payload(&out), b"GET ");
-/// # Ok::<(), relay::Refusal>(())
-/// ```
-#[derive(Debug, Default)]
-pub struct RequestReader {
-    received: Vec<u8>,
-    used: usize,
-    stream: Option<Stream<Request, Opening>>,
-    opened: bool,
-}
-
-impl RequestReader {
-    /// A reader that has received nothing.
-    pub fn new() -> Self {
-        Self::default()
-    }
-
-    /// Takes the bytes that have come in since the last call, and gives the variable
-    /// header once it is whole and opened to the front of `out`. `None` wants more
-    /// bytes. Behind [`Room`](Refusal::Room) the call is made again with no bytes.
-    ///
-    /// # Errors
-    ///
-    /// Those of [`RequestStream::open`](Stream::open) and
-    /// [`open_variable`](Stream::open_variable), but [`More`](Refusal::More). Behind the
-    /// header every call is [`Settings`](Refusal::Settings).
-    pub fn read(
-        &mut self,
-        key: &Key,
-        clock: u64,
-        bytes: &[u8],
-        pool: &mut Pool,
-        out: &mut [u8],
-    ) -> Result<Option<RequestHeader>, Refusal> {
-        self.received.extend_from_slice(bytes);
-        match self.open(key, clock, pool, out) {
-            Ok(header) => Ok(Some(header)),
-            Err(Refusal::More { .. }) => Ok(None),
-            Err(refusal) => Err(refusal),
-        }
-    }
-
-    fn open(
-        &mut self,
-        key: &Key,
-        clock: u64,
-        pool: &mut Pool,
-        out: &mut [u8],
-    ) -> Result<RequestHeader, Refusal> {
-        let stream = match &mut self.stream {
-            Some(stream) => stream,
-            none => {
-                let (stream, front) =
-                    Stream::<Request, Opening>::open(key, clock, &self.received, pool)?;
-                self.used = front.used;
-                none.insert(stream)
-            }
-        };
-        let header = stream.open_variable(&self.received[self.used..], out)?;
-        self.used += header.used;
-        self.opened = true;
-        Ok(header)
-    }
-
-    /// The request's salt, which the response names, once the front was accepted.
-    pub fn salt(&self) -> Option<&[u8]> {
-        let method = self.stream.as_ref()?.method()?;
-        self.received.get(..method.salt_len())
-    }
-
-    /// The stream behind the header, at a length, and the bytes that have come in
-    /// behind it. `None` where no header was given.
-    pub fn into_stream(mut self) -> Option<(Stream<Request, Opening>, Vec<u8>)> {
-        if !self.opened {
-            return None;
-        }
-        let behind = self.received.split_off(self.used);
-        self.stream.map(|stream| (stream, behind))
     }
 }

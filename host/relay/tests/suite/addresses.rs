@@ -105,3 +105,107 @@ fn peers_are_turned_back() {
     let v4: SocketAddr = "192.0.2.1:53".parse().unwrap();
     assert_eq!(SocketAddr::from(Peer::from(mapped)), v4);
 }
+
+#[test]
+fn the_address_in_front_is_split_off() {
+    for address in addresses() {
+        let text = [address.as_bytes(), b"rest"].concat();
+        let whole = address.as_bytes().len();
+        for length in 0..whole {
+            assert_eq!(Address::split(&text[..length]), Ok(None));
+        }
+        for length in whole..=text.len() {
+            let behind = &text[whole..length];
+            let split = Address::split(&text[..length]);
+            assert_eq!(split, Ok(Some((address.clone(), behind))));
+        }
+    }
+    for kind in (0..=255).filter(|kind| ![1, 3, 4].contains(kind)) {
+        let refused = Err(Invalid::AddressKind { kind });
+        assert_eq!(Address::split(&[kind]), refused);
+        assert_eq!(Address::split(&[kind; 30]), refused);
+    }
+    let refused = Err(Invalid::NameLength { length: 0 });
+    assert_eq!(Address::split(&[3, 0]), refused);
+}
+
+#[test]
+fn an_address_is_a_socket_address_or_a_name() {
+    for address in addresses() {
+        match (address.socket_addr(), address.host_name()) {
+            (Some(socket), None) => assert_eq!(Address::from(socket), address),
+            (None, Some(name)) => assert_eq!(Address::name(name, address.port()), Ok(address)),
+            both => panic!("{address} is {both:?}"),
+        }
+    }
+}
+
+#[test]
+fn an_address_is_read_from_its_text() {
+    for text in ["192.0.2.1:53", "[2001:db8::1]:53", "[::ffff:192.0.2.1]:0"] {
+        let socket: SocketAddr = text.parse().unwrap();
+        assert_eq!(text.parse(), Ok(Address::from(socket)));
+    }
+    for name in [
+        "a",
+        "example.com",
+        "example.com.",
+        "4a",
+        "1.2.3.a",
+        "a_b-c",
+        "xn--bcher-kva.example",
+    ] {
+        let address = Address::name(name.as_bytes(), 65_535);
+        let text = format!("{name}:65535");
+        assert_eq!(text.parse(), address);
+        assert_eq!(address.unwrap().to_string(), text);
+    }
+    let longest = "n".repeat(255);
+    assert_eq!(
+        format!("{longest}:1").parse(),
+        Address::name(longest.as_bytes(), 1)
+    );
+    let refused = Err(Invalid::NameLength { length: 256 });
+    assert_eq!(format!("{longest}n:1").parse::<Address>(), refused);
+}
+
+#[test]
+fn other_texts_are_no_address() {
+    for text in [
+        "",
+        ":",
+        ":53",
+        "a",
+        "a:",
+        "a:65536",
+        "a:+53",
+        "a:-1",
+        "a: 53",
+        " a:53",
+        "a b:53",
+        "a:53\n",
+        "192.0.2.1",
+        "192.0.2.256:53",
+        "192.0.2:53",
+        "192.0.2.1.:53",
+        "7:53",
+        ".:53",
+        "a..:53",
+        "2001:db8::1:53",
+        "[2001:db8::1]",
+        "[2001:db8::1]53",
+        "[2001:db8::1:53",
+        "[192.0.2.1]:53",
+        "[fe80::1%1]:53",
+        "[a]:53",
+        "[]:53",
+        "b\u{fc}cher:53",
+        "a\0:53",
+    ] {
+        assert_eq!(
+            text.parse::<Address>(),
+            Err(Invalid::AddressText),
+            "{text:?}"
+        );
+    }
+}

@@ -1,6 +1,7 @@
 //! Recordings side by side, and mended.
 
-use relay::recording::{compare, compare_into, mend, mend_into, Change, Field, MAX_COMPARED};
+use relay::recording::{compare, compare_into, entries, mend, mend_into};
+use relay::recording::{Change, Field, MAX_COMPARED};
 use relay::Refusal;
 
 /// Direction, clock and body.
@@ -94,6 +95,46 @@ fn the_most_entries_that_a_file_holds_are_compared() {
     let text = compare(&clocks(0), &clocks(1)).unwrap();
     assert_eq!(text.lines().count(), 1 + 2_184);
     assert_eq!(text.lines().last(), Some("meta 2183"));
+}
+
+#[test]
+fn the_entries_that_were_recorded_are_read() {
+    let recorded_entries: [Entry; 4] = [
+        (0, 1, b"hello"),
+        (1, u64::MAX, b""),
+        (2, 0, &[0xff; 300]),
+        (0, 1 << 63, b"x"),
+    ];
+    let file = [recorded(&recorded_entries), b"tail".to_vec()].concat();
+    let read: Vec<Entry> = entries(&file)
+        .unwrap()
+        .map(|entry| (entry.direction, entry.clock, entry.body))
+        .collect();
+    assert_eq!(read, recorded_entries);
+    assert_eq!(entries(&recorded(&[])).unwrap().count(), 0);
+    let most: Vec<Entry> = (0..2_184).map(|clock| (0, clock, &b""[..])).collect();
+    assert_eq!(entries(&recorded(&most)).unwrap().count(), 2_184);
+}
+
+#[test]
+fn entries_of_no_recording_are_refused() {
+    let good = recorded(&[(0, 1, b"ab"), (1, 2, b"cd")]);
+    for length in 0..good.len() {
+        let refused = entries(&good[..length]).err();
+        assert_eq!(refused, Some(Refusal::Malformed), "{length} bytes");
+    }
+    // Whatever a byte of the contents says, the file is read or refused.
+    for place in 0..good.len() {
+        for byte in 0..=255 {
+            let mut file = good.clone();
+            file[place] = byte;
+            let count = entries(&file).map(Iterator::count);
+            let expected = [Ok(usize::from(file[3])), Err(Refusal::Malformed)];
+            assert!(expected.contains(&count), "{count:?}");
+        }
+    }
+    let long = vec![0; MAX_COMPARED + 1];
+    assert_eq!(entries(&long).err(), Some(Refusal::Length));
 }
 
 #[test]

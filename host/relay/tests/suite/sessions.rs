@@ -288,6 +288,10 @@ fn the_first_alive_record_of_an_id_counts() {
     let mut table = Table::from_words(&words);
     let session = only_session(&table, CLOCK);
     assert_eq!(session.highest_packet, 30);
+    assert_eq!(table.session(7, CLOCK).as_ref(), Some(&session));
+    assert_eq!(table.session(7, CLOCK + 1).unwrap().highest_packet, 40);
+    assert_eq!(table.session(7, CLOCK + 61), None);
+    assert_eq!(table.session(8, CLOCK), None);
     // A port is the low 16 bits of its word.
     assert_eq!(session.peer.port, 0x50);
     let datagram = sealed(METHOD, 7, 30, CLOCK);

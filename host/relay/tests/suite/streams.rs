@@ -1,9 +1,7 @@
 //! Streams that are sealed and opened.
 
 use relay::stream::{Opening, Sealing, Stream};
-use relay::{
-    Address, Method, Pool, Refusal, RequestReader, RequestStream, ResponseStream, Step, MAX_CHUNK,
-};
+use relay::{Address, Method, Pool, Refusal, RequestStream, ResponseStream, Step, MAX_CHUNK};
 
 use crate::common::*;
 use crate::plain;
@@ -379,71 +377,6 @@ fn an_empty_chunk_ends_the_stream() {
         let opened = ResponseStream::open(&key(method), CLOCK, own_salt, &head);
         assert_eq!(opened.unwrap_err(), Refusal::Binding);
     }
-}
-
-/// Fed byte by byte, a reader never takes its own bytes for a replay, and the pool
-/// keeps the salt from the front on.
-#[test]
-fn a_request_is_read_byte_by_byte() {
-    for method in Method::ALL {
-        let (mut sender, mut wire) = seal_request(method, &short_address(), 3, b"first");
-        let (front, head) = (method.salt_len() + 27, wire.len());
-        seal_chunks(&mut sender, &mut wire);
-        for piece in [1, 2, 7, front, front + 1, head, head + 5] {
-            let (mut pool, mut out) = (Pool::new(method), vec![FILL; MAX_CHUNK]);
-            let mut reader = RequestReader::new();
-            let (mut arrived, mut header) = (0, None);
-            while header.is_none() {
-                let bytes = &wire[arrived..arrived + piece];
-                arrived += piece;
-                let read = reader.read(&key(method), CLOCK, bytes, &mut pool, &mut out);
-                header = read.unwrap();
-                assert_eq!(header.is_some(), arrived >= head);
-                assert_eq!(pool.kept(CLOCK), usize::from(arrived >= front));
-                assert_eq!(reader.salt().is_some(), arrived >= front);
-            }
-            assert_eq!(header.unwrap().payload(&out), b"first");
-            assert_eq!(reader.salt(), Some(salt(method)));
-            let (mut stream, mut behind) = reader.into_stream().unwrap();
-            behind.extend_from_slice(&wire[arrived..]);
-            let payloads = open_chunks(&mut stream, &behind);
-            assert!(payloads.into_iter().eq(CHUNKS.map(payload)));
-            // Another reader of the same bytes is a replay.
-            let again = RequestReader::new().read(&key(method), CLOCK, &wire, &mut pool, &mut out);
-            assert_eq!(again, Err(Refusal::Replay));
-        }
-    }
-}
-
-/// A reader goes on behind `Room`, and ends with a forged variable header, whose salt
-/// stays known.
-#[test]
-fn a_reader_keeps_what_was_refused() {
-    Method::ALL.into_iter().for_each(keep_what_was_refused);
-}
-
-fn keep_what_was_refused(method: Method) {
-    let (_, wire) = seal_request(method, &short_address(), 0, b"first");
-    let (mut pool, mut out) = (Pool::new(method), vec![FILL; 64]);
-    let mut reader = RequestReader::new();
-    let read = reader.read(&key(method), CLOCK, &wire, &mut pool, &mut [0; 5]);
-    assert_eq!(read, Err(Refusal::Room));
-    assert!(RequestReader::new().into_stream().is_none());
-    let read = reader.read(&key(method), CLOCK, &[], &mut pool, &mut out);
-    assert_eq!(read.unwrap().unwrap().payload(&out), b"first");
-    let read = reader.read(&key(method), CLOCK, &[], &mut pool, &mut out);
-    assert_eq!(read, Err(Refusal::Settings));
-
-    let (mut pool, mut forged) = (Pool::new(method), wire.clone());
-    forged[method.salt_len() + 27] ^= 1;
-    let mut reader = RequestReader::new();
-    for _ in 0..2 {
-        let read = reader.read(&key(method), CLOCK, &forged, &mut pool, &mut out);
-        assert_eq!(read, Err(Refusal::NotAuthentic));
-    }
-    assert!(reader.into_stream().is_none());
-    let read = RequestReader::new().read(&key(method), CLOCK, &wire, &mut pool, &mut out);
-    assert_eq!(read, Err(Refusal::Replay));
 }
 
 /// The second call, at its own turn and at others.
