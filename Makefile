@@ -93,7 +93,8 @@ uninstall:
 # where it is installed. docs/PERFORMANCE.md speaks of copies of a full run's: cp target/bench/speed.txt target/bench/speed.svg docs/
 bench: PROGRAM := bench
 bench: arguments library target/staticlib/libbench.a
-	@tools/need libcrypto.so=libssl-dev libnettle.so=nettle-dev libbearssl.so=libbearssl-dev libsodium.so=libsodium-dev
+	@tools/need libcrypto.so=libssl-dev libnettle.so=nettle-dev libbearssl.so=libbearssl-dev libsodium.so=libsodium-dev \
+		libgcrypt.so=libgcrypt20-dev libmbedcrypto.so=libmbedtls-dev
 	@$(CARGO) build --release $(HOST) -p bhajnolith
 	@$(CARGO) run --release $(HOST) -p $(PROGRAM) -- $(ARGS)
 

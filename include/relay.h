@@ -52,11 +52,11 @@
  *   time.
  *
  * STACK
- *   A call takes up to 8,648 bytes of the caller's stack, its arguments
+ *   A call takes up to 17,256 bytes of the caller's stack, its arguments
  *   included: opening a datagram. tests/stack.c measured it on x86-64, by the
  *   deepest byte that a call changes of a painted stack. There are two recursions:
  *   over the digits of a number of a comparison, five at most, and over the tree of
- *   a settings file's hash, seven at most. Allow 16 KiB.
+ *   a settings file's hash, seven at most. Allow 24 KiB.
  *
  * TIMING
  *   AES and GHASH look up tables by secret bytes, so the time of a call of methods

@@ -7,7 +7,7 @@
  *     cc -O2 -Iinclude tests/stack.c target/staticlib/librelay.a -o stack && ./stack
  *
  * A measure, not a proof: the path of another input could be deeper. So the limit that
- * include/relay.h names, and that is held here, is nearly twice what was seen.
+ * include/relay.h names, and that is held here, is half as much again as what was seen, or nearly.
  */
 #define _XOPEN_SOURCE 700
 #include "relay.h"
@@ -17,7 +17,7 @@
 #include <string.h>
 #include <ucontext.h>
 
-#define LIMIT 16384
+#define LIMIT 24576
 #define STACK_BYTES (4 * LIMIT)
 #define LONGEST 65507
 #define CLOCK 1700000000
@@ -425,10 +425,10 @@ static void report(void)
            deepest->name, LIMIT);
 }
 
-/* Around blocks of 16 and 64 bytes, 256 bytes and 256 blocks, and the longest datagram that a server
- * can seal by every method. */
-static const size_t lengths[] = {0,   1,   15,  16,   17,   63,   64,   65,
-                                 200, 256, 300, 1400, 4096, 4200, 65425};
+/* Around blocks of 16 and 64 bytes, the texts of 336 and 448 bytes from which on AES and its hash work
+ * otherwise, batches of 512, and the longest datagram that a server can seal by every method. */
+static const size_t lengths[] = {0,   1,   15,  16,  17,  63,  64,   65,   200,
+                                 280, 336, 400, 448, 512, 800, 1400, 4200, 65425};
 
 enum { LENGTHS = sizeof lengths / sizeof lengths[0] };
 

@@ -1,12 +1,14 @@
 -- The key expansion: where a word stands in its group, what is added to it, and one word more.
 -- Assumes nothing.
 use mathlib.Core.Path.{_≡_, refl, sym, ap, _∙_}
+use mathlib.Core.Bool.{Bool, true, false, cond}
 use mathlib.Core.List.{List, [], _∷_, _++_, map, map-append}
 use Prim.Native.Nat.{ℕ, zero, suc, _+_, _-_, _*_, _/_, _%_, _≤_, _<_}
 use native.Mathlib.Nat.{add-zero, sub-zero, zero-sub, add-mod-left, mul-add-mod-self-right, mod-eq-of-lt, add-div-left, mul-add-div-right, div-eq-of-lt}
 use native.Mathlib.Numerals.{add-one}
 use native.Mathlib.Omega.{arith}
 use lib.Bits.{bitXor}
+use lib.Dec.{eqb}
 use lib.ListN.{getD, set, take, drop, length, replicate}
 use lib.Seq.{take-suc-set, drop-set-lt, getD-set-same, getD-take}
 use borrow.Author.Tests.{eq-eqb, ne-eqb, lt-ltb, le-ltb}
@@ -18,34 +20,54 @@ use Rattle.aes.specs.Words.{bytes}
 use Rattle.aes.proofs.WordLaws.{bytes-xor}
 use Rattle.aes.proofs.RoundLaws.{word-law}
 
--- ---- where word nk + n stands: its place in its group of nk words, and the group's constant
+-- ---- where word nk + n stands: its place in its group of nk words, and the constant of the next first word
 
 pub record Place (nk n at c : ℕ) : Type 0 where
   pub group : ℕ
   pub number : n ≡ group * nk + at
-  pub constant : c ≡ xPower group
+  pub constant : c ≡ cond (eqb at 0) (xPower group) (xTimes (xPower group))
 
 first-place : (nk : ℕ) → Place nk 0 0 1
 unfolding xPower
 first-place nk = record { group = 0; number = omega arith; constant = refl }
 
-module _ (nk n at c : ℕ) (p : Place nk n at c) where
-  pub same-group : Place nk (n + 1) (at + 1) c
-  same-group = record { group = p .group; number = omega (arith, p .number); constant = p .constant }
+-- behind any word of the group of g, the constant is the next one
+advanced : (at c d g : ℕ) → c ≡ cond (eqb at 0) g (xTimes g) → d ≡ cond (eqb at 0) (xTimes c) c → d ≡ xTimes g
+advanced at c d g = go (eqb at 0)
+  where
+    go : (b : Bool) → c ≡ cond b g (xTimes g) → d ≡ cond b (xTimes c) c → d ≡ xTimes g
+    go true ec ed = ed ∙ ap xTimes ec
+    go false ec ed = ed ∙ ec
 
-  pub next-group : (d : ℕ) → at + 1 ≡ nk → d ≡ xTimes c → Place nk (n + 1) 0 d
+module _ (nk n at c : ℕ) (p : Place nk n at c) (d : ℕ) (ed : d ≡ cond (eqb at 0) (xTimes c) c) where
+  pub same-group : Place nk (n + 1) (at + 1) d
+  same-group =
+      let g = p .group in
+      let later : at + 1 ≡ 0 → ⊥ = λ e. omega arith in
+      record {
+        group = g;
+        number = omega (arith, p .number);
+        constant =
+            advanced at c d (xPower g) (p .constant) ed
+            ∙ sym (ap (λ (b : Bool). cond b (xPower g) (xTimes (xPower g))) (ne-eqb (at + 1) 0 later));
+      }
+
+  pub next-group : at + 1 ≡ nk → Place nk (n + 1) 0 d
   unfolding xPower
-  next-group d e ed = record {
+  next-group e = record {
     group = p .group + 1;
     number = omega (arith, p .number, e);
-    constant = rw add-one (ed ∙ ap xTimes (p .constant));
+    constant = rw add-one (advanced at c d (xPower (p .group)) (p .constant) ed);
   }
 
+module _ (nk n at c : ℕ) (p : Place nk n at c) where
   place-at : at < nk → (nk + n) % nk ≡ at
   place-at h = add-mod-left nk n ∙ rw (p .number) (mul-add-mod-self-right (p .group) nk at ∙ mod-eq-of-lt h)
 
-  place-constant : at < nk → xPower ((nk + n) / nk - 1) ≡ c
-  place-constant h = ap xPower (omega (arith, add-div-left n above, group)) ∙ sym (p .constant)
+  place-constant : at < nk → at ≡ 0 → xPower ((nk + n) / nk - 1) ≡ c
+  place-constant h e =
+      ap xPower (omega (arith, add-div-left n above, group))
+      ∙ sym (p .constant ∙ ap (λ (b : Bool). cond b (xPower (p .group)) (xTimes (xPower (p .group)))) (eq-eqb at 0 e))
     where
       above : 0 < nk
       above = omega arith
@@ -141,7 +163,7 @@ module _ (key w : List ℕ) (nk n t at c : ℕ) (x : Expanding key w nk n t at c
           ∙ ap (temp nk (nk + n)) (ap bytes (x .last) ∙ among w e (nk + n) (nk + n - 1) (omega arith) (x .words))
 
   -- one word more, from what temp promises, and the place of the next
-  pub next-law : (v b d : ℕ) → ((i : ℕ) → i % nk ≡ at → xPower (i / nk - 1) ≡ c → bytes v ≡ temp nk i (bytes t)) → Place nk (n + 1) b d
+  pub next-law : (v b d : ℕ) → ((i : ℕ) → i % nk ≡ at → (at ≡ 0 → xPower (i / nk - 1) ≡ c) → bytes v ≡ temp nk i (bytes t)) → Place nk (n + 1) b d
       → Expanding key (set w (nk + n) (bitXor (getD w n 0) v)) nk (n + 1) (bitXor (getD w n 0) v) b d
   next-law v b d ev p = record {
     words = next-words v (ev (nk + n) (place-at nk n at c (x .place) within) (place-constant nk n at c (x .place) within));

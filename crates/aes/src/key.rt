@@ -3,8 +3,10 @@ use super::encrypt::last_column;
 use super::word::pack;
 use super::word::rotate3;
 ghost use mathlib.Core.Path.{_≡_};
+ghost use mathlib.Core.Bool.{cond};
 ghost use mathlib.Core.List.{map};
 ghost use Prim.Native.Nat.{ℕ, _+_, _-_, _*_, _/_, _%_, _≤_};
+ghost use lib.Dec.{eqb};
 ghost use lib.ListN.{length, take, drop, replicate};
 ghost use Rattle.aes_tables.specs.Field.{xTimes};
 ghost use Rattle.aes_tables.specs.SBox.{sBox};
@@ -47,21 +49,37 @@ fn x_times(b: u8) -> u8
     (b % 128 * 2) ^ (b / 128 * 27)
 }
 
-// What is added to word i - nk to make word i, from word i - 1: at is the word's place in its group of nk words, c the
-// group's round constant.
-fn temp(sbox: &[u8; 256], nk: usize, at: usize, c: u8, t: u32) -> u32
+// What is added to a word, and the round constant of the next group's first word.
+struct Added {
+    word: u32,
+    constant: u8,
+}
+
+// What is added to word i - nk to make word i, from word i - 1: at is the word's place in its group of nk words. Only a group's
+// first word takes a constant, c; the next one is made there, and not beside each word.
+fn temp(sbox: &[u8; 256], nk: usize, at: usize, c: u8, t: u32) -> Added
     requires { ⌜ IsTable sBox (now sbox) ⌝ }
-    ensures { λ r. ⌜ ((i : ℕ) → i % nk ≡ at → xPower (i / nk - 1) ≡ c → bytes r ≡ tempOf nk i (bytes t)) ⌝ }
+    ensures { λ r. ⌜ ((i : ℕ) → i % nk ≡ at → (at ≡ 0 → xPower (i / nk - 1) ≡ c) → bytes (r .word) ≡ tempOf nk i (bytes t)) ⌝ }
+    ensures { λ r. ⌜ r .constant ≡ cond (eqb at 0) (xTimes c) c ⌝ }
 {
     if at == 0 {
-        return sub_word(sbox, rot_word(t)) ^ pack(c, 0, 0, 0);
+        return Added {
+            word: sub_word(sbox, rot_word(t)) ^ pack(c, 0, 0, 0),
+            constant: x_times(c),
+        };
     }
     if 6 < nk {
         if at == 4 {
-            return sub_word(sbox, t);
+            return Added {
+                word: sub_word(sbox, t),
+                constant: c,
+            };
         }
     }
-    t
+    Added {
+        word: t,
+        constant: c,
+    }
 }
 
 // KEYEXPANSION for a key of nk words: 4 * nk + 28 words, and zeros behind them.
@@ -84,13 +102,14 @@ pub fn expand(sbox: &[u8; 256], key: &[u8], nk: usize) -> [u32; 60]
     let mut c = 1;
     let mut n = 0;
     while n < 3 * nk + 28 {
-        t = w[n] ^ temp(sbox, nk, at, c, t);
+        let x = temp(sbox, nk, at, c, t);
+        t = w[n] ^ x.word;
         w[nk + n] = t;
+        c = x.constant;
         n += 1;
         at += 1;
         if at == nk {
             at = 0;
-            c = x_times(c);
         }
     }
     w

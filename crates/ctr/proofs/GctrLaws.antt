@@ -19,6 +19,7 @@ use Rattle.aes.specs.Keyed.{nkOf, lawful}
 use Rattle.aes.specs.Words.{bytes}
 use Rattle.aes.proofs.KeyedLaws.{cipher-aes}
 use Rattle.ctr.proofs.CounterLaws.{counter-next}
+use Rattle.ctr.specs.Kept.{Kept}
 use Rattle.ctr.specs.Gctr.{inc32, gctrBlocks, gctr, ciphAt, aesBlock, counterBlock, aesCtr}
 
 -- ---- one block more
@@ -48,14 +49,6 @@ module _ (ciph : ℕ → List ℕ) (s o : List ℕ) (at cb : ℕ) (within : at �
       ∙ append-assoc (take at o) block (gctrBlocks ciph m (inc32 cb) (drop 16 (drop at s)))
       ∙ ap (λ (t : List ℕ). take at o ++ ((take 16 t ⊞ ciph cb) ++ gctrBlocks ciph m (inc32 cb) (drop 16 (drop at s)))) rest
       ∙ h
-
--- the first i blocks of s are done in the text o, and c is the counter of the next one
-pub record Kept (ciph : ℕ → List ℕ) (nonce : List ℕ) (counter : ℕ) (s o : List ℕ) (c i : ℕ) : Type 0 where
-  pub within : i ≤ blockCount s
-  pub size : length o ≡ length s
-  pub fits : c < 2 ^ 32
-  pub rest : drop (16 * i) o ≡ drop (16 * i) s
-  pub done : take (16 * i) o ++ gctrBlocks ciph (blockCount s - i) (counterBlock nonce c) (drop (16 * i) s) ≡ gctr ciph (counterBlock nonce counter) s
 
 module _ (ciph : ℕ → List ℕ) (nonce : List ℕ) (counter : ℕ) (s : List ℕ) where
   pub kept-none : counter < 2 ^ 32 → Kept ciph nonce counter s s counter 0

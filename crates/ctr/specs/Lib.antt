@@ -1,3 +1,4 @@
 pub mod Gctr
 pub mod Words
+pub mod Kept
 pub mod Long

@@ -2,16 +2,16 @@
 // big-endian counter that wraps.
 use aes::Block;
 ghost use mathlib.Core.Path.{_≡_};
-ghost use mathlib.Core.List.{_++_};
-ghost use Prim.Native.Nat.{_+_, _%_, _^_, _<_, _≤_};
+ghost use mathlib.Core.List.{List, _++_};
+ghost use Prim.Native.Nat.{ℕ, _+_, _%_, _^_, _<_, _≤_};
 ghost use lib.ListN.{length, take, drop};
-ghost use Rattle.octets.specs.Buffers.{put, _⊞_};
+ghost use Rattle.octets.specs.Buffers.{blockCount, put, _⊞_};
 ghost use Rattle.octets.specs.Numbers.{toBe};
 ghost use Rattle.aes.specs.Keyed.{lawful};
 ghost use Rattle.aes.specs.Words.{CanEncrypt, bytes, blockBytes};
 ghost use Rattle.ctr.specs.Words.{nonceBytes};
 ghost use Rattle.ctr.specs.Gctr.{gctr as gctrOf, ciphAt, counterBlock, aesCtr};
-ghost use Rattle.ctr.specs.Long.{swap};
+ghost use Rattle.ctr.specs.Kept.{Kept};
 
 mod long;
 
@@ -36,7 +36,6 @@ pub fn read_nonce(s: &[u8]) -> Nonce
 // The counter's bytes, the highest first, as a word whose first byte is lowest.
 fn swapped(x: u32) -> u32
     ensures { λ r. ⌜ bytes r ≡ toBe 4 x ⌝ }
-    ensures { λ r. ⌜ r ≡ swap x ⌝ }
 {
     x / 0x100_0000 + x / 0x1_0000 % 256 * 256 + x / 256 % 256 * 0x1_0000 + x % 256 * 0x100_0000
 }
@@ -82,30 +81,33 @@ fn xor_block(text: &mut [u8], at: usize, k: Block)
     }
 }
 
-// GCTR of the text, in place, block by block.
-fn gctr_short(
+// GCTR of what is left of a text from block i on, whose counter is c, block by block.
+fn rest(
     t: &[u32; 256],
     sbox: &[u8; 256],
     w: &[u32; 60],
     rounds: usize,
     n: Nonce,
-    counter: u32,
+    c: u32,
     text: &mut [u8],
+    i: usize,
 )
     requires { ⌜ CanEncrypt (now t) (now sbox) rounds ⌝ }
-    ensures { λ _. ⌜ now (text .exit)
-        ≡ gctrOf (ciphAt rounds (now (w .entry))) (counterBlock (nonceBytes n) counter) (now (text .entry)) ⌝ }
+    requires { ⌜ i ≤ blockCount (now text) ⌝ }
+    ensures { λ _. ⌜ ((counter : ℕ) (all : List ℕ)
+        → Kept (ciphAt rounds (now (w .entry))) (nonceBytes n) counter all (now (text .entry)) c i
+        → now (text .exit) ≡ gctrOf (ciphAt rounds (now (w .entry))) (counterBlock (nonceBytes n) counter) all) ⌝ }
 {
     let blocks = (text.len() + 15) / 16;
-    let mut c = counter;
-    for i in 0..blocks {
-        let k = aes::encrypt::cipher(t, sbox, w, rounds, counter_block(n, c));
-        xor_block(text, 16 * i, k);
-        c = inc32(c);
+    let mut e = c;
+    for j in i..blocks {
+        let k = aes::encrypt::cipher(t, sbox, w, rounds, counter_block(n, e));
+        xor_block(text, 16 * j, k);
+        e = inc32(e);
     }
 }
 
-// GCTR of the text, in place, at an expanded key and its number of rounds. Four tables are worth making from 256 bytes on.
+// GCTR of the text, in place, at an expanded key and its number of rounds: in batches, and what is left block by block.
 pub fn gctr(
     t: &[u32; 256],
     sbox: &[u8; 256],
@@ -119,13 +121,9 @@ pub fn gctr(
     ensures { λ _. ⌜ now (text .exit)
         ≡ gctrOf (ciphAt rounds (now (w .entry))) (counterBlock (nonceBytes n) counter) (now (text .entry)) ⌝ }
 {
-    if text.len() < 256 {
-        gctr_short(t, sbox, w, rounds, n, counter, text);
-    } else if rounds < 3 {
-        gctr_short(t, sbox, w, rounds, n, counter, text);
-    } else {
-        long::gctr_long(t, sbox, w, rounds, n, counter, text);
-    }
+    let i = long::batches(w, rounds, n, counter, text);
+    let c = std::num::wrapping_add_u32(counter, (i % 0x1_0000_0000) as u32);
+    rest(t, sbox, w, rounds, n, c, text, i);
 }
 
 // AES in counter mode under a key of 16, 24 or 32 bytes and a nonce of 12, in place. Any other length of either is refused:

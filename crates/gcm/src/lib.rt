@@ -33,7 +33,7 @@ fn hashed(g: &[u64; 128], c: &[u8]) -> Element
     requires { ⌜ TableFor (now g) (keyIn (now g)) ⌝ }
     ensures { λ r. ⌜ blockOf r ≡ spec.hashed (keyIn (now (g .entry))) (now (c .entry)) ⌝ }
 {
-    let y = ghash::ghash_from(g, Element { hi: 0, lo: 0 }, c);
+    let y = ghash_four::ghash_from(g, Element { hi: 0, lo: 0 }, c);
     let bits = 8 * c.len() as u64;
     ghash::ghash_from(g, y, &element_bytes(Element { hi: 0, lo: bits }))
 }

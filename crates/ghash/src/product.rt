@@ -12,10 +12,10 @@ use super::Element;
 use super::add;
 
 // An element with the bits behind its last one that are not reduced yet.
-struct Long {
-    hi: u64,
-    lo: u64,
-    out: u64,
+pub struct Long {
+    pub hi: u64,
+    pub lo: u64,
+    pub out: u64,
 }
 
 // What is looked up for the two words of an element.
@@ -123,7 +123,7 @@ fn entry_at(t: &[u64; 128], j: usize, w: u64) -> Element
 }
 
 // Four lookups, for the last 16 bits of w.
-fn four_lookups(t: &[u64; 128], w: u64) -> Element
+pub fn four_lookups(t: &[u64; 128], w: u64) -> Element
     requires { ⌜ TableFor (now t) (keyIn (now t)) ⌝ }
     ensures { λ r. ⌜ blockOf r ≡ lookups (keyIn (now (t .entry))) w 4 ⌝ }
 {
@@ -135,7 +135,7 @@ fn four_lookups(t: &[u64; 128], w: u64) -> Element
 }
 
 // z sixteen places on, and e. What is shifted out is kept, to be reduced once.
-fn shifted(z: Long, e: Element) -> Long
+pub fn shifted(z: Long, e: Element) -> Long
     ensures { λ r. ⌜ longOf r ≡ bitXor (longOf z / 2 ^ 16) (blockOf e * 2 ^ 64) ⌝ }
 {
     Long {
@@ -183,7 +183,7 @@ fn gather(t: &[u64; 128], x: Element) -> Sums
 }
 
 // What 64 steps make of z.
-fn reduce(z: Long) -> Element
+pub fn reduce(z: Long) -> Element
     ensures { λ r. ⌜ blockOf r ≡ steps 64 (longOf z) ⌝ }
 {
     add(
@@ -196,7 +196,7 @@ fn reduce(z: Long) -> Element
 }
 
 // z ⊕ e, the last bit of one at that of the other.
-fn add_behind(z: Long, e: Element) -> Long
+pub fn add_behind(z: Long, e: Element) -> Long
     ensures { λ r. ⌜ longOf r ≡ bitXor (longOf z) (blockOf e) ⌝ }
 {
     Long {

@@ -33,7 +33,7 @@ fn load_u32(s: &[u8], at: usize) -> u32
         | (load_u8(s, at) as u32) << 24
 }
 
-fn load_u64(s: &[u8], at: usize) -> u64
+pub fn load_u64_be(s: &[u8], at: usize) -> u64
     requires { ⌜ at + 8 ≤ length (now s) ⌝ }
     ensures { λ r. ⌜ r ≡ be 8 (drop at (now (s .entry))) ⌝ }
 {
@@ -73,9 +73,9 @@ pub fn read_u64_be(s: &[u8], at: usize) -> u64
         return 0;
     }
     if 8 <= s.len() - at {
-        return load_u64(s, at);
+        return load_u64_be(s, at);
     }
-    load_u64(&padded(&s[at..]), 0)
+    load_u64_be(&padded(&s[at..]), 0)
 }
 
 // ---- into a buffer

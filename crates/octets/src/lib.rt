@@ -2,6 +2,7 @@
 mod be;
 mod le;
 
+pub use be::load_u64_be;
 pub use be::read_u16_be;
 pub use be::read_u32_be;
 pub use be::read_u64_be;

@@ -16,6 +16,9 @@ pub struct About {
     pub without: String,
     /// nettle's version.
     pub nettle: String,
+    /// libgcrypt's and mbedTLS's versions.
+    pub gcrypt: String,
+    pub mbedtls: String,
     /// libsodium's version, and the processor instructions that it found.
     pub sodium: String,
     pub sodium_with: String,
@@ -28,11 +31,11 @@ pub struct About {
 
 /// Whom ours is measured against.
 const AGAINST: &str = "\
-Against  OpenSSL, nettle and BearSSL alone for GCM bodies, chunks, AES, and GHASH: BearSSL has it alone, the others as the tag of
+Against  OpenSSL, nettle, BearSSL, libgcrypt and mbedTLS alone for GCM bodies, chunks, AES, and GHASH: BearSSL has it alone, the others as the tag of
          additional data, which is one AES block more
          with plain Rust around them for whole datagrams: headers, addresses, subkey (BLAKE3), sessions and windows
          with their own HKDF and SHA-1 for datagrams of 2017
-         these and libsodium for ChaCha20 and Poly1305, which nettle has with one AES block more; the subkey of a long nonce
+         OpenSSL, nettle, BearSSL and libsodium for ChaCha20 and Poly1305, which nettle has with one AES block more; the subkey of a long nonce
          (HChaCha20) is libsodium's own, and plain Rust's for the others
          plain Rust for ChaCha12 and ChaCha8, which no library has, for BLAKE3 and for subkeys; the key of their context is
          computed before the calls";
@@ -87,6 +90,14 @@ impl About {
             format!(
                 "         ChaCha20 without any that not every such processor has: {}",
                 bearssl::CHACHA
+            ),
+            format!(
+                "gcrypt   {}; without processor instructions: its hardware features are off",
+                self.gcrypt
+            ),
+            format!(
+                "mbedTLS  {}; with processor instructions as it finds them, it has no switch",
+                self.mbedtls
             ),
             format!(
                 "sodium   {}; with processor instructions as it finds them, it has no switch: {}",

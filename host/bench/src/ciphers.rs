@@ -139,6 +139,8 @@ pub trait Hkdf {
 mod tests {
     use super::{Aead, Block, Ciphers, Counter, Hkdf};
     use crate::bearssl::{BearSslWith, BearSslWithout};
+    use crate::gcrypt::Gcrypt;
+    use crate::mbedtls::MbedTls;
     use crate::nettle::Nettle;
     use crate::openssl::OpenSsl;
 
@@ -227,6 +229,16 @@ mod tests {
     #[test]
     fn nettle_is_bound_as_it_is() {
         is_bound_as_it_is::<Nettle>();
+    }
+
+    #[test]
+    fn gcrypt_is_bound_as_it_is() {
+        is_bound_as_it_is::<Gcrypt>();
+    }
+
+    #[test]
+    fn mbedtls_is_bound_as_it_is() {
+        is_bound_as_it_is::<MbedTls>();
     }
 
     #[test]

@@ -17,10 +17,12 @@ pub enum Column {
     OpenSslWithout,
     NettleWithout,
     BearSslWithout,
+    GcryptWithout,
     /// With processor instructions.
     OpenSslWith,
     NettleWith,
     BearSslWith,
+    MbedTlsWith,
     SodiumWith,
     Plain,
 }
@@ -28,29 +30,32 @@ pub enum Column {
 #[derive(Clone, Copy)]
 enum Process {
     Here,
-    /// The one whose OpenSSL and nettle use no processor instructions. BearSSL needs
-    /// none: its caller chooses.
+    /// The one whose OpenSSL and nettle use no processor instructions. BearSSL and libgcrypt
+    /// need none: their caller chooses.
     Child,
 }
 
 impl Column {
-    pub const ALL: [Column; 9] = [
+    pub const ALL: [Column; 11] = [
         Column::Ours,
         Column::OpenSslWithout,
         Column::NettleWithout,
         Column::BearSslWithout,
+        Column::GcryptWithout,
         Column::OpenSslWith,
         Column::NettleWith,
         Column::BearSslWith,
+        Column::MbedTlsWith,
         Column::SodiumWith,
         Column::Plain,
     ];
 
     /// Those of the others that use no processor instructions.
-    pub const WITHOUT: [Column; 4] = [
+    pub const WITHOUT: [Column; 5] = [
         Column::OpenSslWithout,
         Column::NettleWithout,
         Column::BearSslWithout,
+        Column::GcryptWithout,
         Column::Plain,
     ];
 
@@ -60,9 +65,11 @@ impl Column {
             Column::OpenSslWithout => "OpenSSL without instructions",
             Column::NettleWithout => "nettle without instructions",
             Column::BearSslWithout => "BearSSL without instructions",
+            Column::GcryptWithout => "libgcrypt without instructions",
             Column::OpenSslWith => "OpenSSL with instructions",
             Column::NettleWith => "nettle with instructions",
             Column::BearSslWith => "BearSSL with instructions",
+            Column::MbedTlsWith => "mbedTLS with instructions",
             Column::SodiumWith => "libsodium with instructions",
             Column::Plain => "plain Rust",
         }
@@ -75,6 +82,8 @@ impl Column {
             Library::OpenSsl => "OpenSSL",
             Library::Nettle => "nettle",
             Library::BearSslWithout | Library::BearSslWith => "BearSSL",
+            Library::Gcrypt => "gcrypt",
+            Library::MbedTls => "mbedTLS",
             Library::Sodium => "sodium",
             Library::Plain => "plain Rust",
         }
@@ -87,6 +96,8 @@ impl Column {
             Column::NettleWithout | Column::NettleWith => Library::Nettle,
             Column::BearSslWithout => Library::BearSslWithout,
             Column::BearSslWith => Library::BearSslWith,
+            Column::GcryptWithout => Library::Gcrypt,
+            Column::MbedTlsWith => Library::MbedTls,
             Column::SodiumWith => Library::Sodium,
             Column::Plain => Library::Plain,
         }

@@ -87,6 +87,10 @@ pub enum Kind {
         key_length: usize,
     },
     Ghash,
+    /// AES in counter mode, beside the same shape in plain Rust.
+    Planes {
+        key_length: usize,
+    },
     /// ChaCha's key stream.
     Stream {
         rounds: usize,
@@ -111,6 +115,7 @@ pub enum Section {
     ChaChaChunks,
     ReducedChunks,
     Primitives,
+    Planes,
     ChaChaPrimitives,
     ReducedPrimitives,
     Hashes,
@@ -154,6 +159,7 @@ impl Kind {
                 format!("{}{mode} {}", method.cipher_name(), call.name())
             }
             Kind::Counter { key_length } => format!("AES-{} CTR", 8 * key_length),
+            Kind::Planes { key_length } => format!("AES-{} planes", 8 * key_length),
             Kind::Ghash => "GHASH".to_string(),
             Kind::Stream { rounds } => format!("ChaCha{rounds} stream"),
             Kind::Poly1305 => "Poly1305".to_string(),
@@ -181,6 +187,7 @@ impl Kind {
                 Cipher::ChaCha { .. } => Section::ChaChaBodies,
             },
             Kind::Counter { .. } | Kind::Ghash => Section::Primitives,
+            Kind::Planes { .. } => Section::Planes,
             Kind::Stream { rounds: 20 } | Kind::Poly1305 => Section::ChaChaPrimitives,
             Kind::Stream { .. } => Section::ReducedPrimitives,
             Kind::Hash => Section::Hashes,
@@ -200,7 +207,7 @@ fn others(cipher: Cipher) -> Others {
 
 impl Section {
     /// In the order of the table: the whole first, its parts behind it.
-    pub const ALL: [Section; 15] = [
+    pub const ALL: [Section; 16] = [
         Section::Datagrams,
         Section::Forgeries,
         Section::ChaChaDatagrams,
@@ -212,6 +219,7 @@ impl Section {
         Section::ChaChaChunks,
         Section::ReducedChunks,
         Section::Primitives,
+        Section::Planes,
         Section::ChaChaPrimitives,
         Section::ReducedPrimitives,
         Section::Hashes,
@@ -231,6 +239,7 @@ impl Section {
             Section::ChaChaChunks => "ChaCha20 chunks",
             Section::ReducedChunks => "Fewer-round chunks",
             Section::Primitives => "AES and GHASH",
+            Section::Planes => "The same shape",
             Section::ChaChaPrimitives => "ChaCha20, Poly1305",
             Section::ReducedPrimitives => "ChaCha12, ChaCha8",
             Section::Hashes => "Hashes",
@@ -250,7 +259,8 @@ impl Section {
             | Section::ChaChaBodies
             | Section::ChaChaChunks
             | Section::ChaChaPrimitives => Others::ChaCha20,
-            Section::ReducedDatagrams
+            Section::Planes
+            | Section::ReducedDatagrams
             | Section::ReducedChunks
             | Section::ReducedPrimitives
             | Section::Hashes

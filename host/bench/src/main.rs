@@ -1,6 +1,7 @@
-//! Speed of the proved code beside OpenSSL's, nettle's, BearSSL's and libsodium's, with
-//! and without processor instructions, and for what they have not beside plain Rust, in
-//! one table of one run and as a plot. Behind it the box on loopback, beside another relay.
+//! Speed of the proved code beside OpenSSL's, nettle's, BearSSL's, libgcrypt's, mbedTLS's
+//! and libsodium's, with and without processor instructions, and for what they have not
+//! beside plain Rust, in one table of one run and as a plot. Behind it the
+//! box on loopback, beside another relay.
 //!
 //! All outputs are compared first; a difference ends the run with exit status 1.
 //! No speed does.
@@ -17,8 +18,12 @@ mod child;
 mod ciphers;
 mod contest;
 mod editions;
+#[allow(unsafe_code)]
+mod gcrypt;
 mod kinds;
 mod loopback;
+#[allow(unsafe_code)]
+mod mbedtls;
 mod measure;
 #[allow(unsafe_code)]
 mod nettle;
@@ -35,6 +40,7 @@ mod room;
 mod rows;
 #[cfg(test)]
 mod samples;
+mod shape;
 mod sip004;
 #[allow(unsafe_code)]
 mod sodium;
@@ -116,6 +122,8 @@ fn run(pace: Pace, out: &Path) -> Result<(), Box<dyn Error>> {
         with: openssl::capabilities(),
         without: contest.child.capabilities()?,
         nettle: nettle::version(),
+        gcrypt: gcrypt::version(),
+        mbedtls: mbedtls::version(),
         sodium: sodium::version(),
         sodium_with: sodium::capabilities(),
         compared: contest.compare()?,

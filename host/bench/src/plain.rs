@@ -5,6 +5,8 @@ mod address;
 mod blake3;
 mod chacha;
 mod chachas;
+#[allow(unsafe_code)]
+mod planes;
 mod poly1305;
 mod sessions;
 
@@ -12,6 +14,7 @@ pub use address::Address;
 pub use blake3::{hash as blake3, DeriveKey};
 pub use chacha::ChaCha;
 pub use chachas::Plain;
+pub use planes::AesPlanes;
 pub use sessions::{Peer, Sessions};
 
 /// Why a call is refused, with the number that the proved library gives.

@@ -21,30 +21,34 @@ use style::{ASKED, DARK, GREY};
 use svg::{Font, Point, Svg};
 
 const WIDTH: f64 = 1_360.0;
-const HEIGHT: f64 = 1_427.0;
+const HEIGHT: f64 = 1_583.0;
 const MARGIN: f64 = 28.0;
 
-const TITLE: &str =
-    "Bhajnolith beside OpenSSL, nettle, BearSSL and libsodium: speed of Shadowsocks 2022 datagrams";
+const TITLE: &str = "Bhajnolith beside six other libraries: speed of Shadowsocks 2022 datagrams";
 
 /// The methods of which there are panels.
 const METHODS: [Method; 3] = [AES_METHODS[0], AES_METHODS[1], CHACHA20];
 
-/// The legend's rows, and the widths of its places before the last.
-const LEGEND: [&[Column]; 3] = [
-    &[
-        Column::Ours,
-        Column::OpenSslWithout,
-        Column::NettleWithout,
-        Column::BearSslWithout,
+/// The legend's rows, and the widths of its places before the last. The first place is short.
+const LEGEND: [[Option<Column>; 4]; 3] = [
+    [
+        Some(Column::Ours),
+        Some(Column::OpenSslWithout),
+        Some(Column::NettleWithout),
+        Some(Column::BearSslWithout),
     ],
-    &[
-        Column::Plain,
-        Column::OpenSslWith,
-        Column::NettleWith,
-        Column::BearSslWith,
+    [
+        Some(Column::Plain),
+        Some(Column::OpenSslWith),
+        Some(Column::NettleWith),
+        Some(Column::BearSslWith),
     ],
-    &[Column::SodiumWith],
+    [
+        None,
+        Some(Column::GcryptWithout),
+        Some(Column::MbedTlsWith),
+        Some(Column::SodiumWith),
+    ],
 ];
 const CELLS: [f64; 4] = [154.0, 314.0, 302.0, 314.0];
 
@@ -99,6 +103,7 @@ fn legend(svg: &mut Svg, top: f64) {
     };
     for (row, columns) in LEGEND.iter().enumerate() {
         for (cell, &column) in columns.iter().enumerate() {
+            let Some(column) = column else { continue };
             let ((left, y), style) = (place(row, cell), style::of(column));
             let (from, to) = ((left, y - 4.0), (left + 36.0, y - 4.0));
             svg.line(from, to, style.stroke());
@@ -126,9 +131,9 @@ fn datagrams(svg: &mut Svg, lines: &[Line]) {
         for (place, &(method, call)) in calls.iter().enumerate() {
             let frame = Frame {
                 left: MARGIN + 476.0 * place as f64,
-                top: PANELS + 403.0 * row as f64,
+                top: PANELS + 455.0 * row as f64,
                 width: 460.0,
-                height: 391.0,
+                height: 443.0,
             };
             let (verb, cipher) = (style::verb(call), method.cipher_name());
             let title = format!("{verb}, method {} ({cipher})", method.number);
@@ -242,8 +247,9 @@ mod tests {
     }
 
     #[test]
-    fn each_panel_has_a_line_for_each_of_seven() {
-        assert_eq!(drawn().matches("<polyline").count(), 6 * 7);
+    fn each_panel_has_a_line_for_each_column() {
+        // Nine for AES, seven for ChaCha20.
+        assert_eq!(drawn().matches("<polyline").count(), 4 * 9 + 2 * 7);
     }
 
     #[test]

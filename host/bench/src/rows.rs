@@ -9,12 +9,16 @@
 macro_rules! of_aes {
     ($with:ident, $wrap:ident, $arguments:tt) => {{
         use crate::bearssl::{BearSslWith, BearSslWithout};
+        use crate::gcrypt::Gcrypt;
+        use crate::mbedtls::MbedTls;
         use crate::nettle::Nettle;
         use crate::openssl::OpenSsl;
         let mut contestants = vec![
             $with::<$wrap<OpenSsl>> $arguments,
             $with::<$wrap<Nettle>> $arguments,
             $with::<$wrap<BearSslWithout>> $arguments,
+            $with::<$wrap<Gcrypt>> $arguments,
+            $with::<$wrap<MbedTls>> $arguments,
         ];
         if <BearSslWith as crate::ciphers::Ciphers>::are_there() {
             contestants.push($with::<$wrap<BearSslWith>> $arguments);
@@ -79,6 +83,10 @@ pub enum Library {
     BearSslWithout,
     /// With them, where the processor has them.
     BearSslWith,
+    /// Without them: its hardware features are off.
+    Gcrypt,
+    /// With them: mbedTLS has no switch.
+    MbedTls,
     /// Likewise.
     Sodium,
     /// This program's own, for what the others have not.
@@ -200,6 +208,8 @@ mod tests {
                 (Library::Nettle, others != Others::Plain),
                 (Library::BearSslWithout, others != Others::Plain),
                 (Library::BearSslWith, is_aes),
+                (Library::Gcrypt, others == Others::Aes),
+                (Library::MbedTls, others == Others::Aes),
                 (Library::Sodium, others == Others::ChaCha20),
                 (Library::Plain, others == Others::Plain),
             ] {

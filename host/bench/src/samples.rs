@@ -13,6 +13,8 @@ pub fn about() -> About {
         with: "OPENSSL_ia32cap=0xffffffffffffffff:0xffffffffffffffff".to_string(),
         without: "OPENSSL_ia32cap=0x400:0x0 env:0:0".to_string(),
         nettle: "nettle 0.0".to_string(),
+        gcrypt: "libgcrypt 0.0.0".to_string(),
+        mbedtls: "mbedTLS 0.0.0".to_string(),
         sodium: "libsodium 0.0.0".to_string(),
         sodium_with: "SSE2".to_string(),
         compared: 100,
@@ -73,9 +75,11 @@ fn primitives() -> [Kind; 8] {
     ]
 }
 
-/// The speeds are those of the columns of its section, in their order.
+/// The speeds are those of the columns of its section, in their order, and again from the
+/// first where it has more.
 fn line(kind: Kind, size: usize, speeds: [f64; 7]) -> Line {
     let columns = table::columns(kind.section());
+    let speeds = speeds.into_iter().cycle();
     let times = columns.zip(speeds.map(|speed| times(size, speed)));
     Line::new(kind, size, &times_of(times))
 }

@@ -7,6 +7,7 @@ use crate::editions;
 use crate::kinds::{Others, Section};
 use crate::numbers::{grouped, rounded};
 use crate::results::{Line, Summary};
+use crate::shape;
 use crate::spread;
 use crate::standing;
 use crate::worst;
@@ -32,6 +33,7 @@ const SOFTWARE: Group = Group {
         Column::OpenSslWithout,
         Column::NettleWithout,
         Column::BearSslWithout,
+        Column::GcryptWithout,
     ],
     ratio: "ours / best without",
     named: true,
@@ -40,10 +42,24 @@ const SOFTWARE: Group = Group {
 
 const INSTRUCTIONS: Group = Group {
     title: "instructions",
-    columns: &[Column::OpenSslWith, Column::NettleWith, Column::BearSslWith],
+    columns: &[
+        Column::OpenSslWith,
+        Column::NettleWith,
+        Column::BearSslWith,
+        Column::MbedTlsWith,
+    ],
     ratio: "ours / with",
     named: true,
     quartiles: false,
+};
+
+const CHACHA_SOFTWARE: Group = Group {
+    columns: &[
+        Column::OpenSslWithout,
+        Column::NettleWithout,
+        Column::BearSslWithout,
+    ],
+    ..SOFTWARE
 };
 
 /// libsodium chooses for itself, and BearSSL's ChaCha20 takes what every processor has.
@@ -130,8 +146,8 @@ impl Span {
 }
 
 /// All of it: what it was made on, the sections, where ours stands, how far the samples
-/// lie apart, the two editions beside each other, what is asked of ChaCha20, and the worst
-/// case.
+/// lie apart, the two editions beside each other, long counter mode beside its shape, what
+/// is asked of ChaCha20, and the worst case.
 pub fn text(about: &About, lines: &[Line]) -> String {
     let mut text = about.lines();
     for section in Section::ALL {
@@ -145,6 +161,7 @@ pub fn text(about: &About, lines: &[Line]) -> String {
     text.push(String::new());
     text.extend(editions::lines(lines));
     text.push(String::new());
+    text.push(shape::statement(lines));
     text.push(asked::statement(lines));
     text.push(worst::statement(lines));
     text.push(String::new());
@@ -197,7 +214,7 @@ fn of(section: Section, lines: &[Line]) -> impl Iterator<Item = &Line> {
 fn groups(section: Section) -> &'static [Group] {
     match section.others() {
         Others::Aes => &[SOFTWARE, INSTRUCTIONS],
-        Others::ChaCha20 => &[SOFTWARE, CHACHA_INSTRUCTIONS],
+        Others::ChaCha20 => &[CHACHA_SOFTWARE, CHACHA_INSTRUCTIONS],
         Others::Plain => &[PLAIN],
     }
 }
@@ -321,9 +338,9 @@ mod tests {
     use crate::samples;
 
     #[test]
-    fn a_terminal_of_160_columns_holds_it() {
+    fn a_terminal_of_176_columns_holds_it() {
         for line in text(&samples::about(), &samples::lines()).lines() {
-            assert!(width(line) <= 160, "{line}");
+            assert!(width(line) <= 176, "{line}");
         }
     }
 
@@ -338,7 +355,7 @@ mod tests {
         ]);
         let line = Line::new(Kind::Ghash, 1_000, &times);
         let ours = ["GHASH", "1,000", "100 (100–100)", "100,000", "10.0"];
-        let theirs = ["25.0", "50.0", "20.0", "1,000", "-", "-"];
+        let theirs = ["25.0", "50.0", "20.0", "-", "1,000", "-", "-", "-"];
         let ratios = ["nettle", "2.00 (2.00–2.00)", "OpenSSL", "0.100"];
         let expected = [&ours[..], &theirs, &ratios].concat();
         assert_eq!(cells(Section::Primitives, &line), expected);

@@ -21,7 +21,7 @@ use std::time::Duration;
 /// How long a thread rests behind an error of the system that may come again at once.
 const REST: Duration = Duration::from_millis(10);
 
-/// The stack of a thread. The library takes under 16 KiB of it; the system's resolver takes most.
+/// The stack of a thread. The library takes under 24 KiB of it; the system's resolver takes most.
 const STACK: usize = 256 * 1024;
 
 /// Locks. Nothing here panics with a lock held, and if it did, the words behind it would still

@@ -138,7 +138,7 @@
 //!
 //! # Stack
 //!
-//! A call takes up to 8,648 bytes of stack in the library; allow 16 KiB.
+//! A call takes up to 17,256 bytes of stack in the library; allow 24 KiB.
 //!
 //! # Timing
 //!

@@ -10,7 +10,7 @@ returns : tie.Need-returns
 unfolding blockBytes
 returns c =
     let n = c .before .args .n in
-    ap (λ (d : List ℕ). bytes (n .a) ++ (bytes (n .b) ++ (bytes (n .c) ++ d))) (c .swapped .ensures .0)
+    ap (λ (d : List ℕ). bytes (n .a) ++ (bytes (n .b) ++ (bytes (n .c) ++ d))) (c .swapped .ensures)
 
 pub counter-block-spec : {M : Type 1} → statement M
 counter-block-spec = tie.close (tie.spec (λ c κs. search needs) returns)

@@ -1,11 +1,10 @@
-use mathlib.Core.Path.{refl}
 use borrow.Author.Needs.{needs}
 use Rattle.ctr.proofs.CounterLaws.{bytes-swapped}
 use Rattle.ctr.proofs.swapped.Statement.{statement}
 use Rattle.ctr.proofs.swapped.Tie as tie
 
 returns : tie.Need-returns
-returns c = (bytes-swapped (c .args .x) (search needs), refl)
+returns c = bytes-swapped (c .args .x) (search needs)
 
 pub swapped-spec : {M : Type 1} → statement M
 swapped-spec =

@@ -43,7 +43,7 @@ pub fn draw(svg: &mut Svg, frame: Frame, lines: &[&Line]) {
 fn group(svg: &mut Svg, scale: Scale, left: f64, top: f64, line: &Line) -> f64 {
     let mut name = format!("{}, {} bytes", line.kind.name(), grouped(line.size));
     name += match line.kind {
-        Kind::Ghash => " (OpenSSL, nettle: GMAC)",
+        Kind::Ghash => " (but ours and BearSSL: GMAC)",
         Kind::Poly1305 => " (nettle: with AES)",
         _ => "",
     };

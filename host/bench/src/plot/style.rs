@@ -46,9 +46,11 @@ pub fn of(column: Column) -> Style {
         Column::OpenSslWithout => (OPENSSL_WITHOUT, "#d55e00", "9 4", Shape::Square),
         Column::NettleWithout => (NETTLE_WITHOUT, "#009e73", "14 4 3 4", Shape::Wedge),
         Column::BearSslWithout => (BEARSSL_WITHOUT, "#e69f00", "4 3", Shape::Cross),
+        Column::GcryptWithout => (GCRYPT_WITHOUT, "#a6611a", "2 2", Shape::Plus),
         Column::OpenSslWith => (OPENSSL_WITH, "#333333", "2 4", Shape::Triangle),
         Column::NettleWith => (NETTLE_WITH, "#cc79a7", "5 3", Shape::Diamond),
         Column::BearSslWith => (BEARSSL_WITH, "#8f7c00", "10 3 3 3 3 3", Shape::Post),
+        Column::MbedTlsWith => (MBEDTLS_WITH, "#4d9221", "6 2 1 2", Shape::Circle),
         Column::SodiumWith => (SODIUM_WITH, "#7b3294", "7 2 2 2", Shape::Beam),
         Column::Plain => ("plain Rust", "#56b4e9", "12 3 2 3", Shape::Plus),
     };
@@ -66,6 +68,8 @@ const OPENSSL_WITH: &str = "OpenSSL with processor instructions";
 const NETTLE_WITH: &str = "nettle with processor instructions";
 const BEARSSL_WITHOUT: &str = "BearSSL without processor instructions";
 const BEARSSL_WITH: &str = "BearSSL with processor instructions";
+const GCRYPT_WITHOUT: &str = "libgcrypt without processor instructions";
+const MBEDTLS_WITH: &str = "mbedTLS with processor instructions";
 const SODIUM_WITH: &str = "libsodium, which chooses processor instructions";
 
 pub fn verb(call: Call) -> &'static str {

@@ -5,11 +5,13 @@ use crate::around::SUBKEY_CONTEXT;
 use crate::bearssl::{BearSsl, Ghash};
 use crate::chachas::{ChaChas, Mac, OneTimeKey, Stream};
 use crate::ciphers::{Aead, Block, Ciphers, Counter, Gmac, TAG_LENGTH};
+use crate::gcrypt::Gcrypt;
 use crate::kinds::Kind;
+use crate::mbedtls::MbedTls;
 use crate::nettle::Nettle;
 use crate::openssl::{AesBlock, OpenSsl};
 use crate::ours;
-use crate::plain::{blake3, DeriveKey};
+use crate::plain::{blake3, AesPlanes, DeriveKey};
 
 const KEY_LENGTHS: [usize; 3] = [16, 24, 32];
 
@@ -60,6 +62,7 @@ pub fn rows() -> Vec<Row> {
             rows.push(wrapping.compared_only("counter wraps"));
         }
     }
+    rows.extend([16, 32].map(planes));
     rows.extend(HASHED.map(ghash));
     for rounds in ROUNDS {
         for size in SIZES {
@@ -96,6 +99,27 @@ fn aes_ctr(key_length: usize, size: usize, counter: u32) -> Row {
     }
 }
 
+/// The longest, by ours and by its shape in plain Rust.
+fn planes(key_length: usize) -> Row {
+    let key = &KEY[..key_length];
+    let model = AesPlanes::new();
+    Row {
+        kind: Kind::Planes { key_length },
+        size: WHOLE_BLOCKS,
+        input: Vec::new(),
+        buffer: WHOLE_BLOCKS,
+        special: None,
+        contestants: vec![
+            Contestant::new(Library::Ours, move |_, data| {
+                ours::aes_ctr(key, &NONCE, FIRST_COUNTER, data);
+            }),
+            Contestant::new(Library::Plain, move |_, data| {
+                model.apply(key, &NONCE, FIRST_COUNTER, data);
+            }),
+        ],
+    }
+}
+
 fn aes_ctr_with<C: Ciphers>(key: &'static [u8], counter: u32) -> Contestant {
     let context = C::Counter::new(key.len());
     Contestant::new(C::LIBRARY, move |_, data| {
@@ -103,7 +127,7 @@ fn aes_ctr_with<C: Ciphers>(key: &'static [u8], counter: u32) -> Contestant {
     })
 }
 
-/// OpenSSL and nettle have no function for GHASH alone. Nearest is the tag of
+/// BearSSL alone has a function for GHASH. Nearest is the tag of
 /// additional data without a text: the data's GHASH with a block of lengths behind it,
 /// added to an AES block, which ours and BearSSL's are given.
 fn ghash(size: usize) -> Row {
@@ -119,6 +143,8 @@ fn ghash(size: usize) -> Row {
         }),
         gmac_with::<OpenSsl>(key, data),
         gmac_with::<Nettle>(key, data),
+        gmac_with::<Gcrypt>(key, data),
+        gmac_with::<MbedTls>(key, data),
     ];
     contestants.extend(ghash_of_bearssl::<false>(hash_subkey, mask));
     contestants.extend(ghash_of_bearssl::<true>(hash_subkey, mask));

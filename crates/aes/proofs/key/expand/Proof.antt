@@ -38,20 +38,34 @@ loop2-holds : tie.Need-loop2-holds Inv-loop μ-loop Inv-loop2 μ-loop2
 loop2-holds c = (search needs, search needs, search needs, start-law _ _ _ (c .before .loop .i) (search needs) (c .before .loop .inv .2) (c .before .loop .inv .3))
 
 loop2-again : tie.Need-loop2-again Inv-loop μ-loop Inv-loop2 μ-loop2
-loop2-again c = (
-  search needs,
-  search needs,
-  simp length-set (omega arith),
-  next-law _ _ _ _ _ _ _ (c .before .before .before .before .loop2 .inv .3) (search needs) (search needs) _ _ _ (c .before .before .temp .ensures) (next-group _ _ _ _ (c .before .before .before .before .loop2 .inv .3 .place) _ (c .before .if1 .taken) (c .x-times .ensures)),
-)
+loop2-again c =
+    let t = c .before .before in
+    let l = t .before .before in
+    let start = l .before .before .before .before in
+    let most = start .pre .1 .1 .1 in
+    let v = l .loop2 .inv .3 in
+    let size = l .loop2 .inv .2 in
+    let fits : start .args .nk + l .loop2 .n < length (l .loop2 .w) = omega (arith, most, size) in (
+      search needs,
+      search needs,
+      simp length-set (omega arith),
+      next-law _ _ _ _ _ _ _ v fits (search needs) _ _ _ (t .temp .ensures .0) (next-group _ _ _ _ (v .place) _ (t .temp .ensures .1) (c .if1 .taken)),
+    )
 
 loop2-again-2 : tie.Need-loop2-again-2 Inv-loop μ-loop Inv-loop2 μ-loop2
-loop2-again-2 c = (
-  search needs,
-  search needs,
-  simp length-set (omega arith),
-  next-law _ _ _ _ _ _ _ (c .before .before .before .loop2 .inv .3) (search needs) (search needs) _ _ _ (c .before .temp .ensures) (same-group _ _ _ _ (c .before .before .before .loop2 .inv .3 .place)),
-)
+loop2-again-2 c =
+    let t = c .before .before in
+    let l = t .before .before in
+    let start = l .before .before .before .before in
+    let most = start .pre .1 .1 .1 in
+    let v = l .loop2 .inv .3 in
+    let size = l .loop2 .inv .2 in
+    let fits : start .args .nk + l .loop2 .n < length (l .loop2 .w) = omega (arith, most, size) in (
+      search needs,
+      search needs,
+      simp length-set (omega arith),
+      next-law _ _ _ _ _ _ _ v fits (search needs) _ _ _ (t .temp .ensures .0) (same-group _ _ _ _ (v .place) _ (t .temp .ensures .1)),
+    )
 
 returns : tie.Need-returns Inv-loop μ-loop Inv-loop2 μ-loop2
 returns c = end-law _ _ _ (c .before .loop2 .n) _ _ _ (search needs) (c .before .loop2 .inv .3)
@@ -88,15 +102,14 @@ expand-spec =
     loop2-holds
     (λ c. search needs)
     (λ c. search needs)
-    (λ c. search needs)
-    (λ c. search needs)
     (λ c κs. search needs)
     (λ c. search needs)
     (λ c. search needs)
     (λ c. search needs)
     (λ c. search needs)
     (λ c. search needs)
-    (λ c κs. search needs)
+    (λ c. search needs)
+    (λ c. search needs)
     (λ c. search needs)
     loop2-again
     (λ c. search needs)

@@ -10,7 +10,7 @@ returns c = be-past 8 (c .before .before .args .s .now) (c .if1 .taken)
 returns-3 : tie.Need-returns-3
 returns-3 c =
     let a = c .before .before .before .before .before .before .before .args in
-    c .load-u642 .ensures ∙ be-rest 8 8 (a .s .now) (a .at) (c .before .before .padded .ensures)
+    c .load-u64-be2 .ensures ∙ be-rest 8 8 (a .s .now) (a .at) (c .before .before .padded .ensures)
 
 pub read-u64-be-spec : {M : Type 1} → statement M
 read-u64-be-spec =

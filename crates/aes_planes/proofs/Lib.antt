@@ -1,0 +1,4 @@
+pub mod StepLaws
+pub mod PlaceLaws
+pub mod MixLaws
+pub mod SubLaws

@@ -1,0 +1,4 @@
+pub mod Mix
+pub mod Rows
+pub mod State
+pub mod Sub

@@ -1,0 +1,3 @@
+pub mod RoundsLaws
+pub mod BlockLaws
+pub mod MaskLaws

@@ -1,2 +1,0 @@
-pub mod WideLaws
-pub mod ResumeLaws
