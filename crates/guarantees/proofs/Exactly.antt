@@ -2,8 +2,7 @@
 -- Assumes nothing.
 use mathlib.Core.Path.{_≡_, refl, sym, ap, ap₂, _∙_, subst}
 use mathlib.Core.Logic.{_≢_, _↔_}
-use mathlib.Core.Bool.{Bool, true, false, cond, _&&_, true≢false, and-eq-true-iff}
-use mathlib.Core.List.{List}
+use mathlib.Core.Bool.{Bool, true, false, cond, not, _&&_, true≢false, and-eq-true-iff}
 use Prim.Native.Nat.{ℕ, _+_, _-_}
 use native.Mathlib.Omega.{arith}
 use lib.Dec.{eqb, leb}
@@ -61,6 +60,13 @@ use Rattle.sip004_demands.specs.Datagrams as sip004Lawful
 use Rattle.sip004_demands.proofs.Sip004.{sip004-exactly}
 use Rattle.guarantees.specs.Calls.{Call, Lent, Said, Role, Opening, opens-datagram, step, roleOf, opens, at}
 use Rattle.guarantees.specs.Guarantees.{Exactly}
+use mathlib.Core.List.{List, [], _∷_, map}
+use Rattle.protocol.specs.Orders.{Rule, first, gives}
+use Rattle.protocol.specs.Orders.{Said as Said′, refuses as refusing}
+use Rattle.session_table.specs.Table.{sessionPlace, freePlace}
+use Rattle.demands.specs.Orders.{saidOpened, openOrder}
+use Rattle.demands.proofs.Orders.{orders}
+use Rattle.guarantees.specs.DatagramOrder.{recordOf, freeRecord, firstRefusal, openRules}
 use Rattle.guarantees.proofs.Base.{length-nine}
 use Rattle.guarantees.proofs.Roles.{on-table, OnTable}
 use Rattle.guarantees.proofs.Deciding.{not-zero}
@@ -124,6 +130,57 @@ module _ (o : Opening) (m : Lent) where
       ap (λ (z : AfterOpen). z .number) (relays (o .method) (o .key) (o .client) (o .clock) (o .peer) (o .datagram) (m .table) (m .out) (m .answer) (g .1 .0))
       ∙ ap openedNumber
       (accepted-exactly-when (o .method) (o .key) (o .client) (o .clock) (o .peer) (o .datagram) (m .table) (m .out) (g .1 .1 .0) (g .0) .always-when (g .1 .1 .1))
+
+-- ---- the order
+
+abbrev numberSaid : {A : Type 0} → Said′ A → ℕ
+numberSaid (refusing n a) = n
+numberSaid (gives v) = 0
+
+abbrev asRule : Rule → ℕ × Bool
+asRule r = (r .number, r .when)
+
+first-number : {A : Type 0} (rs : List Rule) (v : A) → numberSaid (first rs v) ≡ firstRefusal (map asRule rs)
+unfolding first
+first-number [] v = refl
+first-number (r ∷ rs) v = go (r .when) (first-number rs v)
+  where
+    go : (b : Bool) → numberSaid (first rs v) ≡ firstRefusal (map asRule rs)
+        → numberSaid (cond b (refusing (r .number) (r .adds)) (first rs v)) ≡ cond b (r .number) (firstRefusal (map asRule rs))
+    go true e = refl
+    go false e = e
+
+module _ (o : Opening) (m : Lent) where
+  said-number : (x : Answer Header) → openedNumber x ≡ numberSaid (saidOpened x)
+  said-number (opened h) = refl
+  said-number (refused n) = refl
+
+  by-order : openedNumber (a o m) ≡ firstRefusal (map asRule (openOrder (o .method) (o .key) (o .client) (o .clock) (o .datagram) (m .table) (m .out)))
+  by-order =
+      said-number (a o m)
+      ∙ ap numberSaid (orders .datagram-opened (o .method) (o .key) (o .client) (o .clock) (o .peer) (o .datagram) (m .table) (m .out))
+      ∙ first-number (openOrder (o .method) (o .key) (o .client) (o .clock) (o .datagram) (m .table) (m .out)) _
+
+  ordered : y o m .number ≡ firstRefusal (openRules o m)
+  unfolding sessionPlace freePlace recordOf freeRecord
+  ordered = go (eqb (length (m .answer)) 9) refl
+    where
+      go : (b : Bool) → eqb (length (m .answer)) 9 ≡ b
+          → opensDatagram (o .method) (o .key) (o .client) (o .clock) (o .peer) (o .datagram) (m .table) (m .out) (m .answer) .number ≡ firstRefusal (openRules o m)
+      go true e =
+          ap (λ (z : AfterOpen). z .number)
+          (relays (o .method) (o .key) (o .client) (o .clock) (o .peer) (o .datagram) (m .table) (m .out) (m .answer) (length-nine (m .answer) e))
+          ∙ by-order
+          ∙ sym (ap (λ (b : Bool). cond (not b) 1 (firstRefusal (map asRule (openOrder (o .method) (o .key) (o .client) (o .clock) (o .datagram) (m .table) (m .out))))) e)
+      go false e =
+          sym (ap (λ (z : AfterOpen). z .number)
+          (untold (o .method) (o .key) (o .client) (o .clock) (o .peer) (o .datagram) (m .table) (m .out) (m .answer) (eqb-false (length (m .answer)) 9 e)))
+          ∙ sym (ap (λ (b : Bool). cond (not b) 1 (firstRefusal (map asRule (openOrder (o .method) (o .key) (o .client) (o .clock) (o .datagram) (m .table) (m .out))))) e)
+
+datagram-order : (c : Call) (o : Opening) (m : Lent) → roleOf c ≡ opens-datagram o → step c m .number ≡ firstRefusal (openRules o m)
+datagram-order c o m e =
+    let x : OnTable (opens-datagram o) m (step c m) = subst (λ (r : Role). OnTable r m (step c m)) e (on-table c m) in
+    ap (λ (z : Said). z .number) x ∙ ordered o m
 
 datagram-words : (c : Call) (o : Opening) (m : Lent) → roleOf c ≡ opens-datagram o → length (m .answer) ≡ 9
     → Lawful (o .method) (o .key) (o .datagram) (m .table) (m .out)
@@ -358,6 +415,7 @@ datagrams-exactly-2017 method key s m = (
 pub exactly : Exactly
 unfolding step
 exactly = record {
+  datagram-order = datagram-order;
   datagrams = datagrams-exactly;
   datagram-words = datagram-words;
   fronts = front-exactly;

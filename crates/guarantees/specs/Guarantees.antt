@@ -3,15 +3,14 @@
 -- Assumes nothing.
 use mathlib.Core.Path.{_≡_}
 use mathlib.Core.Logic.{_≢_, _↔_}
-use mathlib.Core.Bool.{Bool, true, false, cond, not, _&&_}
+use mathlib.Core.Bool.{true, false, cond}
 use mathlib.Core.List.{List, [], _∷_, _++_, map}
-use mathlib.Core.Option.{Option, some}
+use mathlib.Core.Option.{some}
 use Prim.Native.Nat.{ℕ, _+_, _-_, _*_, _^_, _≤_, _<_, min}
-use lib.Dec.{eqb, leb}
+use lib.Dec.{eqb}
 use lib.ListN.{length, getD, set, take, drop, replicate}
 use lib.Seq.{sets}
 use Rattle.octets.specs.Buffers.{Octets, put}
-use Rattle.records.specs.Records.{lowestFrom}
 use Rattle.protocol.specs.Orders.{among}
 use Rattle.protocol.specs.Method.{keyFits, saltLength, cipherOf}
 use Rattle.datagram_read.specs.Opening.{plainOf, sessionOf}
@@ -42,15 +41,9 @@ use Rattle.socks5.specs.Address.{parseAt, moved}
 use Rattle.datagram_parts.specs.Headers.{mainStart}
 use Rattle.words.specs.Answers.{kindOf, firstOf, secondOf, headerWords}
 use Rattle.guarantees.specs.Calls.{Call, Front, Lent, Memory, Opening, Role, Said, Use, acceptedFronts, after, at, calls, decides, does, frontClocks, lend, makes-pool, makes-table, next, nothing, onPool, opens-datagram, opens-front, outcomes, roleOf, sessionOfCall, step, «relay_datagram_seal», «relay_session_begin_server», «relay_sip004_datagram_open», «relay_sip004_datagram_seal», «relay_sip004_stream_open_chunk», «relay_stream_open_chunk», «relay_stream_open_request», «relay_stream_open_response», «relay_stream_open_variable», «relay_stream_seal_chunk», «relay_stream_seal_request», «relay_stream_seal_response», «relay_sip004_stream_seal_chunk», «relay_sip004_stream_begin_seal», «relay_sip004_stream_begin_open», «relay_table_new», onStream, sent, otherSide, Opener, sessionIn}
+use Rattle.guarantees.specs.DatagramOrder.{recordOf, firstRefusal, openRules}
 
 -- ---- demand 1, of one call
-
--- the record of a session in a table: the lowest of the 64 that is in use, has the ID, and whose last time is not past by more than R
-abbrev pub alive : List ℕ → (clock i : ℕ) → Bool
-alive t clock i = not (eqb (at t (1 + i * 13)) 0) && leb clock (at t (1 + i * 13 + 3) + at t 0)
-
-unfoldable pub recordOf : List ℕ → (clock id : ℕ) → Option ℕ
-recordOf t clock id = lowestFrom (λ i. alive t clock i && eqb (at t (1 + i * 13 + 1)) id) 0 64
 
 -- one word of the table is another: the repeats of the datagram's session, one more, up to 2^64 - 1
 pub record RepeatCounted (clock id : ℕ) (t t′ : List ℕ) : Type 0 where
@@ -105,6 +98,8 @@ Demand1 = (m : Memory) (us : List Use) → EachEnds m us
 -- the stream's turn and counter, with a valid variable header or a length within the edition's. `receiverIn` reads the state of a
 -- stream from its words (words/specs/States.antt), and `chunks.opens` tests that they are of one that opens.
 pub record Exactly : Type 0 where
+  -- what a call that opens a datagram returns is the first of its refusals whose condition holds, and 0 where none does (`DatagramOrder`)
+  pub datagram-order : (c : Call) (o : Opening) (m : Lent) → roleOf c ≡ opens-datagram o → step c m .number ≡ firstRefusal (openRules o m)
   pub datagrams : (c : Call) (o : Opening) (m : Lent) → roleOf c ≡ opens-datagram o → (step c m .number ≡ 0)
       ↔ ((h : Header) × ((length (m .answer) ≡ 9) × (Lawful (o .method) (o .key) (o .datagram) (m .table) (m .out)
       × Acceptable (o .method) (o .key) (o .client) (o .clock) (o .datagram) (m .table) h)))
