@@ -1,4 +1,6 @@
 // Authenticated encryption by the cipher of a method, with a 12-byte nonce, a 16-byte tag and no additional data, on lent buffers.
+#![tactic(auto)]
+
 ghost use Rattle.std.specs.Prelude.{◌≡◌, cond, ◌++◌, ◌+◌, ◌-◌, ◌<◌, ◌≤◌, length, take, drop};
 ghost use Rattle.octets.specs.Buffers.{put};
 ghost use Rattle.aes.specs.Keyed.{nk_of};

@@ -1,6 +1,6 @@
 -- The steps of the cipher keep a state a block: 16 bytes. And a block is the state of its bytes.
 -- Assumes nothing.
-use mathlib.Core.Path.{◌≡◌, refl, sym, ap, ◌∙◌, subst}
+use mathlib.Core.Path.{◌≡◌, refl, sym, ap, ◌∙◌}
 use mathlib.Core.Bool.{Bool, true, false, cond}
 use mathlib.Core.List.{List, [], ◌∷◌, ◌++◌, map}
 use Prim.Native.Nat.{ℕ, zero, suc, ◌+◌, ◌-◌, ◌*◌, ◌/◌, ◌%◌, ◌≤◌, ◌<◌}
@@ -8,9 +8,9 @@ use native.Mathlib.Nat.{add-suc, suc-add}
 use native.Mathlib.Omega.{arith}
 use lib.Bits.{xor_lt}
 use lib.Dec.{eqb, ltb, lit<}
-use lib.ListN.{length, get_or, take, drop, length-append, length-map, drop_of_length-le}
+use lib.ListN.{length, get_or, drop, length-map, drop_of_length-le}
 use lib.Seq.{drop-cons}
-use Rattle.octets.specs.Buffers.{Octets, ◌⊞◌}
+use Rattle.octets.specs.Buffers.{Octets}
 use Rattle.octets.proofs.BufferLaws.{octets-nil, octets-cons, octets-tail, octets-append, octets-take, octets-drop, octets-xor, length-xor}
 use Rattle.aes_tables.specs.Field.{◌⊕◌, ◌•◌}
 use Rattle.aes_tables.specs.SBox.{s_box}

@@ -45,7 +45,7 @@ fn x_times(b: u8) -> u8
 }
 
 // What is added to a word, and the round constant of the next group's first word.
-#[derive(Drop)]
+#[derive(Clone, Copy)]
 struct Added {
     word: u32,
     constant: u8,

@@ -1,6 +1,8 @@
 // AES (FIPS 197) for keys of 16, 24 and 32 bytes. The state is four 32-bit columns, the byte of row 0 lowest; one round of a
 // column is four look-ups in a table of 256 words (the T-table), each turned to its row. Look-ups are indexed by key and
 // text bytes, so the time may depend on them where the processor's cache does.
+#![tactic(auto)]
+
 ghost use Rattle.std.specs.Prelude.{◌≡◌, map, ◌+◌, ◌<◌, ◌≤◌, length, take, drop};
 ghost use Rattle.octets.specs.Buffers.{◌⊞◌, put};
 ghost use Rattle.aes.specs.Cipher.{round_key};
@@ -11,7 +13,7 @@ pub mod key;
 pub mod word;
 
 // A block or a state: its columns 0 to 3.
-#[derive(Drop)]
+#[derive(Clone, Copy)]
 pub struct Block {
     pub a: u32,
     pub b: u32,

@@ -1,9 +1,11 @@
 // The S-box of AES as a circuit on planes of bits (Boyar and Peralta: 113 gates): 32 bytes at once.
+#![tactic(auto)]
+
 ghost use Rattle.std.specs.Prelude.{◌≡◌, ℕ, ◌<◌};
 ghost use Rattle.aes_tables.specs.SBox.{s_box};
 ghost use Rattle.aes_circuit.specs.Circuit.{top_of, middle_of, inverse_of, products_of, bottom_of, sbox_of, byte_at};
 
-#[derive(Drop)]
+#[derive(Clone, Copy)]
 pub struct Bits {
     pub x0: u32,
     pub x1: u32,
@@ -15,7 +17,7 @@ pub struct Bits {
     pub x7: u32,
 }
 
-#[derive(Drop)]
+#[derive(Clone, Copy)]
 pub struct Linear {
     pub y14: u32,
     pub y13: u32,
@@ -40,7 +42,7 @@ pub struct Linear {
     pub y18: u32,
 }
 
-#[derive(Drop)]
+#[derive(Clone, Copy)]
 pub struct Four {
     pub t21: u32,
     pub t22: u32,
@@ -48,7 +50,7 @@ pub struct Four {
     pub t24: u32,
 }
 
-#[derive(Drop)]
+#[derive(Clone, Copy)]
 pub struct Nine {
     pub t29: u32,
     pub t33: u32,
@@ -61,7 +63,7 @@ pub struct Nine {
     pub t45: u32,
 }
 
-#[derive(Drop)]
+#[derive(Clone, Copy)]
 pub struct Ands {
     pub z0: u32,
     pub z1: u32,

@@ -2,9 +2,9 @@
 -- Assumes nothing.
 use mathlib.Core.Path.{◌≡◌, refl, sym, ap, ap₂, ◌∙◌}
 use mathlib.Core.List.{List, [], ◌∷◌, ◌++◌, map}
-use Prim.Native.Nat.{ℕ, zero, suc, ◌+◌, ◌-◌, ◌*◌, ◌<◌}
+use Prim.Native.Nat.{ℕ, zero, suc, ◌+◌, ◌-◌}
 use lib.ListN.{get_or}
-use Rattle.octets.specs.Buffers.{Octets, ◌⊞◌}
+use Rattle.octets.specs.Buffers.{Octets}
 use Rattle.octets.proofs.BufferLaws.{octets-tail, xor-twice}
 use Rattle.aes_tables.specs.SBox.{s_box, inv_sbox}
 use Rattle.aes_tables.proofs.Substitution.{inv_sbox-s_box}

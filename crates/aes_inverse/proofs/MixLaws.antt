@@ -1,9 +1,9 @@
 -- InvMixColumns undoes MixColumns, column by column. Each row of a column is row 0 of the column turned, so one row is enough.
 -- Assumes nothing.
 use mathlib.Core.Path.{◌≡◌, sym, ap, ◌∙◌}
-use mathlib.Core.List.{List, [], ◌∷◌}
+use mathlib.Core.List.{[], ◌∷◌}
 use Prim.Native.Nat.{ℕ, ◌<◌}
-use lib.Bits.{bit_xor, xor_comm, xor_lt, xor_zero_r}
+use lib.Bits.{xor_comm, xor_lt, xor_zero_r}
 use lib.Dec.{eqb, eqb→eq}
 use Rattle.octets.proofs.Table.{at_each}
 use Rattle.octets.proofs.XorLaws.{xor_assoc, xor-medial}

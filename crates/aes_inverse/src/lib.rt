@@ -1,4 +1,6 @@
 // The inverse cipher of AES, FIPS 197 section 5.3. It is used for one block a datagram, so it is plain.
+#![tactic(auto)]
+
 ghost use Rattle.std.specs.Prelude.{◌≡◌, map, ◌∷◌, [], ◌/◌, ◌%◌, ◌<◌};
 ghost use Rattle.octets.specs.Buffers.{◌⊞◌};
 ghost use Rattle.aes_tables.specs.SBox.{s_box, inv_sbox};

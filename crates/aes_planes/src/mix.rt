@@ -3,7 +3,7 @@ ghost use Rattle.std.specs.Prelude.{◌≡◌, ◌+◌, ◌*◌, ◌<◌, ◌≤
 ghost use Rattle.aes_planes.specs.Mix.{sums_of, both_of, row_of, key_row_of, mixed_of, set_row, sum_row, bit_of, low_of, high_of, lane_of, columns_of, last_bit_of, last_of};
 
 // One bit of the four bytes of a column.
-#[derive(Drop)]
+#[derive(Clone, Copy)]
 pub struct Quad {
     pub a: u32,
     pub b: u32,

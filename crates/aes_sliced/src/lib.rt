@@ -1,6 +1,8 @@
 // AES of 32 blocks at once, on planes of bits (crate `aes_planes`): the words of the blocks are turned into planes, the rounds
 // are made of all of them, and the planes are turned back. One batch is 512 bytes. The caller owns the planes and makes the masks
 // of the key once; with one call site for each step all of it stands in line there, and the loops over columns become vectors.
+#![tactic(auto)]
+
 ghost use Rattle.std.specs.Prelude.{◌≡◌, ℕ, ◌+◌, ◌*◌, ◌<◌, ◌≤◌, List, map, length};
 ghost use Rattle.aes.specs.Cipher.{cipher as cipher_of};
 ghost use Rattle.aes.specs.Words.{bytes};

@@ -1,14 +1,13 @@
 -- The tables of columns, tested entry by entry over the substitution's table.
 -- Assumes nothing.
-use mathlib.Core.Path.{◌≡◌, ap, ◌∙◌}
+use mathlib.Core.Path.{ap, ◌∙◌}
 use mathlib.Core.List.{List}
-use Prim.Native.Nat.{ℕ, ◌<◌}
+use Prim.Native.Nat.{ℕ}
 use lib.Dec.{T, eqb}
 use lib.ListN.{length, get_or}
 use Rattle.octets.proofs.Table.{holds}
-use Rattle.aes_tables.specs.Field.{x_times, times, ◌•◌}
-use Rattle.aes_tables.specs.SBox.{s_box}
-use Rattle.aes_tables.specs.Tables.{IsTable, column, mix_entry, inv_mix_entry}
+use Rattle.aes_tables.specs.Field.{◌•◌}
+use Rattle.aes_tables.specs.Tables.{IsTable, column, mix_entry}
 use Rattle.aes_tables.proofs.Substitution.{is-table, s_table, s-table}
 
 -- what a substituted byte gives to its column

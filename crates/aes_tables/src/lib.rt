@@ -1,5 +1,7 @@
 // The tables of AES (FIPS 197) as constants. A constant that is indexed inside a callee is copied at every look-up, so
 // each function hands its table out once, for the caller to lend.
+#![tactic(auto)]
+
 ghost use Rattle.aes_tables.specs.SBox.{s_box, inv_sbox};
 ghost use Rattle.aes_tables.specs.Tables.{IsTable, mix_entry, inv_mix_entry};
 

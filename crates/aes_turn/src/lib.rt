@@ -1,4 +1,6 @@
 // Planes to words of blocks, and back: 4 matrices of 32 by 32 bits, turned.
+#![tactic(auto)]
+
 ghost use Rattle.std.specs.Prelude.{◌≡◌, ◌+◌, ◌*◌, ◌<◌, ◌≤◌, length};
 ghost use Rattle.aes_turn.specs.Turn.{moved_of, exchange_of, stage_of, turn_of};
 

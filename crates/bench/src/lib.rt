@@ -1,4 +1,6 @@
 // What the benchmark calls, one primitive at a time.
+#![tactic(auto)]
+
 ghost use Rattle.std.specs.Prelude.{◌≡◌, length};
 ghost use Rattle.std.proofs.Math.Option.{none};
 ghost use Rattle.bench.specs.Answer.{answer, number, hash_lawful, hash_out, subkey_lawful, subkey_out};

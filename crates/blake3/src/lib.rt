@@ -1,5 +1,7 @@
 // BLAKE3's key derivation, from a context and key material of at most one block of 64 bytes each: each is then one chunk of
 // one block, the root of its own tree, and costs one compression.
+#![tactic(auto)]
+
 ghost use Rattle.std.specs.Prelude.{◌≡◌, ◌*◌, ◌≤◌, length};
 ghost use Rattle.octets.specs.Buffers.{put};
 ghost use Rattle.blake3_compression.specs.Compression.{first_eight};
@@ -43,7 +45,7 @@ const SUBKEY_CONTEXT_KEY: [u32; 8] = [
 ];
 
 // What a derivation answers: 64 bytes; or not ok, and zeros.
-#[derive(Drop)]
+#[derive(Clone, Copy)]
 pub struct Derived {
     pub ok: bool,
     pub bytes: [u8; 64],

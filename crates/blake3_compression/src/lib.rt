@@ -1,12 +1,14 @@
 // The compression function of BLAKE3, on a state that is held as its four columns; a message is held in the same way. The compiler
 // keeps structs in registers, and arrays in memory.
+#![tactic(auto)]
+
 ghost use Rattle.std.specs.Prelude.{◌≡◌};
 ghost use Rattle.blake3_compression.specs.Compression.{columns, diagonals, one_round, permuted, rounds, initial, final, compressed};
 ghost use Rattle.blake3_compression.specs.Columns.{words, diagonal as diagonal_of, sixteen};
 
 use blake3_mixing::{Quad, mix};
 
-#[derive(Drop)]
+#[derive(Clone, Copy)]
 pub struct State {
     pub p: Quad,
     pub q: Quad,

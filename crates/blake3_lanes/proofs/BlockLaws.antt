@@ -10,7 +10,7 @@ use lib.Seq.{take-take, drop-drop, length-take-le}
 use Rattle.blake3_compression.specs.Compression.{first_eight, rounds, initial, final, compressed, iv}
 use Rattle.blake3_compression.proofs.CompressionLaws.{rounds-step, rounds-none}
 use Rattle.blake3.specs.Words.{block_words}
-use Rattle.blake3.specs.Tree.{Node, blocks, chunk, chaining_value}
+use Rattle.blake3.specs.Tree.{blocks, chunk, chaining_value}
 use Rattle.blake3_lanes.specs.Lanes.{folded, state, message, Each, same, same_message, firsts, loaded, started, mixed, reordered, folded_states}
 use Rattle.blake3_lanes.specs.Lanes.{Rounded, Blocks, chunk_at, Chunks}
 use Rattle.blake3_lanes.proofs.ChunkLaws.{behind, blocks_more, last_block}

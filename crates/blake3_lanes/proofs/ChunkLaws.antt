@@ -1,6 +1,6 @@
 -- A chunk's blocks, one by one.
 -- Assumes nothing.
-use mathlib.Core.Path.{◌≡◌, sym, ap, ◌∙◌}
+use mathlib.Core.Path.{◌≡◌, sym, ap}
 use mathlib.Core.List.{List}
 use Prim.Native.Nat.{ℕ, suc, ◌+◌, ◌-◌, ◌/◌, ◌<◌, ◌≤◌}
 use native.Mathlib.Nat.{zero-add, le_of_eq}
@@ -9,7 +9,7 @@ use lib.ListN.{length, take, drop, length-drop}
 use lib.Seq.{drop-drop, take_all}
 use Rattle.blake3_compression.specs.Compression.{first_eight, compressed}
 use Rattle.blake3.specs.Words.{block_words}
-use Rattle.blake3.specs.Tree.{Node, blocks}
+use Rattle.blake3.specs.Tree.{blocks}
 
 -- how many blocks stand behind the one at `at`
 abbrev pub behind : List ℕ → ℕ → ℕ

@@ -1,5 +1,7 @@
 // Four chunks of BLAKE3 side by side: word i of the state j stands at 4 i + j of one array, and the messages behind the states. The
 // compiler works on all four at once where the array is all that is lent to the loop over them.
+#![tactic(auto)]
+
 mod rounds;
 
 ghost use Rattle.std.specs.Prelude.{◌≡◌, ◌+◌, ◌*◌, ◌^◌, ◌<◌, ◌≤◌, length};

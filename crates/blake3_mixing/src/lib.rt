@@ -1,9 +1,11 @@
 // The mixing function of BLAKE3.
+#![tactic(auto)]
+
 ghost use Rattle.std.specs.Prelude.{◌≡◌, ◌<◌};
 ghost use Rattle.blake3_mixing.specs.Mixing.{sum3, rotr, half, G};
 
 // The four words of a state that are mixed together.
-#[derive(Drop)]
+#[derive(Clone, Copy)]
 pub struct Quad {
     pub a: u32,
     pub b: u32,

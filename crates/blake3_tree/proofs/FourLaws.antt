@@ -2,7 +2,7 @@
 -- Assumes nothing.
 use mathlib.Core.Path.{◌≡◌, refl, sym, ap, ap₂, ◌∙◌}
 use mathlib.Core.List.{List}
-use Prim.Native.Nat.{ℕ, ◌+◌, ◌-◌, ◌*◌, ◌/◌, ◌^◌, ◌<◌, ◌≤◌}
+use Prim.Native.Nat.{ℕ, ◌+◌, ◌-◌}
 use native.Mathlib.Nat.{le_of_eq}
 use native.Mathlib.Omega.{arith}
 use lib.ListN.{length, take, drop, length-drop}
@@ -12,7 +12,7 @@ use Rattle.blake3_compression.specs.Compression.{iv}
 use Rattle.blake3.specs.Tree.{chunk, chaining_value, parent_node, tree}
 use Rattle.blake3_lanes.specs.Lanes.{chunk_at}
 use Rattle.blake3_lanes.proofs.BlockLaws.{take_within}
-use Rattle.blake3_tree.specs.Subtree.{last_words, Left}
+use Rattle.blake3_tree.specs.Subtree.{last_words}
 use Rattle.blake3_tree.proofs.JoinLaws.{last_none, one_chunk, joins}
 
 -- a whole chunk's chaining value

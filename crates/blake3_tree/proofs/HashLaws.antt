@@ -1,10 +1,9 @@
 -- The hash is the bytes of the root's first eight words.
 -- Assumes nothing.
-use mathlib.Core.Path.{◌≡◌, refl, sym, ap, ◌∙◌}
+use mathlib.Core.Path.{◌≡◌, refl, ap, ◌∙◌}
 use mathlib.Core.Bool.{Bool, true, false}
 use mathlib.Core.List.{List}
 use Prim.Native.Nat.{ℕ, zero, suc, ◌+◌, ◌-◌, ◌*◌, ◌/◌, ◌^◌, ◌≤◌}
-use native.Mathlib.Nat.{le_of_eq}
 use lib.Dec.{leb}
 use lib.ListN.{length, take, drop, replicate}
 use Rattle.octets.specs.Buffers.{put}
@@ -13,7 +12,6 @@ use Rattle.octets.proofs.BufferLaws.{put_whole}
 use Rattle.blake3_compression.specs.Compression.{first_eight, compressed, final, iv}
 use Rattle.blake3.specs.Words.{word_bytes}
 use Rattle.blake3.specs.Tree.{Node, blocks, chunk, chaining_value, parent_node, tree, root_of, output_words, output, hash}
-use Rattle.blake3.proofs.WordLaws.{length-word_bytes}
 use Rattle.blake3_tree.specs.Subtree.{last_words}
 
 -- ---- the root's counter is 0, as that of its first block of output is

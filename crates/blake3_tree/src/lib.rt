@@ -1,5 +1,7 @@
 // BLAKE3's hash of an input of any length. A node gives the first eight words of its last compression: its chaining value, or
 // with the root's flag the hash.
+#![tactic(auto)]
+
 ghost use Rattle.std.specs.Prelude.{◌≡◌, ◌++◌, ◌+◌, ◌^◌, ◌<◌, ◌≤◌, length, take, drop};
 ghost use Rattle.blake3_compression.specs.Compression.{first_eight, compressed, iv};
 ghost use Rattle.blake3.specs.Words.{block_words};

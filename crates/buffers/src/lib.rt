@@ -1,4 +1,6 @@
 // Strings of bytes in buffers: copying, clearing, exclusive or, comparison.
+#![tactic(auto)]
+
 ghost use Rattle.std.specs.Prelude.{◌≡◌, ◌+◌, ◌≤◌, min, length, get_or, replicate};
 ghost use Rattle.buffers.specs.Buffers.{put, ◌⊞◌, same};
 

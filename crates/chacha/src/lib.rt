@@ -1,5 +1,7 @@
 // ChaCha with any number of double rounds (RFC 8439, section 2), and HChaCha (draft-irtf-cfrg-xchacha, section 2.2). No branch and
 // no index depends on key, nonce or text.
+#![tactic(auto)]
+
 mod lanes;
 mod rounds;
 

@@ -5,7 +5,7 @@ ghost use Rattle.chacha.specs.ChaCha.{half, quarter, columns, diagonals};
 ghost use Rattle.chacha.specs.Lanes.{words, diagonal as diagonal_of};
 
 // The four words that a quarter round mixes: a column or a diagonal.
-#[derive(Drop)]
+#[derive(Clone, Copy)]
 pub struct Quad {
     pub a: u32,
     pub b: u32,
@@ -14,7 +14,7 @@ pub struct Quad {
 }
 
 // A state, as its four columns.
-#[derive(Drop)]
+#[derive(Clone, Copy)]
 pub struct State {
     pub p: Quad,
     pub q: Quad,

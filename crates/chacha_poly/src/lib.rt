@@ -1,6 +1,8 @@
 // ChaCha with Poly1305 (RFC 8439, section 2.8) over the number n of double rounds, with a 12-byte nonce, a 16-byte tag and no additional
 // data, on lent buffers. The one-time key and the key stream of a text's first 192 bytes are made at once, in four blocks. Nothing that
 // is secret is a condition or a place, up to the verdict on a tag.
+#![tactic(auto)]
+
 ghost use Rattle.std.specs.Prelude.{cond, ◌≡◌, ◌-◌, ◌≤◌, length, take};
 ghost use Rattle.octets.specs.Buffers.{put};
 ghost use Rattle.chacha.specs.ChaCha.{key_stream};

@@ -1,78 +1,50 @@
 // Prints where two recordings differ: compare FIRST SECOND. A missing argument and a file that cannot be read are refused as one
 // that is too long.
-ghost use Rattle.std.specs.Prelude.{◌≤◌, length};
+#![tactic(auto)]
 
-use libc::STDOUT_FILENO;
+ghost use Rattle.std.specs.Prelude.{◌≤◌, length, IfOk, IfSome};
 
-// What was read of a file: how many bytes, and whether all reads went well.
-#[derive(Drop)]
-struct Read {
-    count: usize,
-    readable: bool,
-}
+use std::io::{Read, Write};
+use std::rt::{Env, Files};
+use std::{fs, io, str};
 
-// Reads until the buffer is full or the file ends.
-fn read_all(fd: i32, buf: &mut [u8]) -> Read
-    ensures { result.count ≤ length buf.new }
+// Reads until the buffer is full or the file ends, and returns how many bytes it read.
+fn read_all(file: &mut impl Read, buf: &mut [u8]) -> io::Result<usize>
+    ensures { IfOk result (λ count. count ≤ length buf.new) }
 {
     let mut at: usize = 0;
     while at < buf.len() {
-        let got = libc::read(fd, &mut buf[at..]);
-        if got < 0 {
-            return Read {
-                count: at,
-                readable: false,
-            };
-        }
-        let n = io::count(got, &buf[at..]);
+        let n = file.read(&mut buf[at..])?;
         if n == 0 {
-            return Read {
-                count: at,
-                readable: true,
-            };
+            break;
         }
         at += n;
     }
-    Read {
-        count: at,
-        readable: true,
-    }
+    Ok(at)
 }
 
-// Reads the file that an argument names.
-fn load(which: usize, buf: &mut [u8]) -> Read
-    ensures { result.count ≤ length buf.new }
+// Reads the file that an argument names, and returns how many bytes it read. An argument that is missing or too long names no file
+// that can be read, nor does one that is not UTF-8.
+fn load(rt: &(impl Env + Files), which: usize, buf: &mut [u8]) -> Option<usize>
+    ensures { IfSome result (λ count. count ≤ length buf.new) }
 {
-    let mut path = io::buffer();
-    let length = os::arg(which, &mut path);
-    if os::errno() != 0 {
-        return Read {
-            count: 0,
-            readable: false,
-        };
-    }
-    let fd = os::open_read(&path[..length]);
-    if fd < 0 {
-        return Read {
-            count: 0,
-            readable: false,
-        };
-    }
-    let read = read_all(fd, buf);
-    libc::close(fd);
-    read
+    let mut path = [0u8; 4096];
+    let length = rt.arg(which, &mut path).ok()?;
+    let path = str::from_utf8(&path[..length]).ok()?;
+    let mut file = fs::open(rt, path).ok()?;
+    read_all(&mut file, buf).ok()
 }
 
 // A buffer has one byte more than a file may have, so that one too many shows.
-fn main() {
+fn main(rt: HostRuntime) -> io::Result<()> {
     let mut first = [0u8; 32769];
     let mut second = [0u8; 32769];
-    let mut out = io::large_buffer();
-    let a = load(1, &mut first);
-    let b = load(2, &mut second);
-    let m = a.count;
-    let n = b.count;
-    let readable = a.readable && b.readable;
+    let mut out = [0u8; 65536];
+    let a = load(&rt, 1, &mut first);
+    let b = load(&rt, 2, &mut second);
+    let readable = a.is_some() && b.is_some();
+    let m = a.unwrap_or(0);
+    let n = b.unwrap_or(0);
     let printed = comparison_text::print(readable, &first[..m], &second[..n], &mut out);
-    io::write_all(STDOUT_FILENO, &out[..printed]);
+    io::writer(&rt).write_all(&out[..printed])
 }

@@ -1,4 +1,6 @@
 // What differs between two recordings, index by index.
+#![tactic(auto)]
+
 ghost use Rattle.std.specs.Prelude.{◌≡◌, true, ◌+◌, ◌≤◌, length};
 ghost use Rattle.recording.specs.Format.{is_well_formed};
 ghost use Rattle.comparison.specs.Differences.{agree, bodies, between, difference_at};
@@ -6,7 +8,7 @@ ghost use Rattle.comparison.specs.Differences.{agree, bodies, between, differenc
 use recording::Entry;
 
 // What differs at an index: both lengths, direction or clock, the first byte, or that only one has an entry there.
-#[derive(Drop)]
+#[derive(Clone, Copy)]
 pub enum Difference {
     Same,
     Length(u16, u16),

@@ -13,7 +13,7 @@ use Rattle.comparison.specs.declared.Difference.{Difference}
 use Rattle.comparison.specs.Differences.{difference_at}
 use Rattle.comparison_text.specs.Text.{line_of, lines, refusal}
 use Rattle.recording.specs.Written.{Written}
-use Rattle.recording.proofs.WrittenLaws.{also, nothing, room-behind}
+use Rattle.recording.proofs.WrittenLaws.{also, room-behind}
 
 -- ---- lines, one index further
 

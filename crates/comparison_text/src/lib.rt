@@ -1,4 +1,6 @@
 // Two recordings side by side, as text: a line with both counts, then one for each index that differs.
+#![tactic(auto)]
+
 mod lines;
 
 ghost use Rattle.std.specs.Prelude.{◌≡◌, true, ◌≤◌, max, length};

@@ -1,6 +1,6 @@
 -- The counter block: its bytes, and one up.
 -- Assumes nothing.
-use Rattle.std.proofs.Common.{◌≡◌, ℕ, ◌+◌, ◌*◌, ◌/◌, ◌%◌, ◌^◌, ◌<◌, ◌≤◌, List, [], ◌∷◌, ◌++◌, length, take, drop, sym, refl, ap, ◌∙◌, ap₂, arith, take_all, drop-drop, take-add}
+use Rattle.std.proofs.Common.{◌≡◌, ℕ, ◌+◌, ◌*◌, ◌/◌, ◌%◌, ◌^◌, ◌<◌, List, [], ◌∷◌, ◌++◌, length, take, drop, sym, refl, ap, ◌∙◌, ap₂, arith, take_all, drop-drop, take-add}
 use lib.Arith.{digits_div, digits_mod}
 use Rattle.octets.specs.Buffers.{Octets}
 use Rattle.octets.specs.Numbers.{be, to_be, le}

@@ -1,6 +1,6 @@
 -- Blocks as words.
 -- Assumes nothing.
-use Rattle.std.proofs.Common.{◌≡◌, ℕ, ◌+◌, ◌*◌, ◌%◌, ◌^◌, ◌<◌, ◌≤◌, ◌⊎◌, List, ◌++◌, length, get_or, take, drop, set, sym, ap, ◌∙◌, subst, ⊎_elim, not-suc-le-zero, arith, length-set, get_or-set_other, get_or-set_same}
+use Rattle.std.proofs.Common.{◌≡◌, ℕ, ◌+◌, ◌*◌, ◌%◌, ◌^◌, ◌<◌, ◌≤◌, List, ◌++◌, length, get_or, take, drop, set, sym, ap, ◌∙◌, subst, ⊎_elim, not-suc-le-zero, arith, length-set, get_or-set_other, get_or-set_same}
 use Rattle.octets.specs.Buffers.{block_count, put, ◌⊞◌}
 use Rattle.aes.specs.Words.{bytes, block_bytes}
 use Rattle.aes.specs.declared.Block.{Block}

@@ -1,5 +1,7 @@
 // AES in counter mode: GCTR of SP 800-38D, in place. The counter block is a 12-byte nonce, as three words, and a 32-bit
 // big-endian counter that wraps.
+#![tactic(auto)]
+
 ghost use Rattle.std.specs.Prelude.{◌≡◌, ℕ, ◌+◌, ◌%◌, ◌^◌, ◌<◌, ◌≤◌, List, ◌++◌, length, take, drop};
 ghost use Rattle.octets.specs.Buffers.{block_count, put, ◌⊞◌};
 ghost use Rattle.octets.specs.Numbers.{to_be};
@@ -14,7 +16,7 @@ use aes::Block;
 mod long;
 
 // The nonce as the first three words of a counter block.
-#[derive(Drop)]
+#[derive(Clone, Copy)]
 pub struct Nonce {
     pub a: u32,
     pub b: u32,

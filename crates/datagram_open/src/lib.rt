@@ -1,4 +1,6 @@
 // Opening datagrams of SIP022, sections 3.2 and 4: takes what was read to its session.
+#![tactic(auto)]
+
 ghost use Rattle.std.specs.Prelude.{◌≡◌, ◌≤◌, length, drop};
 ghost use Rattle.std.proofs.Math.Option.{none, some};
 ghost use Rattle.session_table.specs.Table.{table_words, meet, keep};

@@ -1,6 +1,8 @@
 // What a datagram of SIP022 is made of. By section 3.2, with AES: a separate header, one block under the shared key, and a body in
 // GCM under the session's subkey, whose plaintext is the main header and the payload. By section 4, with ChaCha: a nonce, and a body
 // in the extended-nonce form under the shared key, whose plaintext has session ID and packet ID in front.
+#![tactic(auto)]
+
 ghost use Rattle.std.specs.Prelude.{◌≡◌, true, ◌∷◌, ◌++◌, ◌+◌, ◌<◌, ◌≤◌, length, drop};
 ghost use Rattle.octets.specs.Buffers.{put};
 ghost use Rattle.octets.specs.Numbers.{to_be};
@@ -32,7 +34,7 @@ const CLIENT_FIXED: usize = 11;
 const SERVER_FIXED: usize = CLIENT_FIXED + 8;
 
 // Whose datagram it is: a client's, or a server's in reply to the client session of an ID.
-#[derive(Drop)]
+#[derive(Clone, Copy)]
 pub enum Side {
     Client,
     Server(u64),

@@ -1,5 +1,7 @@
 // Opening datagrams of SIP022, sections 3.2 and 4, as far as their own bytes decide it. What is read here has still to be fresh in a
 // session.
+#![tactic(auto)]
+
 ghost use Rattle.std.specs.Prelude.{◌≡◌, ◌+◌, ◌-◌, ◌<◌, ◌≤◌, length, drop, cond};
 ghost use Rattle.octets.specs.Buffers.{put};
 ghost use Rattle.octets.specs.Numbers.{be};
@@ -18,7 +20,7 @@ use protocol::{Cipher, MAX_KEY, Refusal};
 use socks5::{Parsed, Target};
 
 // What an opened datagram says. A name's place and the payload's are places in the plaintext.
-#[derive(Drop)]
+#[derive(Clone, Copy)]
 pub struct Header {
     pub target: Target,
     pub port: u16,
@@ -30,14 +32,14 @@ pub struct Header {
 }
 
 // What opening answers.
-#[derive(Drop)]
+#[derive(Clone, Copy)]
 pub enum Opened {
     Datagram(Header),
     Refused(Refusal),
 }
 
 // What a datagram's tag lets in: its session ID and packet ID. Its plaintext is then at the front of the buffer.
-#[derive(Drop)]
+#[derive(Clone, Copy)]
 enum Unsealed {
     Text(u64, u64),
     Forged,

@@ -1,5 +1,7 @@
 // Datagrams of SIP022, sections 3.2 and 4: sending sessions, and sealing (write.rt). What a datagram is made of is in the crate
 // datagram_parts; datagram_open opens.
+#![tactic(auto)]
+
 ghost use Rattle.std.specs.Prelude.{◌≡◌};
 ghost use Rattle.datagram_seal.specs.Sealing.{client_sender};
 
@@ -11,7 +13,7 @@ mod write;
 pub use write::seal;
 
 // A sending session: its side, its own ID and the packet ID of its next datagram.
-#[derive(Drop)]
+#[derive(Clone, Copy)]
 pub struct Sender {
     pub side: Side,
     pub id: u64,
@@ -19,21 +21,21 @@ pub struct Sender {
 }
 
 // What beginning answers. A server's session begins on the table of its clients' (crate reply_session).
-#[derive(Drop)]
+#[derive(Clone, Copy)]
 pub enum Begun {
     Ready(Sender),
     Refused(Refusal),
 }
 
 // What sealing answers: the datagram's length, or why there is none.
-#[derive(Drop)]
+#[derive(Clone, Copy)]
 pub enum Sealed {
     Datagram(usize),
     Refused(Refusal),
 }
 
 // The answer, and the sending session as it is then.
-#[derive(Drop)]
+#[derive(Clone, Copy)]
 pub struct Sealing {
     pub answer: Sealed,
     pub sender: Sender,

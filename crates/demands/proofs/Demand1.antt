@@ -13,10 +13,9 @@ use Rattle.octets.proofs.BufferLaws.{length-put}
 use Rattle.protocol.specs.declared.Refusal.{Refusal}
 use Rattle.protocol.specs.Method.{cipher_of}
 use Rattle.protocol.specs.Refusal.{refusal_number, added}
-use Rattle.session_table.specs.Table.{record_words, table_words, lawful, taken, new_table, make_lawful, made, made_retention, lawful_retention}
+use Rattle.session_table.specs.Table.{table_words, lawful, taken, new_table, make_lawful, made, made_retention, lawful_retention}
 use Rattle.retention.proofs.RetentionLaws.{else-itself}
 use Rattle.session_table.proofs.TableLaws.{wrong-length, new-length, made-in-range, below-range, above-range}
-use Rattle.session_table.specs.Sizes.{capacity}
 use Rattle.salt_pool.specs.Pool as pool
 use Rattle.datagram_seal.specs.declared.Sender.{Sender}
 use Rattle.datagram_seal.specs.declared.Sealed.{Sealed}

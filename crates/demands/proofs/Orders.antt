@@ -20,7 +20,6 @@ use Rattle.protocol.specs.declared.Refusal.{Refusal}
 use Rattle.protocol.specs.declared.Refusal.TheVariants.{Length as Long, Room as Narrow, NotAuthentic, WrongType, WrongTime, Replay, Full}
 use Rattle.protocol.specs.declared.Cipher.{Cipher}
 use Rattle.protocol.specs.Method.{key_fits, key_length, salt_length, cipher_of}
-use Rattle.protocol.specs.Subkey.{subkey}
 use Rattle.protocol.specs.Time.{time_valid}
 use Rattle.socks5.specs.declared.Parsed.{Parsed}
 use Rattle.socks5.specs.declared.Parsed.TheVariants.{Found, Malformed}

@@ -15,7 +15,6 @@ use Rattle.octets.specs.Buffers.{put}
 use Rattle.octets.specs.Numbers.{be, to_be}
 use Rattle.octets.proofs.NumberLaws.{length-to_be, be-front}
 use Rattle.protocol.specs.Method.{key_fits, key_length, salt_length, cipher_of}
-use Rattle.protocol.specs.Subkey.{subkey}
 use Rattle.protocol.proofs.MethodLaws.{fits-sizes}
 use Rattle.protocol.specs.Time.{time_valid}
 use Rattle.protocol.specs.declared.Refusal.TheVariants.{Settings, More, Malformed}
@@ -29,7 +28,7 @@ use Rattle.salt_pool.specs.declared.Met.TheVariants.{Room as Free}
 use Rattle.salt_pool.specs.Pool.{lawful, meet, store}
 use Rattle.stream_seal.specs.declared.Sender.{Sender}
 use Rattle.stream_seal.specs.declared.Sealed.TheVariants.{Bytes}
-use Rattle.stream_pieces.specs.Pieces.{seal_at, authentic_at, open_at, subkey_words, max_chunk, Keyed, keyed, salted_key}
+use Rattle.stream_pieces.specs.Pieces.{seal_at, authentic_at, open_at, subkey_words, max_chunk, Keyed, salted_key}
 use Rattle.stream_heads.specs.Heads.{max_padding, front_length, fixed_of, open_fixed}
 use Rattle.stream_seal_heads.specs.HeadSealing.{front, variable_part, variable_length, request_at, request, begun, sizes_fit, padding_lawful, request_answer}
 use Rattle.stream_open.specs.declared.Turn.TheVariants.{Variable, Length}

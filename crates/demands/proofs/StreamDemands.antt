@@ -32,7 +32,7 @@ use Rattle.stream_open.specs.declared.Stepped.TheVariants.{Refused as Unopened}
 use Rattle.stream_open_variable.specs.declared.VariableOpened.{VariableOpened}
 use Rattle.stream_open_variable.specs.declared.VariableOpened.TheVariants.{Refused}
 use Rattle.stream_open_variable.specs.Variable.{header_answer, variable_answer, variable_out, variable_next}
-use Rattle.stream_open.specs.Chunks.{stream_key, step_answer, step_out, ended, step_next}
+use Rattle.stream_open.specs.Chunks.{stream_key, step_answer, ended, step_next}
 use Rattle.stream_open.specs.Steps.{turn_answer, written_by, payload_piece}
 use Rattle.stream_open.specs.Steps as steps
 use Rattle.demands.specs.StreamsKeep.{of_variable, step_refusals, step_ends, request_sealer, response_sealer, chunk_sealer, ends_variable, VariableAnswered, opened-variable, refused-variable, due_variable, VariableKeeps, MoreAsksAgain, Turns, SealersKeep, StreamsDemand1}

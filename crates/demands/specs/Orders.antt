@@ -34,7 +34,6 @@ use Rattle.salt_pool.specs.declared.Met.{Met}
 use Rattle.salt_pool.specs.declared.Met.TheVariants.{Room, Replay, Full}
 use Rattle.salt_pool.specs.Pool.{meet, lawful as lawful_pool}
 use Rattle.stream_seal.specs.declared.Sender.{Sender}
-use Rattle.stream_seal.specs.declared.Sealed.{Sealed}
 use Rattle.stream_chunks.specs.Orders.{is_ended, text_bytes, due_bytes, length_told, said_step, said_piece}
 use Rattle.stream_pieces.specs.Pieces.{authentic_at, open_at, subkey_words, Keyed, salted_key}
 use Rattle.stream_seal.specs.Sealing.{chunk_answer}
@@ -43,7 +42,6 @@ use Rattle.stream_open.specs.declared.Turn.{Turn}
 use Rattle.stream_open.specs.declared.Turn.TheVariants.{Variable, Length, Payload, Ended}
 use Rattle.stream_open.specs.declared.Receiver.{Receiver}
 use Rattle.stream_open.specs.declared.Chunk.{Chunk}
-use Rattle.stream_open.specs.declared.Stepped.{Stepped}
 use Rattle.stream_open.specs.Chunks.{stream_key, step_answer}
 use Rattle.stream_open_response.specs.declared.Response.{Response}
 use Rattle.stream_open_response.specs.declared.ResponseOpened.{ResponseOpened}

@@ -12,16 +12,13 @@ use Rattle.socks5.specs.Address.{parse_at}
 use Rattle.salt_pool.specs.declared.Met.TheVariants.{Room as Free}
 use Rattle.salt_pool.specs.Pool.{lawful, meet, store}
 use Rattle.stream_seal.specs.declared.Sender.{Sender}
-use Rattle.stream_seal.specs.declared.Sealed.{Sealed}
 use Rattle.stream_seal.specs.declared.Sealed.TheVariants.{Bytes, Refused as Unsealed}
 use Rattle.stream_pieces.specs.Framing.{framing_of}
-use Rattle.stream_seal.specs.Sealing.{chunk, chunk_answer}
+use Rattle.stream_seal.specs.Sealing.{chunk_answer}
 use Rattle.stream_seal_heads.specs.HeadSealing.{variable_part, variable_length, request, response, request_answer, response_answer}
-use Rattle.stream_open.specs.declared.Turn.{Turn}
 use Rattle.stream_open.specs.declared.Turn.TheVariants.{Variable, Payload}
 use Rattle.stream_open.specs.declared.Receiver.{Receiver}
 use Rattle.stream_open.specs.declared.Chunk.{Chunk}
-use Rattle.stream_open.specs.declared.Stepped.{Stepped}
 use Rattle.stream_open.specs.declared.Stepped.TheVariants.{Opened}
 use Rattle.stream_open_response.specs.declared.ResponseOpened.TheVariants.{Accepted as Answered}
 use Rattle.stream_open_request.specs.declared.RequestOpened.TheVariants.{Accepted}

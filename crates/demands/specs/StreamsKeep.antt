@@ -10,13 +10,11 @@ use Rattle.protocol.specs.Orders.{among}
 use Rattle.protocol.specs.Method.{key_length, salt_length, cipher_of}
 use Rattle.stream_pieces.specs.Framing.{framing_of}
 use Rattle.stream_seal.specs.declared.Sender.{Sender}
-use Rattle.stream_seal.specs.declared.Sealed.{Sealed}
 use Rattle.stream_seal.specs.Sealing.{chunk, sender_key, chunk_answer}
 use Rattle.stream_seal_heads.specs.HeadSealing.{request, response, request_answer, response_answer}
 use Rattle.stream_open.specs.declared.Turn.{Turn}
 use Rattle.stream_open.specs.declared.Turn.TheVariants.{Variable, Length, Payload, Ended}
 use Rattle.stream_open.specs.declared.Receiver.{Receiver}
-use Rattle.stream_open.specs.declared.Stepped.{Stepped}
 use Rattle.stream_open.specs.declared.Stepped.TheVariants.{Refused as Unopened}
 use Rattle.stream_open_response.specs.declared.Response.{Response}
 use Rattle.stream_open_response.specs.declared.ResponseOpened.{ResponseOpened}

@@ -17,7 +17,6 @@ use Rattle.stream_pieces.specs.Pieces.{authentic_at, open_at, subkey_words, Keye
 use Rattle.stream_chunks.specs.Opens as chunks
 use Rattle.stream_chunks.specs.Opens.{PieceOpens}
 use Rattle.stream_heads.specs.Heads.{max_padding, front_length, fixed_of}
-use Rattle.stream_open.specs.declared.Turn.{Turn}
 use Rattle.stream_open.specs.declared.Turn.TheVariants.{Variable, Length, Payload}
 use Rattle.stream_open.specs.declared.Receiver.{Receiver}
 use Rattle.stream_open.specs.declared.Chunk.{Chunk}

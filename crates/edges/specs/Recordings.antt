@@ -1,14 +1,14 @@
 -- Recordings: the scope's numbers, the layout of a file, the example of a comparison and a mended file as computed facts, and the
 -- orders in which a comparison and mending are refused. Numbers are written out as the scope has them.
 -- Assumes nothing.
-use Rattle.std.specs.Prelude.{◌≡◌, true, false, List, [], ◌∷◌, ◌++◌, ◌⊎◌, ℕ, ◌+◌, ◌≤◌, ◌<◌, T, length, replicate}
+use Rattle.std.specs.Prelude.{◌≡◌, true, false, List, [], ◌∷◌, ◌++◌, ◌⊎◌, ℕ, ◌≤◌, ◌<◌, T, length, replicate}
 use Rattle.recording.specs.declared.Entry.{Entry}
 use Rattle.recording.specs.Format.{max_entries, max_body, unknown, entry_at, count, place_of, WellFormed, is_good, is_well_formed}
-use Rattle.comparison_text.specs.Text.{max_file, refusal, text, printed}
+use Rattle.comparison_text.specs.Text.{max_file, text, printed}
 use Rattle.mending.specs.Mend.{mended_entry, mended}
 use Rattle.mending.specs.Report.{report, words}
 use Rattle.relay.specs.Recordings.{compares_recordings, mends_recording}
-use Rattle.edges.specs.Numbers.{Fact, fact, number, bits, every}
+use Rattle.edges.specs.Numbers.{Fact, fact, bits, every}
 
 -- ---- a file's layout
 

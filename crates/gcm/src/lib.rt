@@ -1,4 +1,6 @@
 // AES-GCM (SP 800-38D) with a 12-byte nonce, a 16-byte tag and no additional data, on lent buffers.
+#![tactic(auto)]
+
 ghost use Rattle.std.specs.Prelude.{◌≡◌, ◌+◌, ◌-◌, ◌<◌, ◌≤◌, length, take, cond};
 ghost use Rattle.octets.specs.Buffers.{put};
 ghost use Rattle.octets.specs.Numbers.{to_be};
@@ -19,7 +21,7 @@ use ghash::Element;
 pub const TAG: usize = 16;
 
 // What opening answers: the text is in the buffer; the tag is wrong; a length is wrong.
-#[derive(Drop)]
+#[derive(Clone, Copy)]
 pub enum Opened {
     Text,
     Forged,

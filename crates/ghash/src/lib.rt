@@ -1,5 +1,7 @@
 // GHASH of SP 800-38D. An element of GCM's field is a block of two words, the first bit of the block the highest of hi; bit i
 // is the coefficient of x^i.
+#![tactic(auto)]
+
 ghost use Rattle.std.specs.Prelude.{◌≡◌, ◌≤◌, length, drop};
 ghost use Rattle.std.specs.Int.Bits.{bit_xor};
 ghost use Rattle.octets.specs.Buffers.{put};
@@ -10,7 +12,7 @@ ghost use Rattle.ghash.specs.Words.{block_of};
 
 pub mod product;
 
-#[derive(Drop)]
+#[derive(Clone, Copy)]
 pub struct Element {
     pub hi: u64,
     pub lo: u64,

@@ -10,7 +10,7 @@ ghost use Rattle.ghash.specs.Words.{block_of, long_of};
 use super::{Element, add};
 
 // An element with the bits behind its last one that are not reduced yet.
-#[derive(Drop)]
+#[derive(Clone, Copy)]
 pub struct Long {
     pub hi: u64,
     pub lo: u64,
@@ -18,7 +18,7 @@ pub struct Long {
 }
 
 // What is looked up for the two words of an element.
-#[derive(Drop)]
+#[derive(Clone, Copy)]
 struct Sums {
     high: Long,
     low: Long,

@@ -1,5 +1,7 @@
 // GHASH of long texts, four blocks a step: ((y ⊕ a) • H^4) ⊕ (b • H^3) ⊕ (c • H^2) ⊕ (d • H). The lookups of four blocks for the
 // same sixteen bits are added before they are moved, so that one chain of moves and one reduction serve 64 bytes.
+#![tactic(auto)]
+
 ghost use Rattle.std.specs.Prelude.{◌≡◌, ◌+◌, ◌<◌, ◌≤◌, length, drop};
 ghost use Rattle.std.specs.Int.Bits.{bit_xor};
 ghost use Rattle.octets.specs.Numbers.{be};

@@ -1,7 +1,7 @@
 -- Accepted exactly when, of the exported openers.
 -- Assumes nothing.
 use mathlib.Core.Path.{◌≡◌, refl, sym, ap, ap₂, ◌∙◌, subst}
-use mathlib.Core.Logic.{◌≢◌, ◌↔◌}
+use mathlib.Core.Logic.{◌↔◌}
 use mathlib.Core.Bool.{Bool, true, false, cond, not, ◌&&◌, true≢false, and-eq-true_iff}
 use Prim.Native.Nat.{ℕ, ◌+◌, ◌-◌}
 use native.Mathlib.Omega.{arith}
@@ -58,7 +58,7 @@ use Rattle.demands.proofs.DatagramWays.{refused-same, not-both}
 use Rattle.demands.proofs.StreamDemands.{streams-demand2}
 use Rattle.sip004_demands.specs.Datagrams as sip004_lawful
 use Rattle.sip004_demands.proofs.Sip004.{sip004-exactly}
-use Rattle.guarantees.specs.Calls.{Call, Lent, Said, Role, Opening, opens-datagram, step, role_of, opens, at}
+use Rattle.guarantees.specs.Calls.{Call, Lent, Said, Role, Opening, opens-datagram, step, role_of, at}
 use Rattle.guarantees.specs.Guarantees.{Exactly}
 use mathlib.Core.List.{List, [], ◌∷◌, map}
 use Rattle.protocol.specs.Orders.{Rule, first, gives}

@@ -49,7 +49,7 @@ use Rattle.relay.specs.Streams as heads
 use Rattle.demands.specs.StreamsBack as demands
 use Rattle.demands.proofs.StreamDemands.{seal-keeps, streams-demand2}
 use Rattle.guarantees.specs.Calls.{Lent, step, sent, on_stream}
-use Rattle.guarantees.specs.Guarantees.{RequestBack, RequestsBack, ResponseBack, ResponsesBack, DatagramsBack2017}
+use Rattle.guarantees.specs.Guarantees.{RequestBack, RequestsBack, ResponsesBack, DatagramsBack2017}
 use Rattle.sip004.specs.declared.Sealed.{Sealed as Sealed2017}
 use Rattle.sip004.specs.declared.Sealed.TheVariants.{Datagram, Refused as NotSealed2017}
 use Rattle.sip004.specs.declared.Opened.{Opened as Opened2017}

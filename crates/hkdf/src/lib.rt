@@ -1,4 +1,6 @@
 // HKDF (RFC 5869) with SHA-1.
+#![tactic(auto)]
+
 ghost use Rattle.std.specs.Prelude.{◌≡◌, List, [], ◌∷◌, ◌++◌, ℕ, ◌+◌, ◌-◌, ◌<◌, ◌≤◌, min, length, take, set, replicate};
 ghost use Rattle.octets.specs.Buffers.{put};
 ghost use Rattle.hmac.specs.Hmac.{keyed_of, mac_with};

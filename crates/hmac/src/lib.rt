@@ -1,4 +1,6 @@
 // HMAC (RFC 2104) with SHA-1.
+#![tactic(auto)]
+
 ghost use Rattle.std.specs.Prelude.{◌≡◌, ◌≤◌, length, replicate};
 ghost use Rattle.octets.specs.Buffers.{◌⊞◌};
 ghost use Rattle.sha1_hash.specs.Hash.{initial_hash, all_blocks};
@@ -7,7 +9,7 @@ ghost use Rattle.hmac.specs.Hmac.{keyed_short, keyed_of, inner_hash, mac_with, h
 use sha1_compression::{State, compress};
 
 // A key: the hash values behind its first blocks, inside and outside.
-#[derive(Drop)]
+#[derive(Clone, Copy)]
 pub struct Keyed {
     pub inner: State,
     pub outer: State,

@@ -14,7 +14,7 @@ use Rattle.recording.specs.declared.Entry.{Entry}
 use Rattle.recording.specs.Format.{count, place_of, entry_at, entry, start, WellFormed}
 use Rattle.recording.proofs.WellFormedLaws.{next_start, first-start, body-within, well-formed-exactly}
 use Rattle.mending.specs.Mend.{mended_count, mended_entry, mended_at, put_entry, put_count, mended_from, mended}
-use Rattle.mending.specs.Report.{of_count, entry_changes, changes, report, report_from}
+use Rattle.mending.specs.Report.{of_count, entry_changes, report, report_from}
 use Rattle.mending.proofs.Theorems.{mended-well-formed}
 use Rattle.mending.proofs.ReportLaws.{report-found, unchanged}
 

@@ -8,7 +8,7 @@ use lib.ListN.{length, length-append}
 use Rattle.octets.specs.Buffers.{put}
 use Rattle.octets.proofs.BufferLaws.{put-put, put-none}
 use Rattle.recording.specs.declared.Entry.{Entry}
-use Rattle.recording.specs.Format.{count, place_of, entry_at, entry}
+use Rattle.recording.specs.Format.{count, place_of, entry_at}
 use Rattle.recording.specs.Written.{Written}
 use Rattle.recording.proofs.WrittenLaws.{also, room, room-behind}
 use Rattle.mending.specs.Mend.{mended_count, mended_entry, mended_at, put_entry, put_count, mended_from, mended}

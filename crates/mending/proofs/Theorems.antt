@@ -9,7 +9,7 @@ use Prim.Native.Nat.{ℕ, ◌+◌, ◌≤◌, ◌<◌}
 use native.Mathlib.Decide.{dec_le}
 use native.Mathlib.Omega.{arith}
 use lib.ListN.{length, get_or}
-use Rattle.recording.specs.Format.{count, place_of, entry, WellFormed, are_good, is_well_formed}
+use Rattle.recording.specs.Format.{count, place_of, WellFormed, are_good, is_well_formed}
 use Rattle.recording.proofs.EntryLaws.{by_entries}
 use Rattle.recording.proofs.WellFormedLaws.{well-formed-exactly}
 use Rattle.octets.proofs.NumberLaws.{be-same}

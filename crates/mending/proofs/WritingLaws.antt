@@ -10,7 +10,6 @@ use Rattle.octets.specs.Numbers.{to_be}
 use Rattle.octets.proofs.BufferLaws.{length-put, put_one, put-behind}
 use Rattle.octets.proofs.NumberLaws.{put-be, length-to_be}
 use Rattle.recording.specs.declared.Entry.{Entry}
-use Rattle.recording.proofs.WrittenLaws.{nothing}
 use Rattle.mending.specs.Mend.{mended_entry, put_entry, put_count}
 
 pub mended-is : (e : Entry) (place size l d : ℕ) → l ≡ min (min e.len 65507) (size - place) → d ≡ min e.direction 2

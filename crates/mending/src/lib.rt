@@ -1,4 +1,6 @@
 // Mends a damaged recording and reports what it changed. Nothing is written before the report is known to have room.
+#![tactic(auto)]
+
 ghost use Rattle.std.specs.Prelude.{◌≡◌, ◌+◌, ◌-◌, ◌*◌, ◌<◌, ◌≤◌, min, length};
 ghost use Rattle.recording.specs.Format.{place_of};
 ghost use Rattle.recording.specs.Written.{Written};

@@ -1,4 +1,6 @@
 // Changes of a recording's fields: how many there are, and a report of them, four words for each.
+#![tactic(auto)]
+
 ghost use Rattle.std.specs.Prelude.{◌≡◌, ◌+◌, ◌≤◌, length};
 ghost use Rattle.recording.specs.Written.{Written};
 ghost use Rattle.mending_report.specs.Changes.{changed, entry_changes, words};

@@ -1,4 +1,6 @@
 // Bytes: numbers from bytes and back. What is done to strings of bytes (crate buffers) is passed on.
+#![tactic(auto)]
+
 mod be;
 mod le;
 

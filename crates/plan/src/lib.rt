@@ -1,4 +1,6 @@
 // Plans of a long report under a path limit: for each datagram a piece of the report and padding, two words in lent memory.
+#![tactic(auto)]
+
 ghost use Rattle.std.specs.Prelude.{◌≡◌, ◌+◌, ◌-◌, ◌*◌, ◌<◌, ◌≤◌, length};
 ghost use Rattle.std.proofs.lemmas.List.Edits.{sets};
 ghost use Rattle.plan_pieces.specs.Plans.{words, passes, made};
@@ -13,21 +15,21 @@ mod told;
 pub use told::{write_checked, write_made};
 
 // What a datagram has room for, piece and padding, or why there is no plan.
-#[derive(Drop)]
+#[derive(Clone, Copy)]
 pub enum Capacity {
     Most(u64),
     Refused(Refusal),
 }
 
 // What planning answers: the number of datagrams, or why there is no plan.
-#[derive(Drop)]
+#[derive(Clone, Copy)]
 pub enum Made {
     Datagrams(usize),
     Refused(Refusal),
 }
 
 // What checking answers.
-#[derive(Drop)]
+#[derive(Clone, Copy)]
 pub enum Checked {
     Passed,
     Failed,

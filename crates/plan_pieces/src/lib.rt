@@ -1,5 +1,7 @@
 // What a plan of a long report is reckoned from: the room of a datagram, one piece of the report, the number of datagrams. All
 // of it is numbers; crate plan has the lent words.
+#![tactic(auto)]
+
 ghost use Rattle.std.specs.Prelude.{◌≡◌, ◌-◌, ◌<◌, ◌≤◌};
 ghost use Rattle.plan_pieces.specs.Plans.{fewest, piece_fits, smaller};
 

@@ -1,4 +1,6 @@
 // Poly1305 (RFC 8439, section 2.5), and the tag that section 2.8 makes with it. Nothing that is secret is a condition or a place.
+#![tactic(auto)]
+
 ghost use Rattle.std.specs.Prelude.{◌≡◌, ◌+◌, ◌^◌, drop};
 ghost use Rattle.octets.specs.Numbers.{le, to_le};
 ghost use Rattle.poly1305.specs.Limbs.{Below, Loose, value, masked as masked_of};

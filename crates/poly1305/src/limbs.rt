@@ -3,7 +3,7 @@ ghost use Rattle.std.specs.Prelude.{◌≡◌, ◌+◌, ◌*◌, ◌^◌, ◌<�
 ghost use Rattle.poly1305.specs.Poly1305.{mod_p};
 ghost use Rattle.poly1305.specs.Limbs.{Split, Below, Loose, Sum, Chained, value, from_words, low_word, high_word};
 
-#[derive(Drop)]
+#[derive(Clone, Copy)]
 pub struct Limbs {
     pub l0: u64,
     pub l1: u64,
@@ -13,14 +13,14 @@ pub struct Limbs {
 }
 
 // Limbs below 2^26, and what is carried out of the highest.
-#[derive(Drop)]
+#[derive(Clone, Copy)]
 pub struct Summed {
     pub limbs: Limbs,
     pub top: u64,
 }
 
 // The low 26 bits of a number, and the rest.
-#[derive(Drop)]
+#[derive(Clone, Copy)]
 pub struct Parts {
     pub low: u64,
     pub high: u64,

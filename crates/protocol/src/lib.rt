@@ -1,4 +1,6 @@
 // What the layers of SIP022 share: methods, refusals, the time rule.
+#![tactic(auto)]
+
 ghost use Rattle.std.specs.Prelude.{◌≡◌, ◌≤◌, length};
 ghost use Rattle.protocol.specs.Method.{max_key, aes128, aes256, chacha, chacha20, chacha12, chacha8, method_of, key_fits, key_length, salt_length, cipher_of};
 ghost use Rattle.protocol.specs.Refusal.{refusal_number, added, ends_stream};
@@ -7,14 +9,14 @@ ghost use Rattle.protocol.specs.Time.{time_valid};
 ghost use Rattle.octets.specs.Buffers.{put};
 
 // What seals and opens: AES in GCM, or ChaCha of so many double rounds with Poly1305.
-#[derive(Drop)]
+#[derive(Clone, Copy)]
 pub enum Cipher {
     AesGcm,
     ChaChaPoly(usize),
 }
 
 // A method: its number, the lengths of its key and salt in bytes, the rounds of its AES or ChaCha, and its cipher.
-#[derive(Drop)]
+#[derive(Clone, Copy)]
 pub struct Method {
     pub number: u64,
     pub key: usize,
@@ -27,7 +29,7 @@ pub struct Method {
 pub const MAX_KEY: usize = 32;
 
 // The method of a number, if there is one.
-#[derive(Drop)]
+#[derive(Clone, Copy)]
 pub enum Numbered {
     Known(Method),
     Unknown,
@@ -167,7 +169,7 @@ pub fn cipher_of(method: u64) -> Cipher
 }
 
 // Why a call was refused. More carries the number of bytes wanted in all, UnknownSetting the setting's number.
-#[derive(Drop)]
+#[derive(Clone, Copy)]
 pub enum Refusal {
     Settings,
     Length,

@@ -1,4 +1,3 @@
-pub mod Held
 pub mod EntryLaws
 pub mod WellFormedLaws
 pub mod WrittenLaws

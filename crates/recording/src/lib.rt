@@ -1,4 +1,6 @@
 // Recordings of datagrams: the contents table, a reader of it, and whether a recording is well formed.
+#![tactic(auto)]
+
 mod reading;
 
 ghost use Rattle.std.specs.Prelude.{◌≡◌, ◌+◌, ◌≤◌, length};
@@ -15,7 +17,7 @@ pub const MAX_BODY: usize = 65507;
 pub const UNKNOWN: u8 = 2;
 
 // An entry of the contents.
-#[derive(Drop)]
+#[derive(Clone, Copy)]
 pub struct Entry {
     pub offset: u32,
     pub len: u16,

@@ -17,8 +17,7 @@ use session_table::Peer;
 use words::{ANSWER, SESSION, header_words, is_session, session_in, session_words};
 
 // Makes a session table of 833 words, with a retention of 60 to 3,600 seconds; 0 stands for 300.
-#[unsafe(no_mangle)]
-pub extern "C" fn relay_table_new(retention: u64, table: &mut [u64]) -> u64
+pub fn relay_table_new(retention: u64, table: &mut [u64]) -> u64
     ensures value { result ≡ settings_number (make_lawful retention table.old) }
     ensures table_after { table.new ≡ made retention table.old }
 {
@@ -47,8 +46,7 @@ fn begin(begun: Begun, session: &mut [u64]) -> u64
 }
 
 // Begins a client's sending session, in 4 words.
-#[unsafe(no_mangle)]
-pub extern "C" fn relay_session_begin_client(id: u64, session: &mut [u64]) -> u64
+pub fn relay_session_begin_client(id: u64, session: &mut [u64]) -> u64
     ensures { record { number = result; session = session.new }
         ≡ begins (Ready (client_sender id)) session.old }
 {
@@ -57,8 +55,7 @@ pub extern "C" fn relay_session_begin_client(id: u64, session: &mut [u64]) -> u6
 
 // Begins a server's, in reply to a client's session: with an ID that no session alive in the table has, nor the client's. The table
 // is only read.
-#[unsafe(no_mangle)]
-pub extern "C" fn relay_session_begin_server(
+pub fn relay_session_begin_server(
     id: u64,
     client: u64,
     clock: u64,
@@ -77,8 +74,7 @@ pub extern "C" fn relay_session_begin_server(
 // ---- sealing
 
 // Seals a datagram to the front of the lent buffer and moves the session one packet ID further. The answer is its length.
-#[unsafe(no_mangle)]
-pub extern "C" fn relay_datagram_seal(
+pub fn relay_datagram_seal(
     method: u64,
     key: &[u8],
     nonce: &[u8],
@@ -135,8 +131,7 @@ fn write_opened(opened: Opened, answer: &mut [u64]) -> u64
 }
 
 // Opens a client's datagram, for a server, into the lent buffer.
-#[unsafe(no_mangle)]
-pub extern "C" fn relay_datagram_open_server(
+pub fn relay_datagram_open_server(
     method: u64,
     key: &[u8],
     clock: u64,
@@ -165,8 +160,7 @@ pub extern "C" fn relay_datagram_open_server(
 }
 
 // Opens a server's datagram, for the client of a session ID, into the lent buffer.
-#[unsafe(no_mangle)]
-pub extern "C" fn relay_datagram_open_client(
+pub fn relay_datagram_open_client(
     method: u64,
     key: &[u8],
     clock: u64,

@@ -11,8 +11,7 @@ use words::{ANSWER, method_in};
 // ---- datagrams
 
 // Seals a datagram under a fresh salt to the front of the lent buffer. The answer is its length.
-#[unsafe(no_mangle)]
-pub extern "C" fn relay_sip004_datagram_seal(
+pub fn relay_sip004_datagram_seal(
     method: u64,
     key: &[u8],
     salt: &[u8],
@@ -36,8 +35,7 @@ pub extern "C" fn relay_sip004_datagram_seal(
 }
 
 // Opens a datagram to the front of the lent buffer. The answer is the length of what was sealed.
-#[unsafe(no_mangle)]
-pub extern "C" fn relay_sip004_datagram_open(
+pub fn relay_sip004_datagram_open(
     method: u64,
     key: &[u8],
     datagram: &[u8],
@@ -62,8 +60,7 @@ pub extern "C" fn relay_sip004_datagram_open(
 // ---- streams
 
 // Begins a stream that seals, in 8 words, behind a fresh salt that the host sends first.
-#[unsafe(no_mangle)]
-pub extern "C" fn relay_sip004_stream_begin_seal(
+pub fn relay_sip004_stream_begin_seal(
     method: u64,
     key: &[u8],
     salt: &[u8],
@@ -76,8 +73,7 @@ pub extern "C" fn relay_sip004_stream_begin_seal(
 }
 
 // Begins a stream that opens, behind the salt that came first.
-#[unsafe(no_mangle)]
-pub extern "C" fn relay_sip004_stream_begin_open(
+pub fn relay_sip004_stream_begin_open(
     method: u64,
     key: &[u8],
     salt: &[u8],
@@ -90,8 +86,7 @@ pub extern "C" fn relay_sip004_stream_begin_open(
 }
 
 // Seals a length with its payload to the front of the lent buffer and moves the stream two counters further.
-#[unsafe(no_mangle)]
-pub extern "C" fn relay_sip004_stream_seal_chunk(
+pub fn relay_sip004_stream_seal_chunk(
     stream: &mut [u64],
     payload: &[u8],
     out: &mut [u8],
@@ -104,8 +99,7 @@ pub extern "C" fn relay_sip004_stream_seal_chunk(
 }
 
 // Opens the next piece of a stream: a length, or a payload to the front of the lent buffer.
-#[unsafe(no_mangle)]
-pub extern "C" fn relay_sip004_stream_open_chunk(
+pub fn relay_sip004_stream_open_chunk(
     stream: &mut [u64],
     bytes: &[u8],
     out: &mut [u8],

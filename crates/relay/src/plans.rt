@@ -8,8 +8,7 @@ use words::ANSWER;
 
 // Plans a report of so many bytes under a path limit, in lent words: for each datagram the length of its piece and of its
 // padding. The answer is the number of datagrams.
-#[unsafe(no_mangle)]
-pub extern "C" fn relay_plan_make(
+pub fn relay_plan_make(
     method: u64,
     address: &[u8],
     limit: u64,
@@ -28,8 +27,7 @@ pub extern "C" fn relay_plan_make(
 }
 
 // Whether the lent words are a good plan of such a report. The answer is 1 if they are, and else 0.
-#[unsafe(no_mangle)]
-pub extern "C" fn relay_plan_check(
+pub fn relay_plan_check(
     method: u64,
     address: &[u8],
     limit: u64,

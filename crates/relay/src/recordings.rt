@@ -9,8 +9,7 @@ use words::ANSWER;
 const ROOM: u64 = 3;
 
 // Writes the text of two recordings side by side to the front of the lent buffer. The answer is its length.
-#[unsafe(no_mangle)]
-pub extern "C" fn relay_recording_compare(
+pub fn relay_recording_compare(
     first: &[u8],
     second: &[u8],
     out: &mut [u8],
@@ -36,12 +35,7 @@ pub extern "C" fn relay_recording_compare(
 }
 
 // Mends the recording in the lent file and writes what changed into the report. The answer is the number of changes.
-#[unsafe(no_mangle)]
-pub extern "C" fn relay_recording_mend(
-    file: &mut [u8],
-    report: &mut [u64],
-    answer: &mut [u64],
-) -> u64
+pub fn relay_recording_mend(file: &mut [u8], report: &mut [u64], answer: &mut [u64]) -> u64
     ensures { record { number = result; file = file.new; report = report.new; answer = answer.new }
         ≡ mends_recording file.old report.old answer.old }
 {

@@ -3,8 +3,7 @@ ghost use Rattle.std.specs.Prelude.{◌≡◌};
 ghost use Rattle.settings_answers.specs.Told.{reads_settings, writes_settings};
 
 // Reads a file of settings. The answer is its edition, which settings it sets, and these.
-#[unsafe(no_mangle)]
-pub extern "C" fn relay_settings_read(file: &[u8], answer: &mut [u64]) -> u64
+pub fn relay_settings_read(file: &[u8], answer: &mut [u64]) -> u64
     ensures { record { number = result; answer = answer.new }
         ≡ reads_settings file.now answer.old }
 {
@@ -12,8 +11,7 @@ pub extern "C" fn relay_settings_read(file: &[u8], answer: &mut [u64]) -> u64
 }
 
 // Writes a file of settings, of which two words each give number and length, to the front of the lent buffer. The answer is its length.
-#[unsafe(no_mangle)]
-pub extern "C" fn relay_settings_write(
+pub fn relay_settings_write(
     edition: u16,
     settings: &[u64],
     bodies: &[u8],

@@ -13,8 +13,7 @@ use stream_pieces::framing_of;
 use words::{ANSWER, is_receiver, method_in, receiver_in};
 
 // Makes a salt pool of 1,537 words for a method.
-#[unsafe(no_mangle)]
-pub extern "C" fn relay_pool_new(method: u64, pool: &mut [u64]) -> u64
+pub fn relay_pool_new(method: u64, pool: &mut [u64]) -> u64
     ensures value { result ≡ settings_number (make_lawful method pool.old) }
     ensures pool_after { pool.new ≡ made method pool.old }
 {
@@ -27,8 +26,7 @@ pub extern "C" fn relay_pool_new(method: u64, pool: &mut [u64]) -> u64
 // ---- sealing
 
 // Seals the head of a request to the front of the lent buffer and begins its stream. The answer is the number of bytes.
-#[unsafe(no_mangle)]
-pub extern "C" fn relay_stream_seal_request(
+pub fn relay_stream_seal_request(
     method: u64,
     key: &[u8],
     salt: &[u8],
@@ -54,8 +52,7 @@ pub extern "C" fn relay_stream_seal_request(
 }
 
 // Seals the head of a response, with its first payload, to the front of the lent buffer and begins its stream.
-#[unsafe(no_mangle)]
-pub extern "C" fn relay_stream_seal_response(
+pub fn relay_stream_seal_response(
     method: u64,
     key: &[u8],
     salt: &[u8],
@@ -86,8 +83,7 @@ pub extern "C" fn relay_stream_seal_response(
 }
 
 // Seals a length with its payload to the front of the lent buffer and moves the stream two counters further.
-#[unsafe(no_mangle)]
-pub extern "C" fn relay_stream_seal_chunk(
+pub fn relay_stream_seal_chunk(
     stream: &mut [u64],
     payload: &[u8],
     out: &mut [u8],
@@ -103,8 +99,7 @@ pub extern "C" fn relay_stream_seal_chunk(
 
 // Opens the front of a request's head, its salt and its fixed header, and begins its stream, which has the variable header next. Its
 // salt enters the pool.
-#[unsafe(no_mangle)]
-pub extern "C" fn relay_stream_open_request(
+pub fn relay_stream_open_request(
     method: u64,
     key: &[u8],
     clock: u64,
@@ -125,8 +120,7 @@ pub extern "C" fn relay_stream_open_request(
 }
 
 // Opens the variable header of a request to the front of the lent buffer, on the stream that its front began.
-#[unsafe(no_mangle)]
-pub extern "C" fn relay_stream_open_variable(
+pub fn relay_stream_open_variable(
     stream: &mut [u64],
     bytes: &[u8],
     out: &mut [u8],
@@ -146,8 +140,7 @@ pub extern "C" fn relay_stream_open_variable(
 }
 
 // Opens the head of a response to the request of a salt, and begins its stream. Its first payload is the next step's.
-#[unsafe(no_mangle)]
-pub extern "C" fn relay_stream_open_response(
+pub fn relay_stream_open_response(
     method: u64,
     key: &[u8],
     clock: u64,
@@ -170,8 +163,7 @@ pub extern "C" fn relay_stream_open_response(
 // ---- steps
 
 // Opens the next piece of a stream: a length, or a payload to the front of the lent buffer.
-#[unsafe(no_mangle)]
-pub extern "C" fn relay_stream_open_chunk(
+pub fn relay_stream_open_chunk(
     stream: &mut [u64],
     bytes: &[u8],
     out: &mut [u8],

@@ -28,7 +28,7 @@ use Rattle.datagram_parts.proofs.OverheadLaws.{start-most}
 use Rattle.datagram_seal.proofs.AnswerLaws.{sealable}
 use Rattle.datagram_seal.specs.declared.Sender.{Sender}
 use Rattle.datagram_seal.specs.declared.Sealed.TheVariants.{Datagram as Written}
-use Rattle.datagram_seal.specs.Sealing.{nonce_fits, client_sender, sealed_length, capped, length_answer, argument_answer, seal_answer, datagram}
+use Rattle.datagram_seal.specs.Sealing.{nonce_fits, client_sender, sealed_length, capped, length_answer, argument_answer, seal_answer}
 use Rattle.datagram_read.specs.declared.Header.{Header}
 use Rattle.datagram_read.specs.declared.Opened.{Opened}
 use Rattle.datagram_read.specs.declared.Opened.TheVariants.{Datagram, Refused}

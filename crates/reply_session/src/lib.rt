@@ -1,5 +1,7 @@
 // Beginning a server's sending session, in reply to a client's. SIP022 forbids the ID of any client session for it: with AES a subkey comes from
 // key and session ID, so two sessions of one ID would use the same subkey and nonces.
+#![tactic(auto)]
+
 ghost use Rattle.std.specs.Prelude.{◌≡◌};
 ghost use Rattle.reply_session.specs.Beginning.{reply_begun};
 

@@ -1,4 +1,6 @@
 // The retention of a session table, in seconds.
+#![tactic(auto)]
+
 ghost use Rattle.std.specs.Prelude.{◌≡◌};
 ghost use Rattle.retention.specs.Retention.{in_range, made_retention, lawful_retention};
 

@@ -1,5 +1,7 @@
 // The salt pool: lent words, one record for each salt behind the method. A salt that is kept is not taken again. Any words
 // have a meaning, so nothing here assumes an invariant of the pool.
+#![tactic(auto)]
+
 ghost use Rattle.std.specs.Prelude.{◌≡◌, ◌<◌, length};
 ghost use Rattle.std.proofs.Math.Option.{get_or};
 ghost use Rattle.salt_pool.specs.Pool.{capacity, pool_words, lawful, make_lawful, made, salt_words, kept, same_salt, salt_place, free_place, meet as meet_of, store as store_of};
@@ -27,7 +29,7 @@ const SALT_2: usize = 4;
 const SALT_3: usize = 5;
 
 // What a salt meets: room for it in a record, itself, or no room.
-#[derive(Drop)]
+#[derive(Clone, Copy)]
 pub enum Met {
     Room(usize),
     Replay,

@@ -12,7 +12,7 @@ use Rattle.session_table.specs.Sizes.{capacity}
 use Rattle.session_table.proofs.TableLaws.{new-length}
 use Rattle.session_table.specs.Table.{Record, new_table, record_at, lowest, live, holds, session_place}
 use Rattle.session_book.specs.Call.{Call, Outcome, refused, Decision}
-use Rattle.session_book.specs.Book.{Page, one, page, member, book_next, book_outcomes, book_after}
+use Rattle.session_book.specs.Book.{Page, page, member, book_next, book_outcomes, book_after}
 use Rattle.session_book.specs.Runs.{table_outcome_by, table_next_by, table_outcomes, table_after}
 use Rattle.session_book.specs.Demand3.{Each, Pairs, clocks, Forward, PortFits, last_of, last_reading, View, view_of_page, view_of_record, book_session, table_session, OneRecordEach, FollowsBook}
 use borrow.Author.Tests.{ltb-true, leb-true, leb-false}

@@ -1,11 +1,13 @@
 // One session by value: what is fresh in it, and what it is after it accepted a packet ID.
+#![tactic(auto)]
+
 ghost use Rattle.std.specs.Prelude.{◌≡◌, true, max};
 ghost use Rattle.session_record.specs.Record.{record_of, fresh_in, one_more, accept_in, new_record};
 
 use session_window::{WINDOW, is_marked, shifted, with_mark};
 
 // A caller's address: two numbers and a port.
-#[derive(Drop)]
+#[derive(Clone, Copy)]
 pub struct Peer {
     pub first: u64,
     pub second: u64,
@@ -13,7 +15,7 @@ pub struct Peer {
 }
 
 // One record. Bit i of marks[k] marks packet ID high - 64 k - i. The counts are those since the session began.
-#[derive(Drop)]
+#[derive(Clone, Copy)]
 pub struct Session {
     pub used: u64,
     pub id: u64,

@@ -1,5 +1,7 @@
 // The session table: lent words, one record for each session behind the retention. Any words have a meaning, so nothing here
 // assumes an invariant of the table.
+#![tactic(auto)]
+
 ghost use Rattle.std.specs.Prelude.{◌≡◌, ◌<◌, length};
 ghost use Rattle.std.proofs.Math.Option.{none, some, get_or};
 ghost use Rattle.session_record.specs.Record.{record_of};
@@ -41,7 +43,7 @@ const ACCEPTED: usize = 11;
 const REPEATS: usize = 12;
 
 // What a packet ID meets: it is accepted, or it is refusal 8 or 9.
-#[derive(Drop)]
+#[derive(Clone, Copy)]
 pub enum Admitted {
     Accepted,
     Replay,

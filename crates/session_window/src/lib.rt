@@ -1,4 +1,6 @@
 // The window of packet IDs in four words: moved up, asked for a mark, and given one.
+#![tactic(auto)]
+
 ghost use Rattle.std.specs.Prelude.{◌≡◌, false, ◌+◌, ◌*◌, ◌%◌, ◌^◌, ◌<◌};
 ghost use Rattle.session_window.specs.Window.{window, bit, number, word_of};
 

@@ -1,4 +1,6 @@
 // Settings files as a host reads and writes them: what is shown and answered, in lent words.
+#![tactic(auto)]
+
 ghost use Rattle.std.specs.Prelude.{◌≡◌, length};
 ghost use Rattle.words.specs.Answers.{answer_words};
 ghost use Rattle.settings_answers.specs.Told.{bit, word, target_bit, target_kind, target_first, target_second, target_port, set_bits, settings_words, read_told, reads_settings, written_number, written_words, writes_settings};

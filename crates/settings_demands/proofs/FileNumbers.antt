@@ -1,20 +1,19 @@
 -- The numbers of a file of settings, by computing them.
 -- Assumes nothing.
-use mathlib.Core.Path.{◌≡◌, refl, sym, ap, ◌∙◌}
+use mathlib.Core.Path.{◌≡◌, refl, sym, ◌∙◌}
 use mathlib.Core.Bool.{Bool, true, false, cond, not, ◌&&◌, ◌||◌}
-use mathlib.Core.List.{List, [], ◌∷◌}
-use Prim.Native.Nat.{ℕ, ◌≤◌, ◌<◌}
+use mathlib.Core.List.{[], ◌∷◌}
+use Prim.Native.Nat.{ℕ, ◌<◌}
 use native.Mathlib.Omega.{arith}
 use lib.Dec.{T, eqb, leb}
 use lib.ListN.{length}
-use borrow.Author.Tests.{eq-eqb, ne_eqb}
 use Rattle.octets.specs.Numbers.{be, to_be}
 use Rattle.octets.proofs.Table.{at_each}
 use Rattle.protocol.specs.Method.{method_of, key_length}
 use Rattle.sip004.specs.Method.{method_of as method_of2017, key_length as key_length2017}
 use Rattle.retention.specs.Retention.{in_range, lawful_retention}
 use Rattle.socks5.specs.Address.{is_address, parse_at, v4_at}
-use Rattle.settings_rules.specs.Rules.{is_known, is_unknown, is_method, lawful_method, lawful_retention_body, lawful_limit, lawful}
+use Rattle.settings_rules.specs.Rules.{is_known, is_unknown, is_method, lawful_method, lawful_limit, lawful}
 use Rattle.settings_rules.proofs.RuleLaws.{no-method, by-retention, no-retention, of_others}
 use Rattle.settings_file.specs.Format.{entry_at, body}
 use Rattle.settings_write.specs.Writing.{before, entries, covered}
@@ -28,6 +27,8 @@ alike false b = not b
 
 alike_same : (a b : Bool) → T (alike a b) → a ≡ b
 alike_same true true t = refl
+alike_same true false t = elim t [ ]
+alike_same false true t = elim t [ ]
 alike_same false false t = refl
 
 abbrev listed : ℕ → Bool

@@ -1,26 +1,21 @@
 -- The orders of refusals of reading and writing a file of settings.
 -- Assumes nothing.
-use mathlib.Core.Path.{◌≡◌, refl, sym, ap, ap₂, ◌∙◌}
-use mathlib.Core.Bool.{Bool, true, false, cond, not, ◌&&◌, ◌||◌}
+use mathlib.Core.Path.{◌≡◌, refl, ap₂, ◌∙◌}
+use mathlib.Core.Bool.{Bool, true, false, not, ◌&&◌, ◌||◌}
 use mathlib.Core.List.{List, [], ◌∷◌}
 use mathlib.Core.Option.{Option, none, some}
-use Prim.Native.Nat.{ℕ, ◌+◌, ◌-◌, ◌*◌, ◌/◌, ◌%◌, ◌≤◌, ◌<◌}
+use Prim.Native.Nat.{ℕ, ◌-◌, ◌/◌, ◌%◌}
 use lib.Dec.{eqb, leb, ltb}
 use lib.ListN.{length, take, drop}
 use borrow.Author.Tests.{leb-true, leb-false, lt-ltb, le-ltb}
 use Rattle.octets.specs.Buffers.{same}
 use Rattle.blake3.specs.Tree.{hash}
-use Rattle.protocol.specs.declared.Refusal.TheVariants.{Settings, Length as TooLong, Room, NotAuthentic, Malformed, Argument, UnknownSetting}
-use Rattle.protocol.specs.Orders.{Rule, rule, unknown_setting, Said, refuses, gives, first}
+use Rattle.protocol.specs.Orders.{unknown_setting, first}
 use Rattle.protocol.proofs.OrderLaws.{next, done}
 use Rattle.settings_rules.specs.Contents.{first_unknown}
-use Rattle.settings_file.specs.Format.{min_file, max_file, entry, contents_of, is_well_made}
-use Rattle.settings_read.specs.declared.Settings.{Settings as Shows}
-use Rattle.settings_read.specs.declared.FileRead.{FileRead}
-use Rattle.settings_read.specs.declared.FileRead.TheVariants.{Shown, Refused}
+use Rattle.settings_file.specs.Format.{min_file, max_file, contents_of, is_well_made}
 use Rattle.settings_read.specs.Reading.{settings_in, is_hashed, known_answer, made_answer, read_answer}
-use Rattle.settings_write.specs.declared.Written.TheVariants.{Length, Refused as NotWritten}
-use Rattle.settings_write.specs.Writing.{before, given, size_of, describes, all_writable, file_length, length_answer, write_answer}
+use Rattle.settings_write.specs.Writing.{before, given, describes, all_writable, length_answer, write_answer}
 use Rattle.settings_demands.specs.FileOrders.{said_read, said_written, is_there, number_there, read_order, file_bytes, write_order, FileOrders}
 
 -- ---- conditions

@@ -1,6 +1,6 @@
 -- Two files that have the same settings below 128 show the same.
 -- Assumes nothing.
-use mathlib.Core.Path.{◌≡◌, refl, sym, ap, ap₂, subst, ◌∙◌}
+use mathlib.Core.Path.{◌≡◌, refl, sym, ap, ◌∙◌}
 use mathlib.Core.Bool.{Bool, true, false, cond}
 use mathlib.Core.List.{List, [], ◌∷◌}
 use Prim.Native.Nat.{ℕ, ◌+◌, ◌-◌, ◌≤◌, ◌<◌}
@@ -10,20 +10,17 @@ use lib.ListN.{length, get_or, take, drop, length-drop, take-append-drop}
 use lib.Seq.{drop-drop, drop-append-le, take-append-le}
 use borrow.Author.Tests.{leb-true}
 use Rattle.octets.specs.Numbers.{be}
-use Rattle.socks5.specs.declared.Address.{Address}
 use Rattle.socks5.specs.declared.Target.{Target}
 use Rattle.socks5.specs.declared.Target.TheVariants.{V4, V6, Name}
 use Rattle.socks5.specs.declared.Parsed.{Parsed}
 use Rattle.socks5.specs.declared.Parsed.TheVariants.{Found, Malformed}
 use Rattle.socks5.specs.Address.{address_at, v4_at, v6_at, name_at, parse_at, moved}
-use Rattle.settings_rules.specs.Contents.{Lawful}
 use Rattle.settings_file.specs.Format.{count, entry, body, contents_of, WellMade}
 use Rattle.settings_read.specs.declared.Value.{Value}
 use Rattle.settings_read.specs.declared.Value.TheVariants.{Absent, Set}
 use Rattle.settings_read.specs.declared.TargetValue.{TargetValue}
 use Rattle.settings_read.specs.declared.TargetValue.TheVariants.{Absent as NoTarget, Set as TargetSet}
 use Rattle.settings_read.specs.Reading.{target_found}
-use Rattle.settings_read.proofs.ShownLaws.{body-length}
 use Rattle.settings_demands.specs.Files.{Says, set, unset, number_of, meaning, Within, NewerSame}
 use Rattle.settings_demands.proofs.SaysLaws.{one_only}
 use Rattle.settings_demands.proofs.ReadExactly.{read-is-readable}

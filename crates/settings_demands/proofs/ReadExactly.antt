@@ -1,15 +1,15 @@
 -- A file is shown exactly when it is readable, and as its settings say.
 -- Assumes nothing.
 use mathlib.Core.Path.{◌≡◌, refl, sym, ap, subst, ◌∙◌}
-use mathlib.Core.Bool.{Bool, true, false, not, ◌&&◌, and-eq-true_iff}
+use mathlib.Core.Bool.{Bool, true, false, not, ◌&&◌}
 use mathlib.Core.List.{List}
 use mathlib.Core.Logic.{◌⊎◌, inl, inr}
 use mathlib.Core.Option.{Option, none, some}
-use Prim.Native.Nat.{ℕ, ◌+◌, ◌-◌, ◌≤◌, ◌<◌}
+use Prim.Native.Nat.{ℕ, ◌-◌, ◌≤◌, ◌<◌}
 use native.Mathlib.Omega.{arith}
 use lib.Dec.{T, leb, ltb}
 use lib.ListN.{length, take, drop}
-use borrow.Author.Tests.{leb-true, leb-false, ltb-true, ltb-false, le-leb, lt-ltb, le-ltb, lt-leb}
+use borrow.Author.Tests.{leb-true, leb-false, ltb-true, le-leb, lt-ltb}
 use Rattle.octets.specs.Buffers.{same}
 use Rattle.octets.specs.Numbers.{be}
 use Rattle.octets.proofs.BufferLaws.{same_refl, same-eq}
@@ -19,18 +19,16 @@ use Rattle.protocol.specs.declared.Refusal.TheVariants.{Length, NotAuthentic, Ma
 use Rattle.records.proofs.SearchLaws.{from-none}
 use Rattle.socks5.specs.Address.{parse_at}
 use Rattle.settings_rules.specs.Rules.{is_known, is_unknown}
-use Rattle.settings_rules.specs.Contents.{first_unknown, index_of}
+use Rattle.settings_rules.specs.Contents.{first_unknown}
 use Rattle.settings_rules.proofs.ContentsLaws.{unknown-none}
-use Rattle.settings_file.specs.Format.{edition, count, entry, body, contents_of, hash_place, WellMade, is_well_made}
+use Rattle.settings_file.specs.Format.{edition, count, entry, body, contents_of, WellMade, is_well_made}
 use Rattle.settings_file.proofs.MadeLaws.{well-made-exactly}
-use Rattle.settings_read.specs.declared.Value.{Value}
 use Rattle.settings_read.specs.declared.Value.TheVariants.{Absent, Set}
-use Rattle.settings_read.specs.declared.TargetValue.{TargetValue}
 use Rattle.settings_read.specs.declared.TargetValue.TheVariants.{Absent as NoTarget}
 use Rattle.settings_read.specs.declared.Settings.{Settings}
 use Rattle.settings_read.specs.declared.FileRead.{FileRead}
 use Rattle.settings_read.specs.declared.FileRead.TheVariants.{Shown, Refused}
-use Rattle.settings_read.specs.Reading.{value_of, target_found, target_of, setting_at, settings_in, is_hashed, made_answer, read_answer}
+use Rattle.settings_read.specs.Reading.{value_of, target_found, target_of, setting_at, settings_in, is_hashed, read_answer}
 use Rattle.settings_read.proofs.AnswerLaws.{too_short, too_long, other-hash, right-hash, ill-made, an-unknown, all_known}
 use Rattle.settings_demands.specs.Files.{Known, number_of, Shows, Readable, ReadExactly}
 use Rattle.settings_demands.proofs.SaysLaws.{pick, index-says, says-index}

@@ -2,7 +2,7 @@
 -- Assumes nothing.
 use mathlib.Core.Path.{◌≡◌, refl, sym, ap, subst, ◌∙◌}
 use mathlib.Core.List.{List}
-use Prim.Native.Nat.{ℕ, ◌+◌, ◌-◌, ◌*◌, ◌/◌, ◌≤◌, ◌<◌}
+use Prim.Native.Nat.{ℕ, ◌+◌, ◌-◌, ◌*◌, ◌<◌}
 use native.Mathlib.Omega.{arith}
 use lib.ListN.{length, take, drop}
 use Rattle.octets.specs.Numbers.{be}
@@ -10,19 +10,17 @@ use Rattle.blake3.specs.Tree.{hash}
 use Rattle.socks5.specs.Address.{parse_at}
 use Rattle.settings_rules.specs.Rules.{is_unknown}
 use Rattle.settings_file.specs.declared.Entry.{Entry}
-use Rattle.settings_file.specs.Format.{count, entry, body, edition}
+use Rattle.settings_file.specs.Format.{count, entry, body}
 use Rattle.settings_read.specs.declared.Value.{Value}
 use Rattle.settings_read.specs.declared.Value.TheVariants.{Absent, Set}
-use Rattle.settings_read.specs.declared.TargetValue.{TargetValue}
 use Rattle.settings_read.specs.declared.TargetValue.TheVariants.{Absent as NoTarget}
 use Rattle.settings_read.specs.declared.Settings.{Settings}
-use Rattle.settings_read.specs.declared.FileRead.TheVariants.{Shown}
-use Rattle.settings_read.specs.Reading.{target_found, settings_in, read_answer}
-use Rattle.settings_write.specs.Writing.{size_of, number_at, body_at, before, file_of, covered, Writable}
+use Rattle.settings_read.specs.Reading.{target_found, settings_in}
+use Rattle.settings_write.specs.Writing.{size_of, body_at, before, file_of, Writable}
 use Rattle.settings_write.proofs.AnswerLaws.{answered}
 use Rattle.settings_write.proofs.WritingLaws.{length-file}
 use Rattle.settings_write.proofs.FileLaws.{file-covered, file-hash, file-edition, file-count, file-entry, file-body, file-well-made, file-known}
-use Rattle.settings_demands.specs.Files.{Says, set, unset, Shows, number_of, Readable, number_given, body_given, ShownAsGiven, WrittenShown}
+use Rattle.settings_demands.specs.Files.{Says, set, unset, Shows, number_of, Readable, number_given, body_given, WrittenShown}
 use Rattle.settings_demands.proofs.ReadExactly.{read-exactly, shows_in, known-below}
 
 module _ (e : ℕ) (ws bodies : List ℕ) (w : Writable ws bodies) where

@@ -1,12 +1,11 @@
 -- The numbers of a file of settings: what the definitions that contracts cite compute to, and what that should be, written out. A number
 -- that is changed alike in a definition and in the code still meets the contract; it does not meet these.
 -- Assumes nothing.
-use Rattle.std.specs.Prelude.{◌≡◌, Bool, true, false, ◌&&◌, ◌||◌, List, [], ◌∷◌, ◌++◌, map, ℕ, ◌<◌, eqb, leb, length}
+use Rattle.std.specs.Prelude.{◌≡◌, true, false, ◌&&◌, ◌||◌, List, [], ◌∷◌, ◌++◌, map, ℕ, ◌<◌, eqb, leb, length}
 use Rattle.octets.specs.Numbers.{be}
-use Rattle.socks5.specs.declared.Target.TheVariants.{V4, V6, Name}
+use Rattle.socks5.specs.declared.Target.TheVariants.{V6, Name}
 use Rattle.socks5.specs.Address.{is_address}
 use Rattle.settings_rules.specs.Rules.{is_unknown, lawful}
-use Rattle.settings_file.specs.declared.Entry.{Entry}
 use Rattle.settings_file.specs.Format.{hash_length, min_file, max_file, edition, count, entry, body}
 use Rattle.settings_read.specs.declared.Value.{Value}
 use Rattle.settings_read.specs.declared.Value.TheVariants.{Absent, Set}

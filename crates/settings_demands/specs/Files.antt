@@ -8,7 +8,6 @@ use Rattle.protocol.specs.declared.Refusal.TheVariants.{UnknownSetting}
 use Rattle.socks5.specs.declared.Target.TheVariants.{V4, V6, Name}
 use Rattle.socks5.specs.Address.{parse_at}
 use Rattle.settings_file.specs.Format.{count, entry, body, WellMade}
-use Rattle.settings_read.specs.declared.Value.{Value}
 use Rattle.settings_read.specs.declared.Value.TheVariants.{Absent, Set}
 use Rattle.settings_read.specs.declared.TargetValue.{TargetValue}
 use Rattle.settings_read.specs.declared.TargetValue.TheVariants.{Absent as NoTarget, Set as TargetSet}

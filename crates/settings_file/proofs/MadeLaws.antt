@@ -1,12 +1,12 @@
 -- A well-made file: bodies in a row, numbers that rise, bodies that are lawful.
 -- Assumes nothing.
-use mathlib.Core.Path.{◌≡◌, refl, sym, ap, ◌∙◌}
+use mathlib.Core.Path.{◌≡◌, sym, ap, ◌∙◌}
 use mathlib.Core.Bool.{Bool, true, false, ◌&&◌, and-eq-true_iff}
 use mathlib.Core.List.{List}
 use Prim.Native.Nat.{ℕ}
-use Rattle.settings_rules.specs.Contents.{all_lawful, Lawful}
+use Rattle.settings_rules.specs.Contents.{all_lawful}
 use Rattle.settings_rules.proofs.ContentsLaws.{lawful-says, lawful-passes}
-use Rattle.settings_file.specs.Format.{contents_of, InRow, is_in_row, WellMade, is_well_made}
+use Rattle.settings_file.specs.Format.{contents_of, is_in_row, WellMade, is_well_made}
 use Rattle.settings_file.proofs.RowLaws.{in_row, row-passes}
 
 module _ (s : List ℕ) where

@@ -1,4 +1,6 @@
 // A file of settings: the contents table, whether it is well made, and where a setting stands.
+#![tactic(auto)]
+
 ghost use Rattle.std.specs.Prelude.{◌≡◌, ◌≤◌, ◌<◌, length};
 ghost use Rattle.std.proofs.Math.Option.{get_or};
 ghost use Rattle.settings_rules.specs.Contents.{is_lawful, all_lawful, index_of, first_unknown};
@@ -15,7 +17,7 @@ pub const MIN_FILE: usize = 36;
 pub const MAX_FILE: usize = 65535;
 
 // An entry of the contents.
-#[derive(Drop)]
+#[derive(Clone, Copy)]
 pub struct Entry {
     pub number: u16,
     pub offset: u16,

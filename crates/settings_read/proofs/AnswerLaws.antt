@@ -1,11 +1,10 @@
 -- What reading answers, case by case in the order of the code.
 -- Assumes nothing.
-use mathlib.Core.Path.{◌≡◌, refl, sym, ap, ◌∙◌}
-use mathlib.Core.Bool.{Bool, true, false, cond, ◌&&◌}
+use mathlib.Core.Path.{◌≡◌, sym, ap, ◌∙◌}
+use mathlib.Core.Bool.{Bool, true, false, cond}
 use mathlib.Core.List.{List}
-use mathlib.Core.Option.{Option, none, some}
+use mathlib.Core.Option.{none, some}
 use Prim.Native.Nat.{ℕ, ◌≤◌, ◌<◌}
-use lib.Dec.{leb}
 use lib.ListN.{length}
 use borrow.Author.Tests.{le-leb, lt-leb}
 use Rattle.protocol.specs.declared.Refusal.TheVariants.{Length, NotAuthentic, Malformed, UnknownSetting}
@@ -13,7 +12,6 @@ use Rattle.settings_rules.specs.Contents.{first_unknown}
 use Rattle.settings_file.specs.declared.Entry.{Entry}
 use Rattle.settings_file.specs.Format.{entry, contents_of, is_well_made}
 use Rattle.settings_read.specs.declared.Settings.{Settings}
-use Rattle.settings_read.specs.declared.FileRead.{FileRead}
 use Rattle.settings_read.specs.declared.FileRead.TheVariants.{Shown, Refused}
 use Rattle.settings_read.specs.Reading.{settings_in, is_hashed, known_answer, made_answer, read_answer}
 

@@ -4,13 +4,12 @@ use mathlib.Core.Path.{◌≡◌, refl, sym, ap, subst, ◌∙◌}
 use mathlib.Core.Bool.{true}
 use mathlib.Core.List.{List, ◌++◌}
 use mathlib.Core.Option.{Option, none, some}
-use Prim.Native.Nat.{ℕ, ◌+◌, ◌-◌, ◌≤◌, ◌<◌}
+use Prim.Native.Nat.{ℕ, ◌+◌, ◌≤◌, ◌<◌}
 use native.Mathlib.Omega.{arith}
 use lib.ListN.{length, take, drop, length-drop, take-append-drop}
 use lib.Seq.{drop-drop, length-take-le}
 use Rattle.octets.specs.Numbers.{be}
 use Rattle.octets.proofs.NumberLaws.{be-take}
-use Rattle.socks5.specs.declared.Address.{Address}
 use Rattle.socks5.specs.declared.Parsed.{Parsed}
 use Rattle.socks5.specs.declared.Parsed.TheVariants.{Found, Malformed}
 use Rattle.socks5.specs.Address.{parse_at, is_address, moved}
@@ -18,9 +17,8 @@ use Rattle.socks5.proofs.PlaceLaws.{one_found, found-anywhere}
 use Rattle.settings_rules.specs.Rules.{lawful}
 use Rattle.settings_rules.proofs.RuleLaws.{target-address}
 use Rattle.settings_rules.proofs.ContentsLaws.{index-found}
-use Rattle.settings_file.specs.Format.{count, entry, body, contents_of, hash_place, WellMade}
+use Rattle.settings_file.specs.Format.{count, entry, body, contents_of, WellMade}
 use Rattle.settings_file.proofs.RowLaws.{body-within, body-behind}
-use Rattle.settings_read.specs.declared.Value.{Value}
 use Rattle.settings_read.specs.declared.Value.TheVariants.{Absent, Set}
 use Rattle.settings_read.specs.declared.TargetValue.{TargetValue}
 use Rattle.settings_read.specs.declared.TargetValue.TheVariants.{Absent as NoTarget, Set as TargetSet}

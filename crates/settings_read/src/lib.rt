@@ -1,4 +1,6 @@
 // Reads a file of settings.
+#![tactic(auto)]
+
 ghost use Rattle.std.specs.Prelude.{◌≡◌, ◌≤◌, length};
 ghost use Rattle.settings_file.specs.Format.{min_file, WellMade};
 ghost use Rattle.settings_read.specs.Reading.{value_of, target_of, setting_at, settings_in, is_hashed, made_answer, read_answer};
@@ -10,21 +12,21 @@ use settings_rules::{LIMIT, METHOD, RETENTION, TARGET};
 use socks5::{Parsed, Target};
 
 // A number that a file may set.
-#[derive(Drop)]
+#[derive(Clone, Copy)]
 pub enum Value {
     Absent,
     Set(u64),
 }
 
 // A target and its port, which a file may set. The place of a name counts from the file's start.
-#[derive(Drop)]
+#[derive(Clone, Copy)]
 pub enum TargetValue {
     Absent,
     Set(Target, u16),
 }
 
 // What a file sets: retention 0 is shown as 0.
-#[derive(Drop)]
+#[derive(Clone, Copy)]
 pub struct Settings {
     pub edition: u16,
     pub method: Value,
@@ -34,7 +36,7 @@ pub struct Settings {
 }
 
 // What reading answers.
-#[derive(Drop)]
+#[derive(Clone, Copy)]
 pub enum FileRead {
     Shown(Settings),
     Refused(Refusal),

@@ -1,4 +1,6 @@
 // Which settings a file may have: the numbers that are known, and the bodies that are lawful for them.
+#![tactic(auto)]
+
 ghost use Rattle.std.specs.Prelude.{◌≡◌};
 ghost use Rattle.settings_rules.specs.Rules.{is_known, is_unknown, is_method, lawful_method, lawful_retention_body, lawful_limit, lawful};
 

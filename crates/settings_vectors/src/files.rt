@@ -1,6 +1,9 @@
 // Cases of settings files: a call that reads or writes one, and all that it must leave.
 use crate::case::{field, least, number, size};
+use crate::reading::read_full;
 use crate::tally::{Tally, counted};
+use std::io;
+use std::io::Read;
 
 // What is lent is filled with this, to show what was written to it.
 const FILL: u8 = 165;
@@ -118,27 +121,27 @@ fn agrees(c: &[u8]) -> bool {
     false
 }
 
-fn read_case(fd: i32, case: &mut [u8]) -> bool {
-    io::read_full(fd, case);
-    agrees(case)
+fn read_case(file: &mut impl Read, case: &mut [u8]) -> io::Result<bool> {
+    read_full(file, case)?;
+    Ok(agrees(case))
 }
 
-fn next(fd: i32, n: usize, buf: &mut [u8]) -> bool {
-    let most = least(n, buf.len());
-    read_case(fd, &mut buf[..most])
+// A case, behind its length (4).
+fn next(file: &mut impl Read, buf: &mut [u8]) -> io::Result<bool> {
+    let most = least(crate::length(file)?, buf.len());
+    read_case(file, &mut buf[..most])
 }
 
-// The cases of a group, each behind its length (4).
-fn cases_in(fd: i32, count: usize, buf: &mut [u8]) -> Tally {
+// The cases of a group.
+fn cases_in(file: &mut impl Read, count: usize, buf: &mut [u8]) -> io::Result<Tally> {
     let mut t = [0u64; 2];
-    for i in 0..count {
-        let more = counted(t, next(fd, crate::length(fd), buf));
-        t = more;
+    for _ in 0..count {
+        t = counted(t, next(file, buf)?);
     }
-    t
+    Ok(t)
 }
 
-pub(crate) fn cases(fd: i32, count: usize) -> Tally {
+pub(crate) fn cases(file: &mut impl Read, count: usize) -> io::Result<Tally> {
     let mut buf = [0u8; CASE];
-    cases_in(fd, count, &mut buf)
+    cases_in(file, count, &mut buf)
 }

@@ -1,6 +1,9 @@
 // Cases of BLAKE3's hash. The input of each is the first bytes of one pattern.
 use crate::case::size;
+use crate::reading::read_full;
 use crate::tally::{Tally, counted};
+use std::io;
+use std::io::Read;
 
 // The longest input.
 pub(crate) const LONGEST: usize = 102400;
@@ -36,18 +39,17 @@ fn agrees(input: &[u8], case: &[u8]) -> bool {
     hashes_to(input, size(case, 0), &case[4..])
 }
 
-fn next(fd: i32, input: &[u8]) -> bool {
+fn next(file: &mut impl Read, input: &[u8]) -> io::Result<bool> {
     let mut case = [0u8; CASE];
-    io::read_full(fd, &mut case);
-    agrees(input, &case)
+    read_full(file, &mut case)?;
+    Ok(agrees(input, &case))
 }
 
 // The cases of a group.
-pub(crate) fn cases(fd: i32, count: usize, input: &[u8]) -> Tally {
+pub(crate) fn cases(file: &mut impl Read, count: usize, input: &[u8]) -> io::Result<Tally> {
     let mut t = [0u64; 2];
-    for i in 0..count {
-        let more = counted(t, next(fd, input));
-        t = more;
+    for _ in 0..count {
+        t = counted(t, next(file, input)?);
     }
-    t
+    Ok(t)
 }

@@ -1,11 +1,18 @@
 // Runs the vectors of settings files: of BLAKE3's hash, the official ones and lengths of the independent reference; and of files that
 // are read and written. tools/settings_vectors.py describes the data. For each group, and for each of both, it prints how many cases
 // there are, and how many differ.
+#![tactic(auto)]
+
 mod case;
 mod files;
 mod hashes;
+mod reading;
 mod tally;
 
+use reading::read_full;
+use std::io::Read;
+use std::rt::Files;
+use std::{fs, io};
 use tally::{Tally, sum};
 
 // A group's head: how many cases it has, and the field of its title.
@@ -16,48 +23,47 @@ const COUNT: usize = 0;
 const TITLE: usize = 4;
 
 // A number of the data (4).
-fn length(fd: i32) -> usize {
+fn length(file: &mut impl Read) -> io::Result<usize> {
     let mut bytes = [0u8; 4];
-    io::read_full(fd, &mut bytes);
-    case::size(&bytes, 0)
+    read_full(file, &mut bytes)?;
+    Ok(case::size(&bytes, 0))
 }
 
 // A group whose cases are hashes of an input, or without one of files.
-fn group(fd: i32, input: &[u8]) -> Tally {
+fn group(rt: &impl Print, file: &mut impl Read, input: &[u8]) -> io::Result<Tally> {
     let mut head = [0u8; HEAD];
-    io::read_full(fd, &mut head);
-    let t = cases(fd, case::size(&head, COUNT), input);
-    tally::print(case::field(&head, TITLE), t);
-    t
+    read_full(file, &mut head)?;
+    let t = cases(file, case::size(&head, COUNT), input)?;
+    tally::print(rt, case::field(&head, TITLE), t)?;
+    Ok(t)
 }
 
-fn cases(fd: i32, count: usize, input: &[u8]) -> Tally {
+fn cases(file: &mut impl Read, count: usize, input: &[u8]) -> io::Result<Tally> {
     if input.len() == 0 {
-        return files::cases(fd, count);
+        return files::cases(file, count);
     }
-    hashes::cases(fd, count, input)
+    hashes::cases(file, count, input)
 }
 
-fn groups(fd: i32, count: usize, input: &[u8]) -> Tally {
+fn groups(rt: &impl Print, file: &mut impl Read, count: usize, input: &[u8]) -> io::Result<Tally> {
     let mut all = [0u64; 2];
-    for i in 0..count {
-        let t = sum(all, group(fd, input));
-        all = t;
+    for _ in 0..count {
+        all = sum(all, group(rt, file, input)?);
     }
-    all
+    Ok(all)
 }
 
 // A file of data: how many groups it has (4), and the groups.
-fn file(path: &[u8], title: &[u8], input: &[u8]) {
-    let fd = os::open_read(path);
-    let all = groups(fd, length(fd), input);
-    tally::print(title, all);
-    libc::close(fd);
+fn file(rt: &(impl Files + Print), path: &str, title: &[u8], input: &[u8]) -> io::Result<()> {
+    let mut file = fs::open(rt, path)?;
+    let count = length(&mut file)?;
+    let all = groups(rt, &mut file, count, input)?;
+    tally::print(rt, title, all)
 }
 
-fn main() {
+fn main(rt: HostRuntime) -> io::Result<()> {
     let mut input = [0u8; hashes::LONGEST];
     hashes::fill(&mut input);
-    file(b"hashes.bin", b"BLAKE3's hash, total: ", &input);
-    file(b"files.bin", b"settings files, total: ", b"");
+    file(&rt, "hashes.bin", b"BLAKE3's hash, total: ", &input)?;
+    file(&rt, "files.bin", b"settings files, total: ", b"")
 }

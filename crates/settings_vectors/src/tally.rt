@@ -1,5 +1,6 @@
 // What has been compared.
-use libc::STDOUT_FILENO;
+use std::io;
+use std::io::Write;
 
 // How many cases there are, and how many of them differ.
 pub(crate) type Tally = [u64; 2];
@@ -20,10 +21,7 @@ pub(crate) fn sum(a: Tally, b: Tally) -> Tally {
 }
 
 // A line: a title, how many cases, and how many differ.
-pub(crate) fn print(title: &[u8], t: Tally) {
-    io::write_all(STDOUT_FILENO, title);
-    io::print_decimal(STDOUT_FILENO, t[0]);
-    io::write_all(STDOUT_FILENO, b" cases, ");
-    io::print_decimal(STDOUT_FILENO, t[1]);
-    io::write_all(STDOUT_FILENO, b" differ\n");
+pub(crate) fn print(rt: &impl Print, title: &[u8], t: Tally) -> io::Result<()> {
+    io::writer(rt).write_all(title)?;
+    println!(rt; "{} cases, {} differ", t[0], t[1])
 }

@@ -1,4 +1,6 @@
 // Writes a file of settings.
+#![tactic(auto)]
+
 ghost use Rattle.std.specs.Prelude.{◌≡◌, true, ◌+◌, ◌≤◌, length, take};
 ghost use Rattle.octets.specs.Buffers.{put};
 ghost use Rattle.blake3.specs.Tree.{hash};
@@ -13,7 +15,7 @@ use settings_rules::{is_lawful, is_unknown};
 const MAX_NUMBER: u64 = 65535;
 
 // What writing answers: the file's length, or why there is none.
-#[derive(Drop)]
+#[derive(Clone, Copy)]
 pub enum Written {
     Length(usize),
     Refused(Refusal),

@@ -1,4 +1,6 @@
 // The hash computation of SHA-1 (FIPS 180-4, section 6.1.2) for one block. Its 80 rounds are in rounds.rt, its functions in words.rt.
+#![tactic(auto)]
+
 mod rounds;
 mod words;
 
@@ -9,7 +11,7 @@ ghost use Rattle.sha1_compression.specs.Compression.{plus as plus_of, compressed
 use words::rotate_left;
 
 // A hash value, or the five working variables.
-#[derive(Drop)]
+#[derive(Clone, Copy)]
 pub struct State {
     pub a: u32,
     pub b: u32,

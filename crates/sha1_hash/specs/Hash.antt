@@ -1,5 +1,5 @@
 -- FIPS 180-4, sections 5.1.1, 5.2.1, 5.3.1 and 6.1: padding, parsing, the initial hash value, and SHA-1.
-use Rattle.std.specs.Prelude.{ℕ, zero, suc, ◌+◌, ◌-◌, ◌*◌, ◌/◌, ◌%◌, List, ◌∷◌, ◌++◌, length, drop, replicate}
+use Rattle.std.specs.Prelude.{ℕ, zero, suc, ◌-◌, ◌*◌, ◌/◌, ◌%◌, List, ◌∷◌, ◌++◌, length, drop, replicate}
 use Rattle.octets.specs.Numbers.{to_be}
 use Rattle.sha1_compression.specs.declared.State.{State}
 use Rattle.sha1_compression.specs.Schedule.{block_words}

@@ -1,4 +1,6 @@
 // SHA-1 (FIPS 180-4) of byte strings, block by block in place; the last one or two blocks are made in a buffer of 64 bytes.
+#![tactic(auto)]
+
 ghost use Rattle.std.specs.Prelude.{◌≡◌, ◌+◌, ◌-◌, ◌*◌, ◌/◌, ◌%◌, ◌^◌, ◌<◌, ◌∷◌, ◌++◌, length, replicate};
 ghost use Rattle.octets.specs.Buffers.{put};
 ghost use Rattle.octets.specs.Numbers.{to_be};

@@ -8,7 +8,7 @@ use native.Mathlib.Omega.{arith}
 use lib.ListN.{length, take, drop, length-append, length-drop}
 use borrow.Author.Tests.{eq-eqb, le-leb, lt-ltb}
 use Rattle.octets.specs.Buffers.{put}
-use Rattle.octets.proofs.BufferLaws.{put-behind, put_whole, part-put, rest}
+use Rattle.octets.proofs.BufferLaws.{put-behind, put_whole, part-put}
 use Rattle.aes.specs.Keyed.{nk_of}
 use Rattle.gcm.specs.Gcm.{seal}
 use Rattle.gcm.specs.Keyed.{max_text, ciph_of, fits, seal_lawful, sealed, answer, open_answer, open_out}

@@ -1,4 +1,6 @@
 // The 2017 edition of Shadowsocks (SIP004): its AES methods and its subkeys. Datagrams are in datagram.rt.
+#![tactic(auto)]
+
 ghost use Rattle.std.specs.Prelude.{◌≡◌, ◌≤◌, length};
 ghost use Rattle.octets.specs.Buffers.{put};
 ghost use Rattle.sip004.specs.Method.{max_key, aes128, aes192, aes256, method_of, key_fits, settings_fit, key_length};
@@ -12,7 +14,7 @@ mod datagram;
 pub use datagram::{open, seal};
 
 // A method: its number, and the lengths of its key and salt in bytes.
-#[derive(Drop)]
+#[derive(Clone, Copy)]
 pub struct Method {
     pub number: u64,
     pub key: usize,
@@ -20,21 +22,21 @@ pub struct Method {
 }
 
 // The method of a number, if there is one.
-#[derive(Drop)]
+#[derive(Clone, Copy)]
 pub enum Numbered {
     Known(Method),
     Unknown,
 }
 
 // What sealing a datagram answers: the datagram's length, or why there is none.
-#[derive(Drop)]
+#[derive(Clone, Copy)]
 pub enum Sealed {
     Datagram(usize),
     Refused(Refusal),
 }
 
 // What opening one answers: the payload's length, or why there is none.
-#[derive(Drop)]
+#[derive(Clone, Copy)]
 pub enum Opened {
     Text(usize),
     Refused(Refusal),

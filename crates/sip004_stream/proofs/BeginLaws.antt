@@ -10,9 +10,7 @@ use Rattle.stream_pieces.specs.declared.Subkey.{Subkey}
 use Rattle.stream_pieces.specs.Framing.{HasCipher}
 use Rattle.sip004.specs.Method.{settings_fit, key_length, max_key}
 use Rattle.sip004.proofs.MethodLaws.{fits-sizes, settings-sizes, length-fits}
-use Rattle.sip004_stream.specs.declared.SenderBegun.{SenderBegun}
 use Rattle.sip004_stream.specs.declared.SenderBegun.TheVariants.{Begun as SealBegun, Refused as SealRefused}
-use Rattle.sip004_stream.specs.declared.ReceiverBegun.{ReceiverBegun}
 use Rattle.sip004_stream.specs.declared.ReceiverBegun.TheVariants.{Begun as OpenBegun, Refused as OpenRefused}
 use Rattle.sip004_stream.specs.Streams.{framing_of, subkey_of, sender, sender_begun, receiver, receiver_begun}
 

@@ -1,5 +1,7 @@
 // Streams of the 2017 edition of Shadowsocks (SIP004): begun with a salt that the host carries, and then chunks, which are both
 // editions' code, under this edition's framing.
+#![tactic(auto)]
+
 ghost use Rattle.std.specs.Prelude.{◌≡◌, ◌≤◌, length};
 ghost use Rattle.sip004.specs.Method.{max_key};
 ghost use Rattle.sip004_stream.specs.Streams.{framing_of, subkey_of, sender_begun, receiver_begun};
@@ -16,14 +18,14 @@ pub const MAX_PAYLOAD: usize = 16383;
 const FIRST_COUNTER: u64 = 0;
 
 // A stream that was begun to seal, or why there is none.
-#[derive(Drop)]
+#[derive(Clone, Copy)]
 pub enum SenderBegun {
     Begun(Sender),
     Refused(Refusal),
 }
 
 // A stream that was begun to open, or why there is none.
-#[derive(Drop)]
+#[derive(Clone, Copy)]
 pub enum ReceiverBegun {
     Begun(Receiver),
     Refused(Refusal),

@@ -2,7 +2,6 @@
 -- and the port. An IPv4 address is a number, an IPv6 address a pair of numbers, a name the place and length of its bytes.
 use Rattle.std.specs.Prelude.{Bool, false, cond, List, ℕ, ◌+◌, ◌-◌, eqb, leb, ltb, length, get_or, drop}
 use Rattle.octets.specs.Numbers.{be}
-use Rattle.socks5.specs.declared.Address.{Address}
 use Rattle.socks5.specs.declared.Target.{Target}
 use Rattle.socks5.specs.declared.Target.TheVariants.{V4, V6, Name}
 use Rattle.socks5.specs.declared.Parsed.{Parsed}

@@ -1,9 +1,11 @@
 // Target addresses of RFC 1928 (SOCKS5), section 5.
+#![tactic(auto)]
+
 ghost use Rattle.std.specs.Prelude.{◌≡◌, ◌+◌, ◌≤◌, length, get_or};
 ghost use Rattle.socks5.specs.Address.{v4_at, v6_at, name_at, parse_at, is_address};
 
 // An IPv4 address, an IPv6 address as two numbers, or the place and length of a name.
-#[derive(Drop)]
+#[derive(Clone, Copy)]
 pub enum Target {
     V4(u32),
     V6(u64, u64),
@@ -11,14 +13,14 @@ pub enum Target {
 }
 
 // A target with its port, and the place behind them.
-#[derive(Drop)]
+#[derive(Clone, Copy)]
 pub struct Address {
     pub target: Target,
     pub port: u16,
     pub end: usize,
 }
 
-#[derive(Drop)]
+#[derive(Clone, Copy)]
 pub enum Parsed {
     Found(Address),
     Malformed,

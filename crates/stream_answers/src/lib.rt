@@ -1,5 +1,7 @@
 // What a call about a stream answers, told in words that a host lends: the stream as it is then, and an answer. Each function gives
 // 0 or the number of a refusal. Calls about a chunk are in chunks.rt, and streams of SIP004 are begun in begin.rt.
+#![tactic(auto)]
+
 ghost use Rattle.std.specs.Prelude.{◌≡◌, length};
 ghost use Rattle.protocol.specs.Refusal.{refusal_number};
 ghost use Rattle.words.specs.Answers.{answer_words, refused_answer};

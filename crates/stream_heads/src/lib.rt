@@ -1,5 +1,7 @@
 // What both directions share of the heads of streams of SIP022, section 3.1: the cap of a request's padding, and the fixed header,
 // opened.
+#![tactic(auto)]
+
 ghost use Rattle.std.specs.Prelude.{◌≡◌, ◌+◌, ◌-◌, ◌≤◌, length, cond};
 ghost use Rattle.aead.specs.Aead.{KeyFor, keyed};
 ghost use Rattle.stream_pieces.specs.Pieces.{tag_length, authentic_at, open_at, key_of, max_chunk};
@@ -12,13 +14,13 @@ use stream_pieces::{Subkey, open_piece};
 pub const MAX_PADDING: usize = 900;
 
 // The fixed header of a head: its time, and the length of the piece behind it.
-#[derive(Drop)]
+#[derive(Clone, Copy)]
 pub struct Fixed {
     pub time: u64,
     pub length: u16,
 }
 
-#[derive(Drop)]
+#[derive(Clone, Copy)]
 pub enum FixedRead {
     Read(Fixed),
     Refused(Refusal),

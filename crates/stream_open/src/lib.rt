@@ -1,4 +1,6 @@
 // Opening a stream behind its head: its state, and one piece a step, a length and its payload by turns.
+#![tactic(auto)]
+
 ghost use Rattle.std.specs.Prelude.{◌≡◌, ◌+◌, length, take};
 ghost use Rattle.aead.specs.Aead.{KeyFor};
 ghost use Rattle.stream_pieces.specs.Framing.{HasCipher, framing_of};
@@ -11,7 +13,7 @@ use stream_pieces::{Framing, LAST_COUNTER, LENGTH_PIECE, Subkey, TAG, framing_of
 
 // What the receiving half of a stream opens next: a request's variable header of so many bytes, a length, a payload of so many
 // bytes, or nothing.
-#[derive(Drop)]
+#[derive(Clone, Copy)]
 pub enum Turn {
     Variable(u16),
     Length,
@@ -20,7 +22,7 @@ pub enum Turn {
 }
 
 // The receiving half of a stream, behind its head.
-#[derive(Drop)]
+#[derive(Clone, Copy)]
 pub struct Receiver {
     pub method: u64,
     pub turn: Turn,
@@ -29,20 +31,20 @@ pub struct Receiver {
 }
 
 // A piece that was opened: how many bytes were used, and the length that it said or the length of the payload.
-#[derive(Drop)]
+#[derive(Clone, Copy)]
 pub struct Chunk {
     pub used: usize,
     pub length: u16,
 }
 
-#[derive(Drop)]
+#[derive(Clone, Copy)]
 pub enum Stepped {
     Opened(Chunk),
     Refused(Refusal),
 }
 
 // The answer to a step, and the stream as it is then.
-#[derive(Drop)]
+#[derive(Clone, Copy)]
 pub struct Step {
     pub answer: Stepped,
     pub stream: Receiver,

@@ -1,5 +1,7 @@
 // Opening the front of a request's head of SIP022, section 3.1, on a salt pool: the salt and the fixed header. Its variable header
 // is another call's, of crate `stream_open_variable`, on the stream that this one hands on.
+#![tactic(auto)]
+
 ghost use Rattle.std.specs.Prelude.{◌≡◌, ◌≤◌, length};
 ghost use Rattle.aead.specs.Aead.{KeyFor, keyed};
 ghost use Rattle.salt_pool.specs.Pool.{pool_words, meet};
@@ -14,14 +16,14 @@ use stream_open::{Receiver, Turn};
 use stream_pieces::{FIXED, FIXED_PIECE, Subkey, derive};
 
 // What the front of a request's head says: its time, and the length of the variable header behind it. So many bytes were used.
-#[derive(Drop)]
+#[derive(Clone, Copy)]
 pub struct Request {
     pub time: u64,
     pub length: u16,
     pub used: usize,
 }
 
-#[derive(Drop)]
+#[derive(Clone, Copy)]
 pub enum RequestOpened {
     Accepted(Request, Receiver),
     Refused(Refusal),

@@ -1,4 +1,6 @@
 // Opening the head of a response of SIP022, section 3.1.
+#![tactic(auto)]
+
 ghost use Rattle.std.specs.Prelude.{◌≡◌, ◌+◌, ◌-◌, ◌<◌, ◌≤◌, length};
 ghost use Rattle.aead.specs.Aead.{KeyFor, keyed};
 ghost use Rattle.stream_pieces.specs.Pieces.{fixed_length, fixed_piece, key_of};
@@ -11,14 +13,14 @@ use stream_open::{Receiver, Turn};
 use stream_pieces::{FIXED, FIXED_PIECE, MAX_FIXED, Subkey, derive};
 
 // What the head of a response says: its time, the length of its first payload, and how many bytes were used.
-#[derive(Drop)]
+#[derive(Clone, Copy)]
 pub struct Response {
     pub time: u64,
     pub length: u16,
     pub used: usize,
 }
 
-#[derive(Drop)]
+#[derive(Clone, Copy)]
 pub enum ResponseOpened {
     Accepted(Response, Receiver),
     Refused(Refusal),

@@ -1,4 +1,6 @@
 // Opening the variable header of a request of SIP022, section 3.1, behind its fixed header, whose call handed on the stream.
+#![tactic(auto)]
+
 ghost use Rattle.std.specs.Prelude.{◌≡◌, ◌≤◌, length};
 ghost use Rattle.aead.specs.Aead.{KeyFor, keyed};
 ghost use Rattle.stream_pieces.specs.Pieces.{key_of};
@@ -12,7 +14,7 @@ use stream_pieces::{Subkey, TAG, open_piece};
 
 // What a variable header says. A name's place and the payload's are places in its plaintext, which has the length given. So
 // many bytes were used.
-#[derive(Drop)]
+#[derive(Clone, Copy)]
 pub struct VariableHeader {
     pub target: Target,
     pub port: u16,
@@ -22,14 +24,14 @@ pub struct VariableHeader {
     pub used: usize,
 }
 
-#[derive(Drop)]
+#[derive(Clone, Copy)]
 pub enum VariableOpened {
     Header(VariableHeader),
     Refused(Refusal),
 }
 
 // The answer, and the stream as it is then.
-#[derive(Drop)]
+#[derive(Clone, Copy)]
 pub struct VariableStep {
     pub answer: VariableOpened,
     pub stream: Receiver,

@@ -1,5 +1,7 @@
 // One piece of a stream of SIP022, section 3.1: a text sealed under the stream's subkey and its own counter. A head, a length and a
 // payload are pieces; what both directions share of them is here.
+#![tactic(auto)]
+
 ghost use Rattle.std.specs.Prelude.{◌≡◌, ◌++◌, ◌+◌, ◌-◌, ◌*◌, ◌<◌, ◌≤◌, length, take, drop, cond};
 ghost use Rattle.octets.specs.Buffers.{put};
 ghost use Rattle.aead.specs.Aead.{KeyFor, text_of, keyed};
@@ -29,7 +31,7 @@ pub const LAST_COUNTER: u64 = 0xffff_ffff_ffff_ffff;
 
 // How an edition frames the payloads of a stream: its cipher, the length of its key, and the least and the greatest length of a
 // payload.
-#[derive(Drop)]
+#[derive(Clone, Copy)]
 pub struct Framing {
     pub cipher: Cipher,
     pub key: usize,
@@ -38,7 +40,7 @@ pub struct Framing {
 }
 
 // A subkey in four words, its bytes big-endian; one of fewer than 32 bytes has zeros for the last words.
-#[derive(Drop)]
+#[derive(Clone, Copy)]
 pub struct Subkey {
     pub a: u64,
     pub b: u64,

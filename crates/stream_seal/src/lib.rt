@@ -1,4 +1,6 @@
 // The sending half of a stream behind its head: lengths and payloads, sealed one chunk after another.
+#![tactic(auto)]
+
 ghost use Rattle.std.specs.Prelude.{◌≡◌, ◌+◌, ◌-◌, ◌<◌, ◌≤◌, length};
 ghost use Rattle.aead.specs.Aead.{KeyFor, keyed};
 ghost use Rattle.stream_pieces.specs.Framing.{HasCipher};
@@ -9,7 +11,7 @@ use protocol::{Cipher, Refusal};
 use stream_pieces::{Framing, LAST_COUNTER, LENGTH_PIECE, Subkey, TAG, framing_of, seal_pair};
 
 // The sending half of a stream, behind its head: its method, the counter of its next piece, and its subkey.
-#[derive(Drop)]
+#[derive(Clone, Copy)]
 pub struct Sender {
     pub method: u64,
     pub counter: u64,
@@ -17,7 +19,7 @@ pub struct Sender {
 }
 
 // What sealing answers: how many bytes were written and the stream as it is then, or why there are none.
-#[derive(Drop)]
+#[derive(Clone, Copy)]
 pub enum Sealed {
     Bytes(usize, Sender),
     Refused(Refusal),

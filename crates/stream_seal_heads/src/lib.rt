@@ -1,5 +1,7 @@
 // Sealing the heads of streams of SIP022, section 3.1: the salt, a piece with the fixed header, and a piece behind it, which is a
 // request's variable header or a response's first payload.
+#![tactic(auto)]
+
 ghost use Rattle.std.specs.Prelude.{◌≡◌, [], ◌++◌, ◌+◌, ◌≤◌, min, length};
 ghost use Rattle.octets.specs.Buffers.{put};
 ghost use Rattle.aead.specs.Aead.{KeyFor, keyed};

@@ -1,6 +1,8 @@
 // Runs the vectors: published ones and those of the independent reference. tools/vectors.py describes the files. After each call the
 // whole lent output, every lent word and the answer are compared. For each group, and for each file, it prints how many cases came
 // to what, and how many differ.
+#![tactic(auto)]
+
 mod case;
 mod chacha_ciphers;
 mod ciphers;
@@ -8,12 +10,17 @@ mod datagrams;
 mod edition_2017;
 mod hashes;
 mod memory;
+mod reading;
 mod streams;
 mod tally;
 
 ghost use Rattle.std.specs.Prelude.{◌≡◌, length};
 
 use case::{COUNT, COUNTER, KIND, LENT, OUTPUT, ROOM, STREAM, field, least, number, size};
+use reading::read_full;
+use std::io::Read;
+use std::rt::Files;
+use std::{fs, io};
 use tally::Tally;
 
 // What a buffer is filled with, to show what was written to it.
@@ -153,68 +160,76 @@ fn count(s: &[u8]) -> usize {
 }
 
 // A group: how many cases it has, its title, and a record for each.
-fn group(head: &[u8], s: &[u8]) -> Tally {
+fn group(rt: &impl Print, head: &[u8], s: &[u8]) -> io::Result<Tally> {
     let mut words = [0u64; WORDS];
     let mut expected = [0u64; WORDS];
     let t = cases(s, count(s), &mut words, &mut expected);
-    tally::print(head, field(s, TITLE), t);
-    t
+    tally::print(rt, head, field(s, TITLE), t)?;
+    Ok(t)
 }
 
 // Reads a group of a known length.
-fn read_group(fd: i32, head: &[u8], s: &mut [u8]) -> Tally {
-    io::read_full(fd, s);
-    group(head, s)
+fn read_group(
+    rt: &impl Print,
+    file: &mut impl Read,
+    head: &[u8],
+    s: &mut [u8],
+) -> io::Result<Tally> {
+    read_full(file, s)?;
+    group(rt, head, s)
 }
 
 // The length that stands before a group (4).
-fn group_length(fd: i32) -> usize {
+fn group_length(file: &mut impl Read) -> io::Result<usize> {
     let mut length = [0u8; 4];
-    io::read_full(fd, &mut length);
-    octets::read_u32_be(&length, 0) as usize
+    read_full(file, &mut length)?;
+    Ok(octets::read_u32_be(&length, 0) as usize)
 }
 
-fn next_group(fd: i32, head: &[u8], buf: &mut [u8]) -> Tally {
-    let n = least(group_length(fd), buf.len());
-    read_group(fd, head, &mut buf[..n])
+fn next_group(
+    rt: &impl Print,
+    file: &mut impl Read,
+    head: &[u8],
+    buf: &mut [u8],
+) -> io::Result<Tally> {
+    let n = least(group_length(file)?, buf.len());
+    read_group(rt, file, head, &mut buf[..n])
 }
 
 // The groups of a file.
-fn groups(fd: i32, head: &[u8], buf: &mut [u8]) -> Tally {
+fn groups(rt: &impl Print, file: &mut impl Read, head: &[u8], buf: &mut [u8]) -> io::Result<Tally> {
     let mut all = [0u64; 5];
-    for i in 0..count(head) {
-        let sum = tally::sum(all, next_group(fd, head, buf));
-        all = sum;
+    for _ in 0..count(head) {
+        all = tally::sum(all, next_group(rt, file, head, buf)?);
     }
-    all
+    Ok(all)
 }
 
 // The groups behind a head, and their total.
-fn total(fd: i32, head: &[u8]) {
+fn total(rt: &impl Print, file: &mut impl Read, head: &[u8]) -> io::Result<()> {
     let mut buf = [0u8; GROUP];
-    let all = groups(fd, head, &mut buf);
-    tally::print(head, field(head, TITLE), all);
+    let all = groups(rt, file, head, &mut buf)?;
+    tally::print(rt, head, field(head, TITLE), all)
 }
 
 // A file: a head of 256 bytes, with how many groups there are, the title of the total and the names of what cases come to; then
 // the groups.
-fn file(path: &[u8]) {
+fn file(rt: &(impl Files + Print), path: &str) -> io::Result<()> {
     let mut head = [0u8; 256];
-    let fd = os::open_read(path);
-    io::read_full(fd, &mut head);
-    total(fd, &head);
-    libc::close(fd);
+    let mut file = fs::open(rt, path)?;
+    read_full(&mut file, &mut head)?;
+    total(rt, &mut file, &head)
 }
 
-fn main() {
-    file(b"aes.bin");
-    file(b"blake3.bin");
-    file(b"gcm.bin");
-    file(b"hashes.bin");
-    file(b"chacha.bin");
-    file(b"chacha_poly.bin");
-    file(b"datagram.bin");
-    file(b"sessions.bin");
-    file(b"streams.bin");
-    file(b"sip004.bin");
+fn main(rt: HostRuntime) -> io::Result<()> {
+    file(&rt, "aes.bin")?;
+    file(&rt, "blake3.bin")?;
+    file(&rt, "gcm.bin")?;
+    file(&rt, "hashes.bin")?;
+    file(&rt, "chacha.bin")?;
+    file(&rt, "chacha_poly.bin")?;
+    file(&rt, "datagram.bin")?;
+    file(&rt, "sessions.bin")?;
+    file(&rt, "streams.bin")?;
+    file(&rt, "sip004.bin")
 }

@@ -1,6 +1,7 @@
 // What has been compared.
 use crate::case::{field, least};
-use libc::STDOUT_FILENO;
+use std::io;
+use std::io::Write;
 
 // How many cases came to each of four things, whose names are in the file's head, and how many differ.
 pub(crate) type Tally = [u64; 5];
@@ -34,23 +35,24 @@ pub(crate) fn sum(a: Tally, b: Tally) -> Tally {
 }
 
 // How many cases came to a thing, unless none did.
-fn print_count(n: u64, name: &[u8]) {
+fn print_count(rt: &impl Print, n: u64, name: &[u8]) -> io::Result<()> {
     if n > 0 {
-        io::print_decimal(STDOUT_FILENO, n);
-        io::write_all(STDOUT_FILENO, name);
+        print!(rt; "{n}")?;
+        io::writer(rt).write_all(name)?;
     }
+    Ok(())
 }
 
-fn print_counts(head: &[u8], t: Tally) {
+fn print_counts(rt: &impl Print, head: &[u8], t: Tally) -> io::Result<()> {
     for i in 0..4 {
-        print_count(t[i], field(head, 16 + 8 * i));
+        print_count(rt, t[i], field(head, 16 + 8 * i))?;
     }
+    Ok(())
 }
 
 // A line: a title, the counts, and how many differ.
-pub(crate) fn print(head: &[u8], title: &[u8], t: Tally) {
-    io::write_all(STDOUT_FILENO, title);
-    print_counts(head, t);
-    io::print_decimal(STDOUT_FILENO, t[DIFFER]);
-    io::write_all(STDOUT_FILENO, b" differ\n");
+pub(crate) fn print(rt: &impl Print, head: &[u8], title: &[u8], t: Tally) -> io::Result<()> {
+    io::writer(rt).write_all(title)?;
+    print_counts(rt, head, t)?;
+    println!(rt; "{} differ", t[DIFFER])
 }

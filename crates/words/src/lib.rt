@@ -1,5 +1,7 @@
 // What a host holds between calls, and reads from an answer, in words of 64 bits: states.rt has sending sessions and streams,
 // answers.rt what is written into an answer. Any words have a meaning.
+#![tactic(auto)]
+
 mod answers;
 mod states;
 

@@ -1,0 +1,17 @@
+use mathlib.Core.Path.{◌≡◌, refl, ap, ◌∙◌}
+use native.Mathlib.Omega.{arith}
+use borrow.Author.Rules.{rules}
+use Rattle.aes_planes.proofs.StepLaws.{last-bit-step}
+use Rattle.aes_planes.specs.Mix.{last_bit_of}
+use Rattle.aes_planes.proofs.mix.last_bit.Goals as goal
+
+pub loop-j-init : goal.loop-j-init
+unfolding last_bit_of
+loop-j-init c = (search rules, (search rules, refl))
+
+pub loop-j-preserved : goal.loop-j-preserved
+loop-j-preserved c = (search rules, (c.last_lane.ensures.s_len_2, last-bit-step _ _ _ _ _ _ c.loop-j.invariant.1.1 c.last_lane.ensures.s_after))
+
+pub returns : goal.returns
+returns c =
+    let e : c.loop-j.j ≡ 4 = omega arith in record { s_len_2 = c.loop-j.invariant.1.0; s_after = c.loop-j.invariant.1.1 ∙ ap (last_bit_of _ _ _ _ _) e }

@@ -1,0 +1,4 @@
+use Rattle.buffers.proofs.padded.Goals as goal
+
+pub returns : goal.returns
+returns c = c.copy.ensures

@@ -1,0 +1,19 @@
+use mathlib.Core.Path.{sym, ap, ◌∙◌}
+use Rattle.octets.specs.Buffers.{put}
+use Rattle.datagram_parts.specs.declared.Side.{Side}
+use Rattle.datagram_parts.specs.Headers.{fixed_part}
+use Rattle.datagram_parts.proofs.WritingLaws.{client-law, server-law}
+use Rattle.datagram_parts.proofs.write_fixed.Goals as goal
+
+pub returns-in-Client : goal.returns-in-Client
+returns-in-Client c =
+    let a = c.args in
+    client-law a.out.now a.clock a.padding c.requires.server_fixed_in_bounds _ _ c.write_start.ensures c.write_u16_be.ensures
+    ∙ ap (λ (side : Side). put a.out.now 0 (fixed_part side a.clock a.padding)) (sym c.in-Client.is)
+
+pub returns-in-Server : goal.returns-in-Server
+returns-in-Server c =
+    let a = c.args in
+    server-law a.out.now a.clock a.padding c.requires.server_fixed_in_bounds _ _ _ _ c.write_start-in-Server.ensures c.write_u64_be.ensures
+    c.write_u16_be-in-Server.ensures
+    ∙ ap (λ (side : Side). put a.out.now 0 (fixed_part side a.clock a.padding)) (sym c.in-Server.is)

@@ -1,0 +1,9 @@
+use mathlib.Core.Path.{sym, ap, ◌∙◌}
+use Rattle.relay.specs.Datagrams.{settings_number}
+use Rattle.relay.proofs.streams.relay_pool_new.Goals as goal
+
+pub returns-then-make : goal.returns-then-make
+returns-then-make c = record { value = ap settings_number (sym c.if-make.true ∙ c.make.ensures.value); pool_after = c.make.ensures.pool_after }
+
+pub returns : goal.returns
+returns c = record { value = ap settings_number (sym c.if-make.false ∙ c.make.ensures.value); pool_after = c.make.ensures.pool_after }

@@ -1,0 +1,14 @@
+use Rattle.stream_heads.proofs.HeadLaws.{fixed-type, fixed-time, fixed-read}
+use Rattle.stream_heads.proofs.read_fixed.Goals as goal
+
+pub returns-then-byte_or_zero-kind : goal.returns-then-byte_or_zero-kind
+returns-then-byte_or_zero-kind c = fixed-type _ _ _ _ c.byte_or_zero.ensures c.if-byte_or_zero-kind.true
+
+pub returns-then-time_valid : goal.returns-then-time_valid
+returns-then-time_valid c =
+    fixed-read _ _ _ _ c.byte_or_zero.ensures c.if-byte_or_zero-kind.false _ _ c.read_u64_be-time.ensures c.time_valid.ensures c.if-time_valid.true _
+    c.read_u16_be.ensures
+
+pub returns : goal.returns
+returns c =
+    fixed-time _ _ _ _ c.byte_or_zero.ensures c.if-byte_or_zero-kind.false _ _ c.read_u64_be-time.ensures c.time_valid.ensures c.if-time_valid.false

@@ -1,0 +1,8 @@
+-- A framing of this edition has a key of its cipher.
+use Rattle.std.proofs.Common.{sym, subst}
+use Rattle.stream_pieces.specs.Framing.{HasCipher}
+use Rattle.sip004_stream.proofs.BeginLaws.{framing-cipher}
+use Rattle.vectors.proofs.edition_2017.open_chunk.Goals as goal
+
+pub open_on-requires : goal.open_on-requires
+open_on-requires c = subst HasCipher (sym c.framing_of.ensures) (framing-cipher _)
