@@ -1,5 +1,4 @@
-# Everything built goes to target/, the only folder that git ignores; .cargo/config.toml tells Cargo. `rt ci`, and so `make test`,
-# removes it first.
+# Everything built goes to target/; .cargo/config.toml tells Cargo. What rt keeps of a crate is in its out/. Git ignores both.
 CARGO := cargo
 HOST := --locked --quiet --manifest-path host/Cargo.toml
 LIBRARY := target/staticlib/librelay.a
@@ -20,7 +19,8 @@ INSTALLED = $(INCLUDEDIR)/relay.h $(LIBDIR)/librelay.a $(LIBDIR)/pkgconfig/relay
 	$(MANDIR)/man1/bhajnolith.1 $(UNITDIR)/bhajnolith@.service
 
 .PHONY: run test mistakes library box demo quickstart install uninstall bench fuzz vectors arguments seconds
-# rt keeps its notes in one folder, and arguments are tested before the library is made.
+# Libraries and programs share the crates below them, of which rt proves each once; and arguments are tested before the library
+# is made.
 .NOTPARALLEL:
 
 # The soak: 64 clients send through the relay for an hour of the simulated clock. ARGS="--minutes 5" for a short one.
@@ -43,14 +43,18 @@ test:
 # ARGS="rounds_12 salts_255" for some of them.
 mistakes:
 	@tools/need rt python3=python3
-	rt check demands edges sip004_demands settings_demands
 	tools/mistakes $(ARGS)
 
 library: $(LIBRARY)
 
-# A library is made again when a crate's code, definitions or proofs changed.
-target/staticlib/lib%.a: crates.txt $(shell find crates/*/src crates/*/specs crates/*/proofs -type f)
+# A library or a program in Rattle is made again when a crate's code, definitions or proofs changed.
+RATTLE := crates.txt $(shell find crates/*/src crates/*/specs crates/*/proofs -type f)
+
+target/staticlib/lib%.a: $(RATTLE)
 	@tools/library $*
+
+target/bin/%: $(RATTLE)
+	@tools/program $*
 
 # The program: relay box, branch box and their tools. With it made, `make install` needs no Cargo.
 box: $(BOX)

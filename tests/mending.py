@@ -5,7 +5,7 @@
 
 Every file is mended by relay_recording_mend of target/staticlib/librelay.a, with a report of just
 the room that is due, and held to reference/recordings.py. Mending it again is to change nothing,
-and the program target/bin/compare (`rt check compare`) is to find no difference between the
+and the program target/bin/compare (`make target/bin/compare`) is to find no difference between the
 mended file and itself, which it says of well-formed recordings alone.
 """
 
@@ -112,7 +112,7 @@ def main() -> None:
     parser.add_argument("--files", type=int, default=FILES, help="by dice")
     files = parser.parse_args().files
     if not PROGRAM.exists():
-        sys.exit("target/bin/compare is missing: run `rt check compare` at the root")
+        sys.exit("target/bin/compare is missing: run `make target/bin/compare` at the root")
     with tempfile.TemporaryDirectory() as folder:
         mending = Mending(Path(folder))
         total = 0

@@ -4,8 +4,8 @@
     tests/recordings.py [--pairs COUNT]
 
 Each pair is written to files, the program is run with their names, and its whole output is
-compared with reference/recordings.py. The program is target/bin/compare, which `rt check compare`
-proves and links.
+compared with reference/recordings.py. The program is target/bin/compare, which
+`make target/bin/compare` proves and links.
 """
 
 from __future__ import annotations
@@ -128,7 +128,7 @@ def main() -> None:
     parser.add_argument("--pairs", type=int, default=PAIRS, help="by dice")
     pairs = parser.parse_args().pairs
     if not PROGRAM.exists():
-        sys.exit("target/bin/compare is missing: run `rt check compare` at the root")
+        sys.exit("target/bin/compare is missing: run `make target/bin/compare` at the root")
     with tempfile.TemporaryDirectory() as folder:
         calls = Comparison(Path(folder))
         calls.arguments()

@@ -1,4 +1,4 @@
-//! Tells the linker where `rt staticlib bench` puts the proved functions that are measured.
+//! Tells the linker where `tools/library bench` puts the proved functions that are measured.
 
 use std::env;
 use std::path::Path;
@@ -12,7 +12,7 @@ fn main() {
         println!("cargo::rustc-link-search=native={}", folder.display());
     } else {
         println!(
-            "cargo::error=target/staticlib/libbench.a is missing: run `rt staticlib bench` at the repository's root"
+            "cargo::error=target/staticlib/libbench.a is missing: run `tools/library bench` at the repository's root"
         );
     }
 }

@@ -1,5 +1,5 @@
 //! Tells the linker where the proved library is: in the folder that RELAY_LIB_DIR names, or else where
-//! `rt staticlib relay` puts it.
+//! `make library` puts it.
 
 use std::env;
 use std::path::PathBuf;

@@ -91,6 +91,18 @@ static unsigned reports(void)
     return since;
 }
 
+/* Whether memcheck took the last verdict for made of secrets. */
+static bool verdict_followed;
+
+/* Whether there was a report on the verdict and no other. An empty text is not decrypted, so that a
+ * compiler may join the verdict to that test, and then there is none: the answer itself tells that
+ * the verdict was followed. */
+static bool verdict_alone(size_t length)
+{
+    unsigned since = reports();
+    return since == 1 || (since == 0 && length == 0 && verdict_followed);
+}
+
 /* Whether memcheck takes each of these bytes for made of secrets: else it has lost their track. */
 static bool is_secret(const uint8_t *bytes, size_t length)
 {
@@ -133,6 +145,7 @@ static uint32_t chacha_open(size_t rounds, size_t nonce_length, size_t length)
                                      length + TAG, out, length)
             : bench_chacha_poly_extended_open(rounds, key, sizeof key, nonce, nonce_length, body,
                                               length + TAG, out, length);
+    verdict_followed = is_secret((const uint8_t *)&answer, 1);
     make_public(&answer, sizeof answer);
     return answer;
 }
@@ -159,14 +172,14 @@ static void chacha(size_t rounds, size_t nonce_length, size_t length)
 {
     chacha_seal(rounds, nonce_length, length);
     require(chacha_open(rounds, nonce_length, length) == OPENED, "not opened", rounds, length);
-    require(reports() == 1, "opening depends on more than the verdict", rounds, length);
+    require(verdict_alone(length), "opening depends on more than the verdict", rounds, length);
     require(is_secret(out, length), "opening was not followed", rounds, length);
     make_public(out, length);
     require(memcmp(out, text, length) == 0, "opened to another text", rounds, length);
 
     body[length + length % TAG] ^= 1;
     require(chacha_open(rounds, nonce_length, length) == FORGED, "forgery taken", rounds, length);
-    require(reports() == 1, "refusing depends on more than the verdict", rounds, length);
+    require(verdict_alone(length), "refusing depends on more than the verdict", rounds, length);
 }
 
 /* All of a client's datagram, and of a stream's first chunk with its subkey. */

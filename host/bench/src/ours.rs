@@ -1,4 +1,4 @@
-//! The proved static library, made by `rt staticlib bench`.
+//! The proved static library, made by `tools/library bench`.
 
 #[link(name = "bench", kind = "static")]
 extern "C" {
