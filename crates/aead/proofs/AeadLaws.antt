@@ -1,5 +1,6 @@
 -- What is sealed is authentic and opens to the same text, by every cipher; and the parts of the code.
 -- Assumes nothing.
+use Rattle.std.specs.Prelude.{Err, Ok, Result}
 use mathlib.Core.Path.{◌≡◌, sym, ap, ap₂, ◌∙◌}
 use mathlib.Core.Bool.{Bool, true, false, cond}
 use mathlib.Core.List.{List, [], ◌++◌, append-nil}
@@ -14,8 +15,6 @@ use Rattle.aes.proofs.KeyedLaws.{key-most}
 use Rattle.ctr.specs.Gctr.{ciph_at}
 use Rattle.gcm.specs.Gcm as gcm
 use Rattle.gcm.specs.Keyed.{max_text, ciph_of, answer, open_answer, open_out}
-use Rattle.gcm.specs.declared.Opened.{Opened as Answer}
-use Rattle.gcm.specs.declared.Opened.TheVariants.{Text, Forged, Unlawful}
 use Rattle.gcm.proofs.GcmLaws.{length-seal, length-opened, authentic-exactly, seal-authentic, open-seal}
 use Rattle.gcm.proofs.KeyedLaws.{open-lawful, open-decided, answer-text, answer-forged, answer-lawful}
 use Rattle.chacha_poly.specs.Aead as chacha_poly
@@ -23,6 +22,8 @@ use Rattle.chacha_poly.proofs.AeadLaws as laws
 use Rattle.protocol.specs.declared.Cipher.{Cipher}
 use Rattle.protocol.specs.declared.Cipher.TheVariants.{AesGcm, ChaChaPoly}
 use Rattle.aead.specs.Aead.{text_of, seal_by, authentic_by, opened_by, KeyFor}
+use Rattle.gcm.specs.declared.OpenError.{OpenError}
+use Rattle.gcm.specs.declared.OpenError.TheVariants.{Forged, Unlawful}
 
 -- ---- sealed and opened
 
@@ -88,29 +89,29 @@ chacha-pair k key d n m a b at ea la eb =
 -- ---- opened
 
 -- GCM's answer and what it leaves in the buffer, by the tag
-pub record AesOpened (key nonce s out : List ℕ) (a : Answer) (o : List ℕ) : Type 0 where
+pub record AesOpened (key nonce s out : List ℕ) (a : Result Unit OpenError) (o : List ℕ) : Type 0 where
   pub answers : answer true (authentic_by AesGcm key nonce s) ≡ a
   pub leaves : cond (authentic_by AesGcm key nonce s) (put out 0 (opened_by AesGcm key nonce s)) out ≡ o
 
 pub aes-opened : (key nonce s out : List ℕ) → 0 < nk_of (length key) → length nonce ≡ 12 → 16 ≤ length s → length s ≤ max_text
-    → length s - 16 ≤ length out → (a : Answer) (o : List ℕ) → a ≡ open_answer key nonce s out → o ≡ open_out key nonce s out
+    → length s - 16 ≤ length out → (a : Result Unit OpenError) (o : List ℕ) → a ≡ open_answer key nonce s out → o ≡ open_out key nonce s out
     → AesOpened key nonce s out a o
 unfolding authentic_by opened_by
 aes-opened key nonce s out has_key_lem ln tagged long room a o ea eo =
     let d = open-decided key nonce s out (open-lawful key nonce s out has_key_lem ln tagged (omega arith) room) in
     record { answers = d.0 ∙ sym ea; leaves = d.1 ∙ sym eo }
 
-module _ (key nonce s out : List ℕ) (a : Answer) (o : List ℕ) (d : AesOpened key nonce s out a o) where
+module _ (key nonce s out : List ℕ) (a : Result Unit OpenError) (o : List ℕ) (d : AesOpened key nonce s out a o) where
   decided : (b : Bool) → authentic_by AesGcm key nonce s ≡ b
       → (b ≡ authentic_by AesGcm key nonce s) × (o ≡ cond b (put out 0 (opened_by AesGcm key nonce s)) out)
   decided b e = (sym e, sym d.leaves ∙ ap (λ (t : Bool). cond t (put out 0 (opened_by AesGcm key nonce s)) out) e)
 
-  pub aes-text : a ≡ Text → (true ≡ authentic_by AesGcm key nonce s) × (o ≡ put out 0 (opened_by AesGcm key nonce s))
+  pub aes-text : a ≡ (Ok tt) → (true ≡ authentic_by AesGcm key nonce s) × (o ≡ put out 0 (opened_by AesGcm key nonce s))
   aes-text e = decided true (answer-text (authentic_by AesGcm key nonce s) (d.answers ∙ e))
 
-  pub aes-forged : a ≡ Forged → (false ≡ authentic_by AesGcm key nonce s) × (o ≡ out)
+  pub aes-forged : a ≡ (Err Forged) → (false ≡ authentic_by AesGcm key nonce s) × (o ≡ out)
   aes-forged e = decided false (answer-forged (authentic_by AesGcm key nonce s) (d.answers ∙ e))
 
   -- GCM refuses no length here
-  pub aes-lawful : a ≡ Unlawful → ⊥
+  pub aes-lawful : a ≡ (Err Unlawful) → ⊥
   aes-lawful e = answer-lawful (authentic_by AesGcm key nonce s) (d.answers ∙ e)

@@ -7,6 +7,7 @@ ghost use Rattle.aes.specs.Keyed.{nk_of};
 ghost use Rattle.protocol.specs.declared.Cipher.TheVariants.{AesGcm, ChaChaPoly};
 ghost use Rattle.aead.specs.Aead.{tag_length, max_text, text_of, KeyFor, seal_by, authentic_by, opened_by};
 
+use aes::encrypt::Encryptor;
 pub use chacha_poly::TAG;
 use protocol::Cipher;
 
@@ -24,13 +25,18 @@ fn seal_pair_aes(key: &[u8], first: &[u8], second: &[u8], at: usize, body: &mut 
 {
     let sbox = aes_tables::sbox();
     let t = aes_tables::mix_table();
-    let nk = aes::key::key_words(key.len());
+    let nk = aes::key::key_words(key.len()).unwrap();
     let words = aes::key::expand(&sbox, key, nk);
-    let rounds = nk + 6;
+    let aes = Encryptor {
+        t: &t,
+        sbox: &sbox,
+        w: &words,
+        rounds: nk + 6,
+    };
     let mut g = [0u64; 128];
-    gcm::write_hash_table(&mut g, &t, &sbox, &words, rounds);
-    gcm::seal_in_place_at(&t, &sbox, &words, rounds, &g, first, &mut body[..at]);
-    gcm::seal_in_place_at(&t, &sbox, &words, rounds, &g, second, &mut body[at..]);
+    gcm::write_hash_table(&mut g, &aes);
+    gcm::seal_in_place_at(&aes, &g, first, &mut body[..at]);
+    gcm::seal_in_place_at(&aes, &g, second, &mut body[at..]);
 }
 
 fn seal_pair_chacha(n: usize, key: &[u8], first: &[u8], second: &[u8], at: usize, body: &mut [u8])
@@ -82,9 +88,9 @@ fn open_aes(key: &[u8], nonce: &[u8], s: &[u8], out: &mut [u8]) -> bool
         out.old }
 {
     match gcm::open(key, nonce, s, out) {
-        gcm::Opened::Text => true,
-        gcm::Opened::Forged => false,
-        gcm::Opened::Unlawful => false,
+        Ok(()) => true,
+        Err(gcm::OpenError::Forged) => false,
+        Err(gcm::OpenError::Unlawful) => false,
     }
 }
 

@@ -14,7 +14,7 @@ use Rattle.octets.specs.Buffers.{put, ◌⊞◌}
 use Rattle.octets.proofs.BufferLaws.{put_whole}
 use Rattle.aes.specs.Cipher.{sub_bytes, shift_rows, mix_columns, word, round_key, add_round_key, rounds, cipher}
 use Rattle.aes.specs.KeyExpansion.{key_expansion, aes}
-use Rattle.aes.specs.Keyed.{nk_of, lawful, in_place}
+use Rattle.aes.specs.Keyed.{nk_of, KeyLength, lawful, in_place}
 use Rattle.aes.specs.Words.{bytes}
 use Rattle.aes.proofs.RoundLaws.{word-law}
 
@@ -62,12 +62,6 @@ module _ (nk : ℕ) (key l : List ℕ) (expands : map bytes (take (4 * nk + 28) 
 
 -- ---- the lengths of keys
 
--- what a key's length says of Nk
-pub record KeyLength (n nk : ℕ) : Type 0 where
-  pub words : n ≡ 4 * nk
-  pub least : 4 ≤ nk
-  pub most : nk ≤ 8
-
 pub key-length : (n : ℕ) → (nk_of n ≡ 0 → ⊥) → KeyLength n (nk_of n)
 unfolding nk_of
 key-length n = go (eqb n 16) (eqb n 24) (eqb n 32) (eqb→eq n 16) (eqb→eq n 24) (eqb→eq n 32)
@@ -98,13 +92,18 @@ module _ (n : ℕ) (key s : List ℕ) where
   unfolding lawful
   no_key e = ap (λ (k : ℕ). ltb 0 k && eqb (length s) n) e
 
-  pub no-string : (nk_of (length key) ≡ 0 → ⊥) → (length s ≡ n → ⊥) → lawful n key s ≡ false
-  unfolding lawful
-  no-string h e = let k : 0 < nk_of (length key) = omega arith in ap₂ ◌&&◌ (lt-ltb _ _ k) (ne_eqb _ _ e)
+  -- where key_words gave nk
+  module _ (nk : ℕ) (k : (nk ≡ nk_of (length key)) × KeyLength (length key) nk) where
+    has_key : ltb 0 (nk_of (length key)) ≡ true
+    has_key = lt-ltb _ _ (let l = k.1.least in let e = k.0 in omega (arith, l, e))
 
-  pub both-lawful : (nk_of (length key) ≡ 0 → ⊥) → length s ≡ n → lawful n key s ≡ true
-  unfolding lawful
-  both-lawful h e = let k : 0 < nk_of (length key) = omega arith in ap₂ ◌&&◌ (lt-ltb _ _ k) (eq-eqb _ _ e)
+    pub no-string : (length s ≡ n → ⊥) → lawful n key s ≡ false
+    unfolding lawful
+    no-string e = ap₂ ◌&&◌ has_key (ne_eqb _ _ e)
+
+    pub both-lawful : length s ≡ n → lawful n key s ≡ true
+    unfolding lawful
+    both-lawful e = ap₂ ◌&&◌ has_key (eq-eqb _ _ e)
 
 -- ---- a block in place
 
@@ -115,7 +114,7 @@ module _ (key s : List ℕ) (f : ℕ → List ℕ → List ℕ → List ℕ) whe
 
   pub in-place-lawful : 0 < nk_of (length key) → length s ≡ 16 → in_place f key s ≡ f (nk_of (length key)) key s
   unfolding in_place
-  in-place-lawful k l = ap (λ (b : Bool). cond b (f (nk_of (length key)) key s) s) (both-lawful 16 key s (λ e. omega arith) l)
+  in-place-lawful k l = ap (λ (b : Bool). cond b (f (nk_of (length key)) key s) s) (both-lawful 16 key s _ (refl, key-length _ (λ e. omega arith)) l)
 
   -- the block x is read, and y, the same under f, is written in its place
   pub in_place_lem : (nk : ℕ) (o x y : List ℕ) → lawful 16 key s ≡ true → length s ≡ 16 → nk ≡ nk_of (length key) → x ≡ take 16 s

@@ -2,8 +2,8 @@
 -- Assumes nothing.
 use mathlib.Core.Path.{◌≡◌, sym, ap, ◌∙◌}
 use mathlib.Core.List.{List, [], ◌∷◌, ◌++◌, map}
-use Prim.Native.Nat.{ℕ, ◌+◌, ◌-◌, ◌*◌, ◌<◌}
-use native.Mathlib.Numerals.{add-one}
+use Prim.Native.Nat.{ℕ, zero, suc, ◌+◌, ◌-◌, ◌*◌, ◌<◌}
+use native.Mathlib.Omega.{arith}
 use lib.Bits.{bit_xor}
 use lib.ListN.{get_or, get_or-map}
 use Rattle.octets.specs.Buffers.{◌⊞◌}
@@ -66,11 +66,16 @@ round-key-law l r =
 
 -- ---- the cipher
 
--- one round more
-pub round-law : (w : List (List ℕ)) (n : ℕ) (s₀ s k r : List ℕ) → s ≡ rounds w n s₀ → k ≡ round_key w (n + 1)
-    → r ≡ mix_columns (shift_rows (sub_bytes s)) ⊞ k → r ≡ rounds w (n + 1) s₀
+-- round i, after those before it
+pub round-law : (w : List (List ℕ)) (i : ℕ) (s₀ s k r : List ℕ) → 0 < i → s ≡ rounds w (i - 1) s₀ → k ≡ round_key w i
+    → r ≡ mix_columns (shift_rows (sub_bytes s)) ⊞ k → r ≡ rounds w (i + 1 - 1) s₀
 unfolding rounds add_round_key
-round-law w n s₀ s k r es ek er = er ∙ (λ i. mix_columns (shift_rows (sub_bytes (es i))) ⊞ ek i) ∙ rw add-one
+round-law w zero s₀ s k r h es ek er = absurd (omega arith)
+round-law w (suc n) s₀ s k r h es ek er =
+    let here : suc n + 1 - 1 ≡ suc n = omega arith in
+    let before : suc n - 1 ≡ n = omega arith in
+    let es' = rw before at es in
+    rw here (er ∙ (λ i. mix_columns (shift_rows (sub_bytes (es' i))) ⊞ ek i))
 
 -- the last round
 pub cipher-law : (w : List (List ℕ)) (nr n : ℕ) (x k₀ s₀ s k r : List ℕ) → k₀ ≡ round_key w 0 → s₀ ≡ x ⊞ k₀ → n ≡ nr - 1 → s ≡ rounds w n s₀

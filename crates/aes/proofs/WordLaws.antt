@@ -4,9 +4,12 @@ use mathlib.Core.Path.{◌≡◌, sym, ap, ◌∙◌}
 use mathlib.Core.List.{List, [], ◌∷◌, ◌++◌}
 use Prim.Native.Nat.{ℕ, ◌+◌, ◌*◌, ◌/◌, ◌%◌, ◌^◌, ◌≤◌, ◌<◌}
 use native.Mathlib.Omega.{arith}
-use lib.Bits.{bit_xor, xor_shr, xor_mod}
+use lib.Bits.{bit_or, bit_xor, xor_shr, xor_mod}
 use lib.ListN.{length, take, drop, length-drop}
 use lib.Seq.{drop-drop, take-add, length-take-le}
+use Rattle.std.specs.Int.{rotate_left}
+use Rattle.std.proofs.Common.{w32}
+use Rattle.std.proofs.lemmas.Nat.{or_shifted}
 use Rattle.octets.specs.Buffers.{Octets, put, ◌⊞◌}
 use Rattle.octets.specs.Numbers.{le, to_le}
 use Rattle.octets.proofs.BufferLaws.{octets-nil, octets-cons, octets-take, octets-drop, put-put}
@@ -54,22 +57,46 @@ module _ (w : ℕ) (h : w < 2 ^ 32) where
   byte : (n : ℕ) → n % 256 < 256
   byte n = omega arith
 
-  pub bytes-rotate1 : bytes (w / 16777216 + w % 16777216 * 256) ≡ turned 1 (bytes w)
+  rotated1 : rotate_left w32 w 8 ≡ w / 16777216 + w % 16777216 * 256
+  rotated1 =
+      let high : w * 256 % 2 ^ 32 ≡ w % 16777216 * 2 ^ 8 = omega arith in
+      let low : w / 16777216 < 2 ^ 8 = omega arith in
+      let sum : w % 16777216 * 2 ^ 8 + w / 16777216 ≡ w / 16777216 + w % 16777216 * 256 = omega arith in
+      ap (λ (x : ℕ). bit_or x (w / 16777216)) high ∙ or_shifted (w % 16777216) 8 (w / 16777216) low ∙ sum
+
+  pub bytes-rotate1 : bytes (rotate_left w32 w 8) ≡ turned 1 (bytes w)
   unfolding turned
   bytes-rotate1 =
-      ap (λ (x : ℕ). bytes (x / 16777216 + x % 16777216 * 256)) whole
+      ap bytes rotated1
+      ∙ ap (λ (x : ℕ). bytes (x / 16777216 + x % 16777216 * 256)) whole
       ∙ ap bytes (column-rotate1 _ _ _ _ (byte _) (byte _) (byte _) (byte _)) ∙ bytes-column _ _ _ _ (byte _) (byte _) (byte _) (byte _)
 
-  pub bytes-rotate2 : bytes (w / 65536 + w % 65536 * 65536) ≡ turned 2 (bytes w)
+  rotated2 : rotate_left w32 w 16 ≡ w / 65536 + w % 65536 * 65536
+  rotated2 =
+      let high : w * 65536 % 2 ^ 32 ≡ w % 65536 * 2 ^ 16 = omega arith in
+      let low : w / 65536 < 2 ^ 16 = omega arith in
+      let sum : w % 65536 * 2 ^ 16 + w / 65536 ≡ w / 65536 + w % 65536 * 65536 = omega arith in
+      ap (λ (x : ℕ). bit_or x (w / 65536)) high ∙ or_shifted (w % 65536) 16 (w / 65536) low ∙ sum
+
+  pub bytes-rotate2 : bytes (rotate_left w32 w 16) ≡ turned 2 (bytes w)
   unfolding turned
   bytes-rotate2 =
-      ap (λ (x : ℕ). bytes (x / 65536 + x % 65536 * 65536)) whole
+      ap bytes rotated2
+      ∙ ap (λ (x : ℕ). bytes (x / 65536 + x % 65536 * 65536)) whole
       ∙ ap bytes (column-rotate2 _ _ _ _ (byte _) (byte _) (byte _) (byte _)) ∙ bytes-column _ _ _ _ (byte _) (byte _) (byte _) (byte _)
 
-  pub bytes-rotate3 : bytes (w / 256 + w % 256 * 16777216) ≡ turned 3 (bytes w)
+  rotated3 : rotate_left w32 w 24 ≡ w / 256 + w % 256 * 16777216
+  rotated3 =
+      let high : w * 16777216 % 2 ^ 32 ≡ w % 256 * 2 ^ 24 = omega arith in
+      let low : w / 256 < 2 ^ 24 = omega arith in
+      let sum : w % 256 * 2 ^ 24 + w / 256 ≡ w / 256 + w % 256 * 16777216 = omega arith in
+      ap (λ (x : ℕ). bit_or x (w / 256)) high ∙ or_shifted (w % 256) 24 (w / 256) low ∙ sum
+
+  pub bytes-rotate3 : bytes (rotate_left w32 w 24) ≡ turned 3 (bytes w)
   unfolding turned
   bytes-rotate3 =
-      ap (λ (x : ℕ). bytes (x / 256 + x % 256 * 16777216)) whole
+      ap bytes rotated3
+      ∙ ap (λ (x : ℕ). bytes (x / 256 + x % 256 * 16777216)) whole
       ∙ ap bytes (column-rotate3 _ _ _ _ (byte _) (byte _) (byte _) (byte _)) ∙ bytes-column _ _ _ _ (byte _) (byte _) (byte _) (byte _)
 
 -- ---- a sum of words

@@ -58,18 +58,28 @@ pub fn final_round(sbox: &[u8; 256], s: Block, k: Block) -> Block
     )
 }
 
-// CIPHER, at an expanded key and its number of rounds.
-pub fn cipher(t: &[u32; 256], sbox: &[u8; 256], w: &[u32; 60], rounds: usize, x: Block) -> Block
-    requires { CanEncrypt t.now sbox.now rounds }
-    ensures { block_bytes result ≡ cipher_of rounds (map bytes w.now) (block_bytes x) }
-{
-    let mut s = add(x, round_key(w, 0));
-    let mut i = 0;
-    while i < rounds - 1 {
-        s = round(t, s, round_key(w, i + 1));
-        i += 1;
+// AES at an expanded key, from lent tables.
+#[derive(Clone, Copy)]
+pub struct Encryptor<'a> {
+    pub t: &'a [u32; 256],
+    pub sbox: &'a [u8; 256],
+    pub w: &'a [u32; 60],
+    pub rounds: usize,
+    ghost can_encrypt: { CanEncrypt t.now sbox.now rounds },
+}
+
+impl Encryptor<'_> {
+    // CIPHER.
+    pub fn cipher(&self, x: Block) -> Block
+        ensures { block_bytes result
+            ≡ cipher_of self.now.rounds (map bytes self.now.w.now) (block_bytes x) }
+    {
+        let mut s = add(x, round_key(self.w, 0));
+        for i in 1..self.rounds {
+            s = round(self.t, s, round_key(self.w, i));
+        }
+        final_round(self.sbox, s, round_key(self.w, self.rounds))
     }
-    final_round(sbox, s, round_key(w, rounds))
 }
 
 // Encrypts a block in place under a key of 16, 24 or 32 bytes, from lent tables. Any other length of either is refused: false,
@@ -80,15 +90,20 @@ pub fn encrypt_with(t: &[u32; 256], sbox: &[u8; 256], key: &[u8], block: &mut [u
     ensures value { result ≡ lawful 16 key.now block.old }
     ensures block_after { block.new ≡ in_place aes key.now block.old }
 {
-    let nk = key_words(key.len());
-    if nk == 0 {
+    let Some(nk) = key_words(key.len()) else {
         return false;
-    }
+    };
     if block.len() != 16 {
         return false;
     }
     let w = expand(sbox, key, nk);
-    let x = cipher(t, sbox, &w, nk + 6, read_block(block, 0));
+    let aes = Encryptor {
+        t,
+        sbox,
+        w: &w,
+        rounds: nk + 6,
+    };
+    let x = aes.cipher(read_block(block, 0));
     write_block(block, 0, x);
     true
 }

@@ -1,24 +1,25 @@
 // The key expansion, FIPS 197 section 5.2.
-ghost use Rattle.std.specs.Prelude.{◌≡◌, cond, map, ℕ, ◌+◌, ◌-◌, ◌*◌, ◌/◌, ◌%◌, ◌≤◌, eqb, length, take, drop, replicate};
+ghost use Rattle.std.specs.Prelude.{◌≡◌, cond, map, ℕ, ◌+◌, ◌-◌, ◌*◌, ◌/◌, ◌%◌, ◌≤◌, eqb, length, take, drop, replicate, IfSome, IfNone};
 ghost use Rattle.aes_tables.specs.Field.{x_times};
 ghost use Rattle.aes_tables.specs.SBox.{s_box};
 ghost use Rattle.aes_tables.specs.Tables.{IsTable};
 ghost use Rattle.aes.specs.KeyExpansion.{sub_word, rot_word, x_power, temp as temp_of, key_expansion};
-ghost use Rattle.aes.specs.Keyed.{nk_of};
+ghost use Rattle.aes.specs.Keyed.{nk_of, KeyLength};
 ghost use Rattle.aes.specs.Words.{bytes};
 
 use super::encrypt::last_column;
 use super::word::{pack, rotate3};
 
-// Nk for a key of so many bytes; 0 where AES has no such key.
-pub fn key_words(len: usize) -> usize
-    ensures { result ≡ nk_of len }
+// Nk for a key of so many bytes, where AES has such a key.
+pub fn key_words(len: usize) -> Option<usize>
+    ensures some { IfSome result (λ nk. (nk ≡ nk_of len) × KeyLength len nk) }
+    ensures none { IfNone result (nk_of len ≡ 0) }
 {
     match len {
-        16 => 4,
-        24 => 6,
-        32 => 8,
-        _ => 0,
+        16 => Some(4),
+        24 => Some(6),
+        32 => Some(8),
+        _ => None,
     }
 }
 
@@ -88,21 +89,19 @@ pub fn expand(sbox: &[u8; 256], key: &[u8], nk: usize) -> [u32; 60]
     ensures result_value_2 { drop (4 * nk + 28) result ≡ replicate (60 - (4 * nk + 28)) 0 }
 {
     let mut w = [0u32; 60];
-    let mut i = 0;
-    while i < nk {
+    // An index: once an iter_mut is over that goes beside another iterator, a proof knows the array's length and not its words.
+    for i in 0..nk {
         w[i] = pack(key[4 * i], key[4 * i + 1], key[4 * i + 2], key[4 * i + 3]);
-        i += 1;
     }
     let mut t = w[nk - 1];
     let mut at = 0;
     let mut c = 1;
-    let mut n = 0;
-    while n < 3 * nk + 28 {
+    // An index: word nk + n is made of word n of the same array.
+    for n in 0..3 * nk + 28 {
         let x = temp(sbox, nk, at, c, t);
         t = w[n] ^ x.word;
         w[nk + n] = t;
         c = x.constant;
-        n += 1;
         at += 1;
         if at == nk {
             at = 0;

@@ -29,26 +29,26 @@ pub fn byte3(w: u32) -> u8
 pub fn pack(a: u8, b: u8, c: u8, d: u8) -> u32
     ensures { bytes result ≡ a ∷ b ∷ c ∷ d ∷ [] }
 {
-    a as u32 + b as u32 * 256 + c as u32 * 65536 + d as u32 * 16777216
+    u32::from_le_bytes([a, b, c, d])
 }
 
 // Rotations: the last one, two and three bytes come to the front.
 pub fn rotate1(w: u32) -> u32
     ensures { bytes result ≡ turned 1 (bytes w) }
 {
-    w / 16777216 + w % 16777216 * 256
+    w.rotate_left(8)
 }
 
 pub fn rotate2(w: u32) -> u32
     ensures { bytes result ≡ turned 2 (bytes w) }
 {
-    w / 65536 + w % 65536 * 65536
+    w.rotate_left(16)
 }
 
 pub fn rotate3(w: u32) -> u32
     ensures { bytes result ≡ turned 3 (bytes w) }
 {
-    w / 256 + w % 256 * 16777216
+    w.rotate_left(24)
 }
 
 fn byte_entry(t: &[u8; 256], x: u8) -> u8

@@ -65,10 +65,8 @@ fn inv_cipher(t: &[u32; 256], sbox: &[u8; 256], w: &[u32; 60], rounds: usize, x:
     ensures { block_bytes result ≡ inv_cipher_of rounds (map bytes w.now) (block_bytes x) }
 {
     let mut s = add(x, round_key(w, rounds));
-    let mut i = rounds - 1;
-    while 0 < i {
+    for i in (1..rounds).rev() {
         s = mix_columns(t, sub_round(sbox, s, round_key(w, i)));
-        i -= 1;
     }
     sub_round(sbox, s, round_key(w, 0))
 }
@@ -79,10 +77,9 @@ pub fn decrypt_with(key_sbox: &[u8; 256], key: &[u8], block: &mut [u8]) -> bool
     ensures value { result ≡ lawful 16 key.now block.old }
     ensures block_after { block.new ≡ in_place inv_aes key.now block.old }
 {
-    let nk = key_words(key.len());
-    if nk == 0 {
+    let Some(nk) = key_words(key.len()) else {
         return false;
-    }
+    };
     if block.len() != 16 {
         return false;
     }

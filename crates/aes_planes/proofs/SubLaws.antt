@@ -53,9 +53,13 @@ row_step t₀ s r j et ey ex eu ev =
     let e = ex ∙ ap (sbox_of 0xffffffff) ey in
     ev ∙ (λ i. store_of ((eu ∙ (λ i. store_of (et i) (64 * r + j) (e i))) i) (64 * r + 4 + j) (e i)) ∙ sym (ap (row_of t₀ s r) (add-one j))
 
-pub sub-step : (t₀ s : List ℕ) (n : ℕ) {t u : List ℕ} → t ≡ sub_of t₀ s n → u ≡ row_of t s (3 - n) 4 → u ≡ sub_of t₀ s (n + 1)
+-- row r - 1, after the rows from r on
+pub sub-step : (t₀ s : List ℕ) (r : ℕ) {t u : List ℕ} → 0 < r → r ≤ 4 → t ≡ sub_of t₀ s (4 - r) → u ≡ row_of t s (r - 1) 4 → u ≡ sub_of t₀ s (4 - (r - 1))
 unfolding sub_of
-sub-step t₀ s n et eu = eu ∙ ap (λ (x : List ℕ). row_of x s (3 - n) 4) et ∙ sym (ap (sub_of t₀ s) (add-one n))
+sub-step t₀ s r {t} {u} low high et eu =
+    let row : r - 1 ≡ 3 - (4 - r) = omega arith in
+    let next : 4 - (r - 1) ≡ suc (4 - r) = omega arith in
+    rw next (eu ∙ (λ i. row_of (et i) s (row i) 4))
 
 -- ---- eight planes stored
 

@@ -57,7 +57,7 @@ pub fn sub_bytes(t: &mut [u32; 256], s: &[u32; 128])
     ensures t_len { length t.new ≡ 256 }
     ensures t_after { t.new ≡ sub_of t.old s.now 4 }
 {
-    for r in 0..4 {
-        sub_row(t, s, 3 - r);
+    for r in (0..4).rev() {
+        sub_row(t, s, r);
     }
 }

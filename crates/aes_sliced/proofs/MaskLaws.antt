@@ -1,6 +1,6 @@
 -- The masks hold the expanded key, for every block.
 -- Assumes nothing.
-use Rattle.std.proofs.Common.{◌≡◌, ℕ, zero, suc, ◌+◌, ◌*◌, ◌/◌, ◌%◌, ◌^◌, ◌<◌, ◌≤◌, cond, eqb, List, map, length, get_or, set, sym, refl, ap, ◌∙◌, subst, ⊎_elim, not-suc-le-zero, add-one, arith, lit≤, eqb→eq, length-set, get_or-set_other, get_or-set_same}
+use Rattle.std.proofs.Common.{◌≡◌, ℕ, zero, suc, ◌+◌, ◌-◌, ◌*◌, ◌/◌, ◌%◌, ◌^◌, ◌<◌, ◌≤◌, cond, eqb, List, map, length, get_or, set, sym, refl, ap, ◌∙◌, subst, ⊎_elim, not-suc-le-zero, add-one, arith, lit≤, eqb→eq, length-set, get_or-set_other, get_or-set_same}
 use Rattle.octets.proofs.Table.{at_each}
 use Rattle.aes_tables.specs.SBox.{bit}
 use Rattle.aes.specs.Words.{bytes}
@@ -103,12 +103,12 @@ masks-keys κ w n l hn =
           ∙ words-state r w ∙ round-key-law w r;
     }
 
--- 0 less a bit
-pub mask-law : (x b r : ℕ) → r < 2 ^ 32 → (r + x / 2 ^ b % 2) % 2 ^ 32 ≡ 0 → r ≡ mask_word x b
+-- 0 less a bit, modulo 2^32
+pub mask-law : (x b : ℕ) → (0 + (2 ^ 32 - x / 2 ^ b % 2)) % 2 ^ 32 ≡ mask_word x b
 unfolding mask_word
-mask-law x b r hr e = go (x / 2 ^ b % 2) (omega arith) e
+mask-law x b = go (x / 2 ^ b % 2) (omega arith)
   where
-    go : (y : ℕ) → y < 2 → (r + y) % 2 ^ 32 ≡ 0 → r ≡ cond (eqb y 0) 0 0xffffffff
-    go zero hy f = omega arith
-    go (suc zero) hy f = omega arith
-    go (suc (suc y)) hy f = absurd (omega arith)
+    go : (y : ℕ) → y < 2 → (0 + (2 ^ 32 - y)) % 2 ^ 32 ≡ cond (eqb y 0) 0 0xffffffff
+    go zero hy = omega arith
+    go (suc zero) hy = omega arith
+    go (suc (suc y)) hy = absurd (omega arith)

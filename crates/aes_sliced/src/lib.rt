@@ -16,7 +16,7 @@ fn mask(x: u32, b: u32) -> u32
     requires { b < 32 }
     ensures { result ≡ mask_word x b }
 {
-    std::num::wrapping_sub_u32(0, (x >> b) % 2)
+    0u32.wrapping_sub((x >> b) % 2)
 }
 
 fn mask_bit(k: &mut [u32; 1920], w: &[u32; 60], b: u32, words: usize)
@@ -27,6 +27,7 @@ fn mask_bit(k: &mut [u32; 1920], w: &[u32; 60], b: u32, words: usize)
     ensures k_after { k.new ≡ mask_bit_of k.old w.now b words }
 {
     let at = 60 * b as usize;
+    // An index: once an iter_mut is over that goes beside another iterator, a proof knows the array's length and not its words.
     for i in 0..words {
         k[at + i] = mask(w[i], b);
     }
@@ -80,8 +81,9 @@ fn add_key(s: &mut [u32; 128], k: &[u32; 1920], i: usize)
     ensures s_len_2 { length s.new ≡ 128 }
     ensures s_after { s.new ≡ add_of s.old k.now i 4 }
 {
+    // An index, for the same reason.
     for j in 0..4 {
-        s[4 * i + j] = s[4 * i + j] ^ k[60 * i + j];
+        s[4 * i + j] ^= k[60 * i + j];
     }
 }
 

@@ -19,6 +19,7 @@ fn exchange(s: &mut [u32; 128], at: usize, d: usize, m: u32)
     ensures s_len_2 { length s.new ≡ 128 }
     ensures s_after { s.new ≡ exchange_of s.old at d m (4 * d) }
 {
+    // An index: both rows are of one array.
     for x in 0..4 * d {
         let a = s[at + x];
         let b = s[at + 4 * d + x];

@@ -1,5 +1,5 @@
 -- The numbers that the exported functions answer.
-use Rattle.std.specs.Prelude.{Bool, true, false, cond, ◌&&◌, List, ℕ, ◌-◌, eqb, leb, length}
+use Rattle.std.specs.Prelude.{Bool, true, false, cond, ◌&&◌, List, ℕ, ◌-◌, eqb, leb, length, Err, Ok, Result}
 use Rattle.octets.specs.Buffers.{put}
 use Rattle.octets.specs.Numbers.{be, to_be}
 use Rattle.ghash.specs.Ghash.{blocks, ghash}
@@ -9,32 +9,28 @@ use Rattle.protocol.specs.Method.{cipher_of}
 use Rattle.protocol.specs.Subkey.{subkey}
 use Rattle.session_record.specs.declared.Peer.{Peer}
 use Rattle.session_book.specs.Call.{Answer, refused, opened}
-use Rattle.datagram_seal.specs.declared.Sealed.{Sealed}
-use Rattle.datagram_seal.specs.declared.Sealed.TheVariants.{Datagram, Refused}
 use Rattle.datagram_seal.specs.Sealing.{client_sender, seal_answer, datagram, seal_out}
 use Rattle.datagram_read.specs.declared.Header.{Header}
 use Rattle.protocol.specs.Refusal.{refusal_number}
 use Rattle.stream_pieces.specs.declared.Subkey.{Subkey}
 use Rattle.stream_seal.specs.declared.Sender.{Sender}
-use Rattle.stream_seal.specs.declared.Sealed.{Sealed as ChunkSealed}
-use Rattle.stream_seal.specs.declared.Sealed.TheVariants.{Bytes, Refused as ChunkRefused}
 use Rattle.stream_seal.specs.Sealing.{chunk_answer, chunk, sender_key, seal_out as chunk_out}
 use Rattle.stream_open.specs.declared.Turn.TheVariants.{Payload}
 use Rattle.stream_open.specs.declared.Receiver.{Receiver}
-use Rattle.stream_open.specs.declared.Stepped.{Stepped}
-use Rattle.stream_open.specs.declared.Stepped.TheVariants.{Opened as StepOpened, Refused as StepRefused}
-use Rattle.gcm.specs.declared.Opened.{Opened}
-use Rattle.gcm.specs.declared.Opened.TheVariants.{Text, Forged, Unlawful}
+use Rattle.gcm.specs.declared.OpenError.{OpenError}
+use Rattle.protocol.specs.declared.Refusal.{Refusal}
+use Rattle.stream_open.specs.declared.Chunk.{Chunk}
+use Rattle.gcm.specs.declared.OpenError.TheVariants.{Forged, Unlawful}
 
 -- 0 where the arguments are lawful, and 1
 abbrev pub answer : Bool → ℕ
 answer true = 0
 answer false = 1
 
-abbrev pub number : Opened → ℕ
-number Text = 0
-number Unlawful = 1
-number Forged = 2
+abbrev pub number : Result Unit OpenError → ℕ
+number (Ok tt) = 0
+number (Err Unlawful) = 1
+number (Err Forged) = 2
 
 -- GHASH asks for a hash key of 16 bytes and room for 16
 unfoldable pub hash_lawful : List ℕ → List ℕ → Bool
@@ -76,7 +72,7 @@ unfoldable pub verdict_out : (fits good : Bool) → (text out : List ℕ) → Li
 verdict_out fits good text out = cond (fits && good) (put out 0 text) out
 
 -- what is answered to a client's first datagram, without padding, and what is written
-abbrev pub first_datagram : (method : ℕ) → (key nonce : List ℕ) → (id : ℕ) → (address payload out : List ℕ) → Sealed
+abbrev pub first_datagram : (method : ℕ) → (key nonce : List ℕ) → (id : ℕ) → (address payload out : List ℕ) → Result ℕ Refusal
 first_datagram method key nonce id address payload out =
     seal_answer method (length key) (length nonce) (client_sender id) address 0 (length payload) (length out)
 
@@ -86,9 +82,9 @@ first_datagram_out method key nonce id clock address payload out =
     (datagram (cipher_of method) key nonce (client_sender id) clock address 0 payload) out
 
 -- the length of a sealed datagram, and 0 for a refusal
-abbrev pub sealed_number : Sealed → ℕ
-sealed_number (Datagram n) = n
-sealed_number (Refused r) = 0
+abbrev pub sealed_number : Result ℕ Refusal → ℕ
+sealed_number (Ok n) = n
+sealed_number (Err r) = 0
 
 -- 0 for an opened datagram, and the refusal's number
 abbrev pub opened_number : Answer Header → ℕ
@@ -113,7 +109,7 @@ abbrev pub payload_receiver : ℕ → ℕ → Subkey → Receiver
 payload_receiver method n w = record { method = method; turn = Payload n; counter = 1; subkey = w }
 
 -- what is answered to a stream's first chunk, and what is written
-abbrev pub first_chunk : (method : ℕ) → Subkey → (payload out : List ℕ) → ChunkSealed
+abbrev pub first_chunk : (method : ℕ) → Subkey → (payload out : List ℕ) → Result (ℕ × Sender) Refusal
 first_chunk method w payload out = chunk_answer (first_sender method w) (length payload) (length out)
 
 abbrev pub first_chunk_out : (method : ℕ) → Subkey → (payload out : List ℕ) → List ℕ
@@ -121,11 +117,11 @@ first_chunk_out method w payload out =
     chunk_out (first_chunk method w payload out) (chunk (sender_key (first_sender method w)) 0 payload) out
 
 -- the number of bytes sealed, and 0 for a refusal
-abbrev pub chunk_number : ChunkSealed → ℕ
-chunk_number (Bytes n s) = n
-chunk_number (ChunkRefused r) = 0
+abbrev pub chunk_number : Result (ℕ × Sender) Refusal → ℕ
+chunk_number (Ok (n, s)) = n
+chunk_number (Err r) = 0
 
 -- 0 for an opened piece, and the refusal's number
-abbrev pub stepped_number : Stepped → ℕ
-stepped_number (StepOpened c) = 0
-stepped_number (StepRefused r) = refusal_number r
+abbrev pub stepped_number : Result Chunk Refusal → ℕ
+stepped_number (Ok c) = 0
+stepped_number (Err r) = refusal_number r

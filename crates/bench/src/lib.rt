@@ -1,8 +1,7 @@
-// What the benchmark calls, one primitive at a time.
+// What the benchmark calls, one primitive at a time. Functions of one shape stay apart: C calls each by its name.
 #![tactic(auto)]
 
-ghost use Rattle.std.specs.Prelude.{◌≡◌, length};
-ghost use Rattle.std.proofs.Math.Option.{none};
+ghost use Rattle.std.specs.Prelude.{◌≡◌, length, None};
 ghost use Rattle.bench.specs.Answer.{answer, number, hash_lawful, hash_out, subkey_lawful, subkey_out};
 ghost use Rattle.bench.specs.Answer.{tag_fits, where_tag_fits, text_fits, verdict_number, verdict_out};
 ghost use Rattle.bench.specs.Answer.{first_datagram, first_datagram_out, sealed_number, opened_number, nobody};
@@ -19,11 +18,11 @@ ghost use Rattle.poly1305.specs.Poly1305.{mac};
 ghost use Rattle.chacha_poly.specs.Aead as aead;
 ghost use Rattle.chacha_poly.specs.Extended as extended;
 
-use datagram_seal::{Sealed, Sender};
-use gcm::Opened;
+use datagram_seal::Sender;
+use gcm::OpenError;
 use ghash::Element;
 use session_table::Peer;
-use stream_open::{Receiver, Stepped, Turn};
+use stream_open::{Receiver, Turn};
 use stream_pieces::Subkey;
 
 // AES in counter mode, in place: 0, or 1 and nothing written where the key is not of 16, 24 or 32 bytes or the nonce not of
@@ -60,9 +59,9 @@ pub extern "C" fn bench_gcm_open(key: &[u8], nonce: &[u8], s: &[u8], out: &mut [
     ensures out_after { out.new ≡ open_out key.now nonce.now s.now out.old }
 {
     match gcm::open(key, nonce, s, out) {
-        Opened::Text => 0,
-        Opened::Unlawful => 1,
-        Opened::Forged => 2,
+        Ok(()) => 0,
+        Err(OpenError::Unlawful) => 1,
+        Err(OpenError::Forged) => 2,
     }
 }
 
@@ -270,8 +269,8 @@ pub extern "C" fn bench_datagram_seal(
     );
     let answer = done.answer;
     match answer {
-        Sealed::Datagram(n) => n,
-        Sealed::Refused(_) => 0,
+        Ok(n) => n,
+        Err(_) => 0,
     }
 }
 
@@ -285,13 +284,13 @@ pub extern "C" fn bench_datagram_open(
     table: &mut [u64],
     out: &mut [u8],
 ) -> u64
-    ensures value { result ≡ opened_number (deciding.open_answer method key.now none clock nobody s.now
+    ensures value { result ≡ opened_number (deciding.open_answer method key.now None clock nobody s.now
         table.old out.old) }
     ensures out_after { out.new
-        ≡ deciding.open_out method key.now none clock nobody s.now table.old
+        ≡ deciding.open_out method key.now None clock nobody s.now table.old
         out.old }
     ensures table_after { table.new
-        ≡ deciding.open_table method key.now none clock nobody s.now table.old
+        ≡ deciding.open_table method key.now None clock nobody s.now table.old
         out.old }
 {
     let peer = Peer {
@@ -300,8 +299,8 @@ pub extern "C" fn bench_datagram_open(
         port: 0,
     };
     match datagram_open::open_server(method, key, clock, peer, s, table, out) {
-        datagram_open::Opened::Datagram(_) => 0,
-        datagram_open::Opened::Refused(refusal) => refusal.number(),
+        Ok(_) => 0,
+        Err(refusal) => refusal.number(),
     }
 }
 
@@ -330,8 +329,8 @@ pub extern "C" fn bench_chunk_seal(
         },
     };
     match stream_seal::seal_chunk(sender, payload, out) {
-        stream_seal::Sealed::Bytes(n, _) => n,
-        stream_seal::Sealed::Refused(_) => 0,
+        Ok((n, _)) => n,
+        Err(_) => 0,
     }
 }
 
@@ -366,7 +365,7 @@ pub extern "C" fn bench_chunk_open(
     let step = stream_open::open_chunk(receiver, s, out);
     let answer = step.answer;
     match answer {
-        Stepped::Opened(_) => 0,
-        Stepped::Refused(refusal) => refusal.number(),
+        Ok(_) => 0,
+        Err(refusal) => refusal.number(),
     }
 }

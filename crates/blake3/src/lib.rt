@@ -44,7 +44,8 @@ const SUBKEY_CONTEXT_KEY: [u32; 8] = [
     0x5f62_6ac7,
 ];
 
-// What a derivation answers: 64 bytes; or not ok, and zeros.
+// What a derivation answers: 64 bytes; or not ok, and zeros. A flag beside the bytes and no Option, since `derived` promises the
+// zeros of a refusal.
 #[derive(Clone, Copy)]
 pub struct Derived {
     pub ok: bool,
@@ -52,6 +53,7 @@ pub struct Derived {
 }
 
 // The sixteen words of a block, with zeros behind it.
+#[inline(always)]
 pub fn block_words(s: &[u8]) -> [u32; 16]
     ensures { result ≡ block_words s.now }
 {
@@ -86,8 +88,8 @@ pub fn write_words(out: &mut [u8], o: &[u32])
     requires { 4 * length o.now ≤ length out.old }
     ensures { out.new ≡ put out.old 0 (word_bytes o.now) }
 {
-    for i in 0..o.len() {
-        octets::write_u32_le(out, 4 * i, o[i]);
+    for (i, word) in o.iter().enumerate() {
+        octets::write_u32_le(out, 4 * i, *word);
     }
 }
 

@@ -1,5 +1,6 @@
 // The compression function of BLAKE3, on a state that is held as its four columns; a message is held in the same way. The compiler
-// keeps structs in registers, and arrays in memory.
+// keeps structs in registers, and arrays in memory. blake3_lanes has the same rounds: where they have two callers, they are in line
+// by the hint alone (docs/PERFORMANCE.md).
 #![tactic(auto)]
 
 ghost use Rattle.std.specs.Prelude.{◌≡◌};
@@ -16,6 +17,7 @@ pub struct State {
     pub s: Quad,
 }
 
+#[inline(always)]
 fn mix_columns(t: State, m: State) -> State
     ensures { words result ≡ columns (words t) (words m) }
 {
@@ -27,6 +29,7 @@ fn mix_columns(t: State, m: State) -> State
 }
 
 // The words of four columns that lie on a diagonal which starts in the first.
+#[inline(always)]
 fn diagonal(a: Quad, b: Quad, c: Quad, d: Quad) -> Quad
     ensures { result ≡ diagonal_of a b c d }
 {
@@ -39,6 +42,7 @@ fn diagonal(a: Quad, b: Quad, c: Quad, d: Quad) -> Quad
 }
 
 // Of four diagonals, the columns are the diagonals that run the other way.
+#[inline(always)]
 fn mix_diagonals(t: State, m: State) -> State
     ensures { words result ≡ diagonals (words t) (words m) }
 {
@@ -54,14 +58,16 @@ fn mix_diagonals(t: State, m: State) -> State
     }
 }
 
-fn round(t: State, m: State) -> State
+#[inline(always)]
+pub fn round(t: State, m: State) -> State
     ensures { words result ≡ one_round (words t) (words m) }
 {
     mix_diagonals(mix_columns(t, m), m)
 }
 
 // The message words in the next round's order.
-fn permute(m: State) -> State
+#[inline(always)]
+pub fn permute(m: State) -> State
     ensures { words result ≡ permuted (words m) }
 {
     State {
@@ -97,19 +103,15 @@ fn seven_rounds(t: State, m: State) -> State
 {
     let mut v = t;
     let mut w = m;
-    let mut left: u32 = 7;
-    while 0 < left {
-        let next = round(v, w);
-        v = next;
-        let order = permute(w);
-        w = order;
-        left -= 1;
+    for _ in 0..7u32 {
+        v = round(v, w);
+        w = permute(w);
     }
     v
 }
 
 // The state before the first round.
-fn start(h: [u32; 8], t: u64, b: u32, d: u32) -> State
+pub fn start(h: [u32; 8], t: u64, b: u32, d: u32) -> State
     ensures { words result ≡ initial h t b d }
 {
     State {
@@ -140,7 +142,7 @@ fn start(h: [u32; 8], t: u64, b: u32, d: u32) -> State
     }
 }
 
-fn columns_of(m: [u32; 16]) -> State
+pub fn columns_of(m: [u32; 16]) -> State
     ensures { words result ≡ sixteen m }
 {
     State {

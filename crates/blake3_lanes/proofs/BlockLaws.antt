@@ -8,7 +8,7 @@ use native.Mathlib.Omega.{arith}
 use lib.ListN.{length, take, drop, length-drop}
 use lib.Seq.{take-take, drop-drop, length-take-le}
 use Rattle.blake3_compression.specs.Compression.{first_eight, rounds, initial, final, compressed, iv}
-use Rattle.blake3_compression.proofs.CompressionLaws.{rounds-step, rounds-none}
+use Rattle.blake3_compression.proofs.CompressionLaws.{rounds-more, rounds-done}
 use Rattle.blake3.specs.Words.{block_words}
 use Rattle.blake3.specs.Tree.{blocks, chunk, chaining_value}
 use Rattle.blake3_lanes.specs.Lanes.{folded, state, message, Each, same, same_message, firsts, loaded, started, mixed, reordered, folded_states}
@@ -17,27 +17,27 @@ use Rattle.blake3_lanes.proofs.ChunkLaws.{behind, blocks_more, last_block}
 
 -- ---- the rounds
 
--- with `left` rounds more, the states of w are those of v after seven
-pub record Turned (v w : List ℕ) (left : ℕ) : Type 0 where
+-- after i of seven rounds, with the others the states of w are those of v after all
+pub record Turned (v w : List ℕ) (i : ℕ) : Type 0 where
   pub size : length w ≡ 128
-  pub states : (j : ℕ) → j < 4 → rounds left (state w j) (message w j) ≡ rounds 7 (state v j) (message v j)
+  pub states : (j : ℕ) → j < 4 → rounds (7 - i) (state w j) (message w j) ≡ rounds 7 (state v j) (message v j)
 
 module _ (v : List ℕ) where
-  pub turned_none : length v ≡ 128 → Turned v v 7
+  pub turned_none : length v ≡ 128 → Turned v v 0
   turned_none l = record { size = l; states = λ j h. refl }
 
-  pub turned_more : (w x : List ℕ) (left : ℕ) → 0 < left → Turned v w left → Each mixed reordered w x → Turned v x (left - 1)
-  turned_more w x left h r e =
+  pub turned_more : (w x : List ℕ) (i : ℕ) → i < 7 → Turned v w i → Each mixed reordered w x → Turned v x (i + 1)
+  turned_more w x i h r e =
       record {
         size = e.size;
         states = λ j l.
-            ap₂ (rounds (left - 1)) (e.states j l) (e.messages j l)
-            ∙ sym (rounds-step left (state w j) (message w j) h) ∙ r.states j l;
+            ap₂ (rounds (7 - (i + 1))) (e.states j l) (e.messages j l)
+            ∙ rounds-more 7 i (state w j) (message w j) h ∙ r.states j l;
       }
 
-  pub turned-all : (w : List ℕ) (left : ℕ) → left ≤ 0 → Turned v w left → Rounded v w
-  turned-all w left h r =
-      record { size = r.size; states = λ j l. sym (rounds-none left (state w j) (message w j) h) ∙ r.states j l }
+  pub turned-all : (w : List ℕ) (i : ℕ) → 7 ≤ i → Turned v w i → Rounded v w
+  turned-all w i h r =
+      record { size = r.size; states = λ j l. sym (rounds-done 7 i (state w j) (message w j) h) ∙ r.states j l }
 
 -- ---- a block of each chunk
 
@@ -102,8 +102,8 @@ module _ (b : List ℕ) (t : ℕ) (whole : length b ≡ 4096) where
             ∙ first_block (t + j) (chunk_at b j);
       }
 
-  pub passed-more : (w x : List ℕ) (st at : ℕ) → at + 128 ≤ 1024 → Passed b t w st at → Blocks b at t st w x → Passed b t x 0 (at + 64)
-  passed-more w x st at h p e =
+  past-block : (w x : List ℕ) (st at : ℕ) → at + 128 ≤ 1024 → Passed b t w st at → Blocks b at t st w x → Passed b t x 0 (at + 64)
+  past-block w x st at h p e =
       record {
         size = e.size;
         chunks = λ j l.
@@ -114,9 +114,14 @@ module _ (b : List ℕ) (t : ℕ) (whole : length b ≡ 4096) where
             ∙ p.chunks j l;
       }
 
-  pub passed-all : (w x : List ℕ) (st at : ℕ) → at ≡ 960 → Passed b t w st at → Blocks b at t (st + 2) w x → Chunks b t x
+  pub passed-more : (w x : List ℕ) (st i : ℕ) → i < 15 → Passed b t w st (64 * i) → Blocks b (64 * i) t st w x → Passed b t x 0 (64 * (i + 1))
+  passed-more w x st i h p e =
+      let n : 64 * i + 64 ≡ 64 * (i + 1) = omega arith in
+      rw n at (past-block w x st (64 * i) (omega arith) p e)
+
+  whole-chunk : (w x : List ℕ) (st at : ℕ) → at ≡ 960 → Passed b t w st at → Blocks b at t (st + 2) w x → Chunks b t x
   unfolding chaining_value
-  passed-all w x st at h p e =
+  whole-chunk w x st at h p e =
       record {
         size = e.size;
         values = λ j l.
@@ -128,3 +133,8 @@ module _ (b : List ℕ) (t : ℕ) (whole : length b ≡ 4096) where
             ∙ ap chaining_value
             (sym (last_block (first_eight (state w j)) (t + j) st (chunk_at b j) at (omega (arith, n))) ∙ p.chunks j l);
       }
+
+  pub passed-all : (w x : List ℕ) (st i : ℕ) → i ≡ 15 → Passed b t w st (64 * i) → Blocks b 960 t (st + 2) w x → Chunks b t x
+  passed-all w x st i h p e =
+      let n : 64 * i ≡ 960 = omega arith in
+      whole-chunk w x st 960 refl (rw n at p) e

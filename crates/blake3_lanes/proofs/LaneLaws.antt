@@ -10,9 +10,10 @@ use lib.ListN.{length, get_or, set, take, drop, length-set}
 use lib.Seq.{ext_get_or, get_or-set_same, get_or-set_other}
 use Rattle.octets.proofs.Table.{at_entry}
 use Rattle.blake3_mixing.specs.declared.Quad.{Quad}
-use Rattle.blake3_compression.specs.Compression.{set_at}
+use Rattle.blake3_compression.specs.Compression.{first_eight, initial, set_at}
 use Rattle.blake3_compression.specs.declared.State.{State}
-use Rattle.blake3_compression.specs.Columns.{words}
+use Rattle.blake3_compression.specs.Columns.{words, sixteen}
+use Rattle.blake3.specs.Words.{block_words}
 use Rattle.blake3_lanes.specs.Lanes.{to_thirty_one, lane, state, message, column, columns_at, set_column, set_columns}
 
 -- ---- what is loaded
@@ -24,6 +25,15 @@ state-loaded v j = refl
 pub message-loaded : (v : List ℕ) (j : ℕ) → words (columns_at v 16 j) ≡ message v j
 unfolding words columns_at column message lane
 message-loaded v j = refl
+
+pub sixteen-block : (s : List ℕ) → sixteen (block_words s) ≡ block_words s
+unfolding sixteen block_words
+sixteen-block s = refl
+
+-- of a chaining value the first eight words count
+pub initial-first : (s : List ℕ) (t b d : ℕ) → initial (first_eight s) t b d ≡ initial s t b d
+unfolding initial first_eight
+initial-first s t b d = refl
 
 -- ---- one word
 

@@ -2,7 +2,7 @@
 // compiler works on all four at once where the array is all that is lent to the loop over them.
 #![tactic(auto)]
 
-mod rounds;
+mod states;
 
 ghost use Rattle.std.specs.Prelude.{◌≡◌, ◌+◌, ◌*◌, ◌^◌, ◌<◌, ◌≤◌, length};
 ghost use Rattle.blake3_compression.specs.Compression.{first_eight};
@@ -10,9 +10,9 @@ ghost use Rattle.blake3_lanes.specs.Lanes.{column, set_column, set_columns, colu
 ghost use Rattle.blake3_lanes.specs.Lanes.{started, mixed, reordered, folded_states, Rounded, Blocks, Chunks};
 
 use blake3::{CHUNK_END, CHUNK_START};
-use blake3_compression::State;
+use blake3_compression::{State, permute, round, start};
 use blake3_mixing::Quad;
-use rounds::{first, fold, message_at, permute, round, start};
+use states::{first, fold, message_at};
 
 // Column i of lane j; from 16 on, of its message.
 fn load_column(x: &[u32; 128], i: usize, j: usize) -> Quad
@@ -40,8 +40,7 @@ fn load(x: &[u32; 128], i: usize, j: usize) -> State
 }
 
 fn store_column(x: &mut [u32; 128], i: usize, j: usize, q: Quad)
-    requires x_len { length x.old ≡ 128 }
-    requires i_bound { (i < 20) × (j < 4) }
+    requires { (i < 20) × (j < 4) }
     ensures { x.new ≡ set_column x.old i j q }
 {
     x[4 * i + j] = q.a;
@@ -51,8 +50,7 @@ fn store_column(x: &mut [u32; 128], i: usize, j: usize, q: Quad)
 }
 
 fn store(x: &mut [u32; 128], i: usize, j: usize, t: State)
-    requires x_len { length x.old ≡ 128 }
-    requires i_bound { (i ≤ 16) × (j < 4) }
+    requires { (i ≤ 16) × (j < 4) }
     ensures { x.new ≡ set_columns x.old i j t }
 {
     store_column(x, i, j, t.p);
@@ -62,9 +60,9 @@ fn store(x: &mut [u32; 128], i: usize, j: usize, t: State)
 }
 
 fn first_values(x: &mut [u32; 128])
-    requires { length x.old ≡ 128 }
     ensures { Each firsts same_message x.old x.new }
 {
+    // An index: the words of lane j lie four apart, and no slice holds them alone.
     for j in 0..4 {
         store(x, 0, j, first());
     }
@@ -72,30 +70,30 @@ fn first_values(x: &mut [u32; 128])
 
 // The messages of the blocks at the place `at` of four chunks.
 fn load_messages(x: &mut [u32; 128], s: &[u8], at: usize)
-    requires x_len { length x.old ≡ 128 }
     requires at_in_bounds { at + 3136 ≤ length s.now }
     ensures { Each same (loaded s.now at) x.old x.new }
 {
+    // An index: the words of lane j lie four apart, and no slice holds them alone.
     for j in 0..4 {
         store(x, 16, j, message_at(s, at + 1024 * j));
     }
 }
 
 fn start_states(x: &mut [u32; 128], t: u64, d: u32)
-    requires x_len { length x.old ≡ 128 }
     requires t_bound { t + 4 ≤ 2 ^ 64 }
     ensures { Each (started t d) same_message x.old x.new }
 {
+    // An index: the words of lane j lie four apart, and no slice holds them alone.
     for j in 0..4 {
-        let h = load(x, 0, j);
-        store(x, 0, j, start(h, t + j as u64, d));
+        let h = value(x, j);
+        store(x, 0, j, start(h, t + j as u64, 64, d));
     }
 }
 
 fn mix_states(x: &mut [u32; 128])
-    requires { length x.old ≡ 128 }
     ensures { Each mixed reordered x.old x.new }
 {
+    // An index: the words of lane j lie four apart, and no slice holds them alone.
     for j in 0..4 {
         let t = load(x, 0, j);
         let m = load(x, 16, j);
@@ -105,20 +103,17 @@ fn mix_states(x: &mut [u32; 128])
 }
 
 fn seven_rounds(x: &mut [u32; 128])
-    requires { length x.old ≡ 128 }
     ensures { Rounded x.old x.new }
 {
-    let mut left: u32 = 7;
-    while 0 < left {
+    for _ in 0..7u32 {
         mix_states(x);
-        left -= 1;
     }
 }
 
 fn fold_states(x: &mut [u32; 128])
-    requires { length x.old ≡ 128 }
     ensures { Each folded_states same_message x.old x.new }
 {
+    // An index: the words of lane j lie four apart, and no slice holds them alone.
     for j in 0..4 {
         let t = load(x, 0, j);
         store(x, 0, j, fold(t));
@@ -127,7 +122,6 @@ fn fold_states(x: &mut [u32; 128])
 
 // The blocks at the place `at` of four chunks, compressed.
 fn compress_blocks(x: &mut [u32; 128], s: &[u8], at: usize, t: u64, d: u32)
-    requires x_len { length x.old ≡ 128 }
     requires at_in_bounds { at + 3136 ≤ length s.now }
     requires t_bound { t + 4 ≤ 2 ^ 64 }
     ensures { Blocks s.now at t d x.old x.new }
@@ -140,20 +134,18 @@ fn compress_blocks(x: &mut [u32; 128], s: &[u8], at: usize, t: u64, d: u32)
 
 // The chaining values of four whole chunks, the first of which has the number t.
 pub fn compress_chunks(x: &mut [u32; 128], s: &[u8], t: u64)
-    requires x_len { length x.old ≡ 128 }
     requires s_len { length s.now ≡ 4096 }
     requires t_bound { t + 4 ≤ 2 ^ 64 }
     ensures { Chunks s.now t x.new }
 {
     first_values(x);
     let mut d = CHUNK_START;
-    let mut at: usize = 0;
-    while at < 960 {
-        compress_blocks(x, s, at, t, d);
+    // A block's number: it is at the same place of four chunks.
+    for i in 0..15 {
+        compress_blocks(x, s, 64 * i, t, d);
         d = 0;
-        at += 64;
     }
-    compress_blocks(x, s, at, t, d + CHUNK_END);
+    compress_blocks(x, s, 960, t, d + CHUNK_END);
 }
 
 // The chaining value of lane j.

@@ -2,12 +2,11 @@
 -- Assumes nothing.
 use mathlib.Core.Path.{◌≡◌, refl, sym, ap, ap₂, ◌∙◌}
 use mathlib.Core.List.{List}
-use Prim.Native.Nat.{ℕ, ◌+◌, ◌-◌}
+use Prim.Native.Nat.{ℕ, ◌+◌, ◌≤◌}
 use native.Mathlib.Nat.{le_of_eq}
 use native.Mathlib.Omega.{arith}
 use lib.ListN.{length, take, drop, length-drop}
-use lib.Seq.{take-take, drop-drop, length-take-le}
-use Rattle.octets.proofs.BufferLaws.{rest}
+use lib.Seq.{take-take, take_all, drop-drop, length-take-le}
 use Rattle.blake3_compression.specs.Compression.{iv}
 use Rattle.blake3.specs.Tree.{chunk, chaining_value, parent_node, tree}
 use Rattle.blake3_lanes.specs.Lanes.{chunk_at}
@@ -23,11 +22,11 @@ module _ (t f : ℕ) (s : List ℕ) (l : length s ≡ 2048) where
   two-chunks : {v w r : List ℕ} → v ≡ chaining_value (chunk iv 0 t (take 1024 s)) → w ≡ chaining_value (chunk iv 0 (t + 1) (take 1024 (drop 1024 s)))
       → r ≡ last_words (parent_node iv 0 v w) f → r ≡ last_words (tree 54 iv 0 t s) f
   two-chunks e g q =
-      let n : 1024 ≡ length s - 1024 = omega arith in
+      let n : length (drop 1024 s) ≤ 1024 = omega (arith, length-drop 1024 s) in
       joins t f s 1024 (record { k = 0; size = refl; below = omega arith; above = omega arith }) (omega arith)
       (chunk-value t (take 1024 s) (length-take-le 1024 s (omega arith)) e)
       (chunk-value (t + 1) (take 1024 (drop 1024 s)) (length-take-le 1024 (drop 1024 s) (omega (arith, length-drop 1024 s))) g
-      ∙ ap (λ (k : ℕ). last_words (tree 54 iv 0 (t + 1) (take k (drop 1024 s))) 0) n)
+      ∙ ap (λ (c : List ℕ). last_words (tree 54 iv 0 (t + 1) c) 0) (take_all 1024 (drop 1024 s) n))
       q
 
 module _ (t f : ℕ) (s : List ℕ) (l : length s ≡ 4096) where
@@ -58,5 +57,5 @@ module _ (t f : ℕ) (s : List ℕ) (l : length s ≡ 4096) where
   four e₀ e₁ e₂ e₃ p q w =
       joins t f s 2048 (record { k = 1; size = refl; below = omega arith; above = omega arith }) (omega arith)
       (left-chunks e₀ e₁ p)
-      (right-chunks e₂ e₃ q ∙ ap (λ (c : List ℕ). last_words (tree 54 iv 0 (t + 2) c) 0) (sym (rest s 2048)))
+      (right-chunks e₂ e₃ q)
       w

@@ -1,12 +1,21 @@
 -- The bytes of some words, and a buffer that they are written into word by word.
 -- Assumes nothing.
-use Rattle.std.proofs.Common.{◌≡◌, ℕ, ◌+◌, ◌*◌, ◌<◌, ◌≤◌, List, [], ◌∷◌, ◌++◌, length, get_or, take, sym, refl, ap, ◌∙◌, append_assoc, append-nil, add-one, arith, length-append, length-take-le, take-suc}
+use Rattle.std.proofs.Common.{◌≡◌, ℕ, ◌+◌, ◌-◌, ◌*◌, ◌/◌, ◌%◌, ◌^◌, ◌<◌, ◌≤◌, List, [], ◌∷◌, ◌++◌, length, get_or, take, sym, refl, ap, ap₂, ◌∙◌, mod-eq_of_lt, append_assoc, append-nil, add-one, arith, length-append, length-take-le, take-suc}
+use Rattle.std.specs.Prelude.{bit_or}
+use Rattle.std.specs.Int.{w32, rotate_left}
 use lib.Seq.{take-length}
 use Rattle.octets.specs.Buffers.{put}
 use Rattle.octets.specs.Numbers.{to_le}
 use Rattle.octets.proofs.BufferLaws.{length-put, put-behind}
 use Rattle.octets.proofs.NumberLaws.{length-to_le}
-use Rattle.chacha.specs.Words.{bytes}
+use Rattle.chacha.specs.Words.{rotl, bytes}
+
+-- u32's rotation
+pub rotated : (x k : ℕ) → 0 < k → k < 32 → rotate_left w32 x k ≡ rotl x k
+unfolding rotl
+rotated x k low high =
+    ap₂ (λ (a b : ℕ). bit_or (x * 2 ^ a % 2 ^ 32) (x / 2 ^ b)) (mod-eq_of_lt high)
+    (ap (λ (a : ℕ). (32 - a) % 32) (mod-eq_of_lt high) ∙ mod-eq_of_lt (omega arith))
 
 pub length-bytes : (w : List ℕ) → length (bytes w) ≡ 4 * length w
 unfolding bytes

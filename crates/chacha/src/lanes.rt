@@ -33,8 +33,7 @@ fn load(v: &[u32; 64], j: usize) -> State
 }
 
 fn store_column(v: &mut [u32; 64], i: usize, j: usize, q: Quad)
-    requires v_len { length v.old ≡ 64 }
-    requires i_bound { (i < 4) × (j < 4) }
+    requires { (i < 4) × (j < 4) }
     ensures { v.new ≡ set_column v.old i j q }
 {
     v[4 * i + j] = q.a;
@@ -44,8 +43,7 @@ fn store_column(v: &mut [u32; 64], i: usize, j: usize, q: Quad)
 }
 
 fn store(v: &mut [u32; 64], j: usize, t: State)
-    requires v_len { length v.old ≡ 64 }
-    requires j_bound { j < 4 }
+    requires { j < 4 }
     ensures { v.new ≡ set_lane v.old j t }
 {
     store_column(v, 0, j, t.p);
@@ -56,10 +54,10 @@ fn store(v: &mut [u32; 64], j: usize, t: State)
 
 // A double round of the first m states.
 fn double_round(v: &mut [u32; 64], m: usize)
-    requires v_len { length v.old ≡ 64 }
-    requires m_bound { m ≤ 4 }
+    requires { m ≤ 4 }
     ensures { Each m double_round v.old v.new }
 {
+    // An index: a state's words stand four apart, so it is no part of the array to be walked.
     for j in 0..m {
         let t = load(v, j);
         store(v, j, diagonal_round(column_round(t)));
@@ -75,29 +73,25 @@ fn one_or_four(m: usize) -> usize
 
 // n double rounds of the first m states: 10 for ChaCha20, 6 for ChaCha12, 4 for ChaCha8.
 fn double_rounds(v: &mut [u32; 64], n: usize, m: usize)
-    requires v_len { length v.old ≡ 64 }
-    requires m_bound { m ≤ 4 }
+    requires { m ≤ 4 }
     ensures { Each m (doubles n) v.old v.new }
 {
     let states = one_or_four(m);
-    let mut left = n;
-    while 0 < left {
+    for _ in 0..n {
         double_round(v, states);
-        left -= 1;
     }
 }
 
 // The state s four times, with the counters from c on.
 fn spread(v: &mut [u32; 64], s: &[u32; 16], c: u32)
-    requires v_len { length v.old ≡ 64 }
-    requires s_len { length s.now ≡ 16 }
     ensures { Spread s.now c v.new }
 {
-    for k in 0..64 {
-        v[k] = s[k / 4];
+    for (k, x) in v.iter_mut().enumerate() {
+        *x = s[k / 4];
     }
+    // An index: the counter grows with it.
     for j in 0..4 {
-        v[48 + j] = std::num::wrapping_add_u32(c, j as u32);
+        v[48 + j] = c.wrapping_add(j as u32);
     }
 }
 
@@ -115,12 +109,8 @@ fn write_sum(out: &mut [u8], at: usize, v: &[u32; 64], j: usize, t: &[u32; 16])
     requires j_bound { j < 4 }
     ensures { out.new ≡ put out.old at (sum_of v.now j t.now) }
 {
-    for i in 0..16 {
-        octets::write_u32_le(
-            out,
-            at + 4 * i,
-            std::num::wrapping_add_u32(v[4 * i + j], t[i]),
-        );
+    for (i, x) in t.iter().enumerate() {
+        octets::write_u32_le(out, at + 4 * i, v[4 * i + j].wrapping_add(*x));
     }
 }
 
@@ -130,8 +120,9 @@ fn write_sums(out: &mut [u8], v: &[u32; 64], s: &[u32; 16], c: u32, m: usize)
     requires m_bound { m ≤ 4 }
     ensures { out.new ≡ put out.old 0 (sums v.now s.now c m) }
 {
+    // An index: j is the state's number, its counter beyond c and its block's place.
     for j in 0..m {
-        let t = with_counter(s, std::num::wrapping_add_u32(c, j as u32));
+        let t = with_counter(s, c.wrapping_add(j as u32));
         write_sum(out, 64 * j, v, j, &t);
     }
 }
@@ -139,7 +130,6 @@ fn write_sums(out: &mut [u8], v: &[u32; 64], s: &[u32; 16], c: u32, m: usize)
 // m blocks of key stream to the front of a buffer, from that with the counter c on.
 pub(crate) fn batch(out: &mut [u8], n: usize, s: &[u32; 16], c: u32, m: usize)
     requires m_in_bounds { 64 * m ≤ length out.old }
-    requires s_len { length s.now ≡ 16 }
     requires m_bound { m ≤ 4 }
     ensures { out.new ≡ put out.old 0 (blocks_of n s.now c m) }
 {
@@ -151,7 +141,6 @@ pub(crate) fn batch(out: &mut [u8], n: usize, s: &[u32; 16], c: u32, m: usize)
 
 // The first and the last four words of the state s with the counter c after n double rounds.
 pub(crate) fn mixed_ends(n: usize, s: &[u32; 16], c: u32) -> [u32; 8]
-    requires { length s.now ≡ 16 }
     ensures { result ≡ ends_of (doubles n (numbered s.now c)) }
 {
     let mut v = [0u32; 64];

@@ -5,7 +5,7 @@
 mod lanes;
 mod rounds;
 
-ghost use Rattle.std.specs.Prelude.{◌≡◌, ◌*◌, ◌≤◌, min, [], ◌∷◌, length, drop};
+ghost use Rattle.std.specs.Prelude.{◌≡◌, ◌*◌, ◌/◌, ◌≤◌, min, [], ◌∷◌, length, drop};
 ghost use Rattle.octets.specs.Buffers.{put, ◌⊞◌};
 ghost use Rattle.chacha.specs.Words.{bytes};
 ghost use Rattle.chacha.specs.ChaCha.{initial as initial_of, counted as counted_of, key_block, key_stream, hchacha as hchacha_of, stream};
@@ -43,22 +43,40 @@ fn counted(key: &[u8], counter: u32, nonce: &[u8]) -> [u32; 16]
     initial(key, counter, b, c, d)
 }
 
+// As many blocks of key stream as LENGTH has room for, at most four.
+fn first_blocks<const LENGTH: usize>(
+    n: usize,
+    key: &[u8],
+    counter: u32,
+    nonce: &[u8],
+) -> [u8; LENGTH]
+    requires whole { 64 * (LENGTH / 64) ≡ LENGTH }
+    requires few { LENGTH ≤ 256 }
+    ensures { result ≡ key_stream n key.now counter nonce.now (LENGTH / 64) }
+{
+    let mut b = [0u8; LENGTH];
+    lanes::batch(
+        &mut b,
+        n,
+        &counted(key, counter, nonce),
+        counter,
+        LENGTH / 64,
+    );
+    b
+}
+
 // 64 bytes of key stream.
 pub fn block(n: usize, key: &[u8], counter: u32, nonce: &[u8]) -> [u8; 64]
     ensures { result ≡ key_block n key.now counter nonce.now }
 {
-    let mut b = [0u8; 64];
-    lanes::batch(&mut b, n, &counted(key, counter, nonce), counter, 1);
-    b
+    first_blocks(n, key, counter, nonce)
 }
 
 // Four blocks of key stream at once, which takes less than twice the time of one.
 pub fn blocks(n: usize, key: &[u8], counter: u32, nonce: &[u8]) -> [u8; 256]
     ensures { result ≡ key_stream n key.now counter nonce.now 4 }
 {
-    let mut b = [0u8; 256];
-    lanes::batch(&mut b, n, &counted(key, counter, nonce), counter, 4);
-    b
+    first_blocks(n, key, counter, nonce)
 }
 
 // Some words to the front of a buffer, the lowest byte of each first.
@@ -66,8 +84,8 @@ fn write_words(out: &mut [u8], w: &[u32])
     requires { 4 * length w.now ≤ length out.old }
     ensures { out.new ≡ put out.old 0 (bytes w.now) }
 {
-    for i in 0..w.len() {
-        octets::write_u32_le(out, 4 * i, w[i]);
+    for (i, x) in w.iter().enumerate() {
+        octets::write_u32_le(out, 4 * i, *x);
     }
 }
 
@@ -108,11 +126,12 @@ pub fn xor_stream(n: usize, key: &[u8], counter: u32, nonce: &[u8], s: &mut [u8]
     let batches = (s.len() + 255) / 256;
     let mut b = [0u8; 256];
     let mut c = counter;
+    // An index: of a text that is walked by `chunks_mut` a proof knows nothing afterwards.
     for i in 0..batches {
         let m = needed(s.len() - 256 * i);
         lanes::batch(&mut b, n, &first, c, m);
         xor_at(s, 256 * i, &b);
-        c = std::num::wrapping_add_u32(c, 4);
+        c = c.wrapping_add(4);
     }
 }
 

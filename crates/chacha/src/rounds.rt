@@ -1,6 +1,5 @@
 // The rounds, on a state that is held as its four columns.
 ghost use Rattle.std.specs.Prelude.{◌≡◌, ◌<◌};
-ghost use Rattle.chacha.specs.Words.{rotl};
 ghost use Rattle.chacha.specs.ChaCha.{half, quarter, columns, diagonals};
 ghost use Rattle.chacha.specs.Lanes.{words, diagonal as diagonal_of};
 
@@ -22,23 +21,15 @@ pub struct State {
     pub s: Quad,
 }
 
-// x rotated left by k bits.
-fn rotate_left(x: u32, k: u32) -> u32
-    requires { (0 < k) × (k < 32) }
-    ensures { result ≡ rotl x k }
-{
-    (x << k) | (x >> (32 - k))
-}
-
 // Half of a quarter round, with the rotations r and s.
 fn half_round(q: Quad, r: u32, s: u32) -> Quad
     requires { (0 < r) × (r < 32) × (0 < s) × (s < 32) }
     ensures { result ≡ half q r s }
 {
-    let a = std::num::wrapping_add_u32(q.a, q.b);
-    let d = rotate_left(q.d ^ a, r);
-    let c = std::num::wrapping_add_u32(q.c, d);
-    let b = rotate_left(q.b ^ c, s);
+    let a = q.a.wrapping_add(q.b);
+    let d = (q.d ^ a).rotate_left(r);
+    let c = q.c.wrapping_add(d);
+    let b = (q.b ^ c).rotate_left(s);
     Quad { a, b, c, d }
 }
 

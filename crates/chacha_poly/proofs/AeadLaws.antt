@@ -1,7 +1,7 @@
 -- What is sealed is authentic and opens to what was sealed, whatever the number of double rounds; and the parts of the code.
 -- Assumes nothing.
 use mathlib.Core.Path.{◌≡◌, sym, ap, ap₂, ◌∙◌}
-use mathlib.Core.Bool.{Bool, true}
+use mathlib.Core.Bool.{true}
 use mathlib.Core.List.{List, ◌++◌}
 use Prim.Native.Nat.{ℕ, ◌+◌, ◌-◌, ◌≤◌}
 use native.Mathlib.Nat.{zero-add}
@@ -10,9 +10,9 @@ use lib.Dec.{lit≤}
 use lib.ListN.{length, take, drop, length-append, length-drop}
 use lib.Seq.{take_at, drop_at, length-take-le}
 use Rattle.octets.specs.Buffers.{put, same}
-use Rattle.octets.proofs.BufferLaws.{rest, length-put, take_put, put-put, put-again, put_whole, same_refl, same-eq}
+use Rattle.octets.proofs.BufferLaws.{length-put, take_put, put-again, same_refl, same-eq}
 use Rattle.chacha.specs.ChaCha.{key_stream, stream}
-use Rattle.chacha.proofs.StreamLaws.{length-key_stream, length-stream, stream-back, first-bytes}
+use Rattle.chacha.proofs.StreamLaws.{length-stream, stream-back, first-bytes}
 use Rattle.poly1305.specs.Poly1305.{mac, mac_data}
 use Rattle.poly1305.proofs.TagLaws.{length-mac}
 use Rattle.chacha_poly.specs.Aead.{one_time_key, crypt, tag, seal, text_of, tag_of, Authentic, authentic, opened}
@@ -87,7 +87,7 @@ module _ (text out : List ℕ) (fits : length text ≤ length out) where
       ∙ put-again out text (crypt n key nonce text) (omega arith) (length-crypt n key nonce text)
 
 -- the first bytes of a buffer, encrypted or decrypted where they stand
-pub front-law : (n : ℕ) (key nonce out k : List ℕ) (len : ℕ) → len ≤ length out → k ≡ stream n key 1 nonce (take len out)
+pub front-law : (n : ℕ) (key nonce out k : List ℕ) (len : ℕ) → len ≤ length out → k ≡ crypt n key nonce (take len out)
     → k ++ drop len out ≡ put out 0 (crypt n key nonce (take len out))
 unfolding crypt put
 front-law n key nonce out k len h ek =
@@ -101,33 +101,15 @@ unfolding tag one_time_key
 tag-law n key nonce c four t ef et =
     et ∙ ap (λ (x : List ℕ). mac x (mac_data c)) (ap (take 32) ef ∙ first-bytes n key 0 nonce 3 32 (lit≤ tt))
 
-pub length-four : (n : ℕ) (key nonce four : List ℕ) → four ≡ key_stream n key 0 nonce 4 → length four ≡ 256
-length-four n key nonce four e = ap length e ∙ length-key_stream n key 0 nonce 4
-
--- the tag behind the ciphertext, in the last 16 bytes
-pub seal-law : (n : ℕ) (key nonce body o t r : List ℕ) → 16 ≤ length body
-    → o ≡ put body 0 (crypt n key nonce (text_of body)) → t ≡ tag n key nonce (take (length body - 16) o) → r ≡ put o (length body - 16) t
-    → r ≡ seal n key nonce (text_of body)
-unfolding seal text_of
-seal-law n key nonce body o t r h eo et er =
-    let c = crypt n key nonce (text_of body) in
-    let l : length c ≡ length body - 16 =
-    length-crypt n key nonce (text_of body) ∙ length-take-le (length body - 16) body (omega arith) in
-    let k : length body - 16 ≡ 0 + length c = sym (zero-add (length c) ∙ l) in
-    let front : take (length body - 16) o ≡ c =
-    ap₂ take (sym l) eo ∙ take-copied c body (omega (arith, l)) in
-    let whole : length body ≤ length (c ++ tag n key nonce c) =
-    omega (arith, l, length-append c (tag n key nonce c), length-tag n key nonce c) in
-    er
-    ∙ (λ i. put (eo i) (k i) ((et ∙ ap (tag n key nonce) front) i))
-    ∙ put-put body 0 c (omega (arith, l)) (tag n key nonce c)
-    ∙ put_whole body (c ++ tag n key nonce c) whole
+-- a ciphertext and its tag
+pub seal-law : (n : ℕ) (key nonce p c t : List ℕ) → c ≡ crypt n key nonce p → t ≡ tag n key nonce c → c ++ t ≡ seal n key nonce p
+unfolding seal
+seal-law n key nonce p c t ec et = ap₂ (λ (x y : List ℕ). x ++ y) ec (et ∙ ap (tag n key nonce) ec)
 
 -- the tag that was found, compared with the last 16 bytes
-pub authentic-law : (n : ℕ) (key nonce s t : List ℕ) (b : Bool) → t ≡ tag n key nonce (take (length s - 16) s)
-    → b ≡ same t (take (length s - (length s - 16)) (drop (length s - 16) s)) → b ≡ authentic n key nonce s
-unfolding authentic text_of tag_of
-authentic-law n key nonce s t b et eb = eb ∙ ap₂ same et (rest s (length s - 16))
+pub authentic-law : (n : ℕ) (key nonce s c t u : List ℕ) → c ≡ text_of s → t ≡ tag n key nonce c → u ≡ tag_of s → same t u ≡ authentic n key nonce s
+unfolding authentic
+authentic-law n key nonce s c t u ec et eu = ap₂ same (et ∙ ap (tag n key nonce) ec) eu
 
 -- a text at the front of a buffer with 16 bytes more
 pub text_of-put : (d p o : List ℕ) → length d ≡ length p + 16 → o ≡ put d 0 p → text_of o ≡ p

@@ -3,10 +3,9 @@
 // is secret is a condition or a place, up to the verdict on a tag.
 #![tactic(auto)]
 
-ghost use Rattle.std.specs.Prelude.{cond, ◌≡◌, ◌-◌, ◌≤◌, length, take};
+ghost use Rattle.std.specs.Prelude.{cond, ◌≡◌, ◌-◌, ◌≤◌, length};
 ghost use Rattle.octets.specs.Buffers.{put};
 ghost use Rattle.chacha.specs.ChaCha.{key_stream};
-ghost use Rattle.poly1305.specs.Poly1305.{mac, mac_data};
 ghost use Rattle.chacha_poly.specs.Aead as spec;
 
 mod extended;
@@ -16,33 +15,42 @@ pub use extended::{open_extended, seal_extended_in_place};
 // So many bytes at the end of a sealed text are its tag.
 pub const TAG: usize = 16;
 
-// The tag of a ciphertext. Of the first four blocks, the one-time key is in the first.
-fn tag_of(four: &[u8], c: &[u8]) -> [u8; 16]
-    requires { length four.now ≡ 256 }
-    ensures { result ≡ mac (take 32 four.now) (mac_data c.now) }
-{
-    poly1305::aead_mac(&four[0..32], c)
+// What the sealing and the opening of a text share. Of the first four blocks, the one-time key is in the first.
+#[derive(Drop)]
+struct Cipher<'a> {
+    n: usize,
+    key: &'a [u8],
+    nonce: &'a [u8],
+    four: [u8; 256],
+    ghost first_four: { four ≡ key_stream n key.now 0 nonce.now 4 },
 }
 
-// The first len bytes of the lent buffer, encrypted or decrypted in place.
-fn crypt_front(n: usize, key: &[u8], nonce: &[u8], four: &[u8], len: usize, out: &mut [u8])
-    requires four_value { four.now ≡ key_stream n key.now 0 nonce.now 4 }
-    requires len_in_bounds { len ≤ length out.old }
-    ensures { out.new
-        ≡ put out.old 0 (spec.crypt n key.now nonce.now (take len out.old)) }
-{
-    chacha::xor_with_blocks(n, key, nonce, four, &mut out[..len]);
-}
+impl<'a> Cipher<'a> {
+    fn new(n: usize, key: &'a [u8], nonce: &'a [u8]) -> Cipher<'a>
+        ensures { (result.n ≡ n) × (result.key.now ≡ key.now) × (result.nonce.now ≡ nonce.now) }
+    {
+        let four = chacha::blocks(n, key, 0, nonce);
+        Cipher {
+            n,
+            key,
+            nonce,
+            four,
+        }
+    }
 
-// A text to the front of the lent buffer, encrypted or decrypted there.
-fn crypt_into(n: usize, key: &[u8], nonce: &[u8], four: &[u8], text: &[u8], out: &mut [u8])
-    requires four_value { four.now ≡ key_stream n key.now 0 nonce.now 4 }
-    requires text_in_bounds { length text.now ≤ length out.old }
-    ensures { out.new
-        ≡ put out.old 0 (spec.crypt n key.now nonce.now text.now) }
-{
-    octets::copy(out, 0, text);
-    crypt_front(n, key, nonce, four, text.len(), out);
+    // The tag of a ciphertext.
+    fn tag(&self, c: &[u8]) -> [u8; 16]
+        ensures { result ≡ spec.tag self.now.n self.now.key.now self.now.nonce.now c.now }
+    {
+        poly1305::aead_mac(&self.four[0..32], c)
+    }
+
+    // A text, encrypted or decrypted in place.
+    fn crypt(&self, text: &mut [u8])
+        ensures { text.new ≡ spec.crypt self.now.n self.now.key.now self.now.nonce.now text.old }
+    {
+        chacha::xor_with_blocks(self.n, self.key, self.nonce, &self.four, text);
+    }
 }
 
 // Seals in place: the text is all but the last 16 bytes of the lent buffer, which are for the tag.
@@ -51,11 +59,10 @@ pub fn seal_in_place(n: usize, key: &[u8], nonce: &[u8], body: &mut [u8])
     ensures { body.new
         ≡ spec.seal n key.now nonce.now (spec.text_of body.old) }
 {
-    let len = body.len() - TAG;
-    let four = chacha::blocks(n, key, 0, nonce);
-    crypt_front(n, key, nonce, &four, len, body);
-    let tag = tag_of(&four, &body[..len]);
-    octets::copy(body, len, &tag);
+    let cipher = Cipher::new(n, key, nonce);
+    let (text, tag) = body.split_at_mut(body.len() - TAG);
+    cipher.crypt(text);
+    tag.copy_from_slice(&cipher.tag(text));
 }
 
 // Whether the last 16 bytes are the tag of those before them; only then is the text decrypted, to the front of the lent buffer.
@@ -67,12 +74,12 @@ pub fn open(n: usize, key: &[u8], nonce: &[u8], s: &[u8], out: &mut [u8]) -> boo
         ≡ cond result (put out.old 0 (spec.opened n key.now nonce.now s.now))
         out.old }
 {
-    let len = s.len() - TAG;
-    let four = chacha::blocks(n, key, 0, nonce);
-    let tag = tag_of(&four, &s[..len]);
-    let good = octets::equal(&tag, &s[len..]);
+    let cipher = Cipher::new(n, key, nonce);
+    let (text, tag) = s.split_at(s.len() - TAG);
+    let good = octets::equal(&cipher.tag(text), tag);
     if good {
-        crypt_into(n, key, nonce, &four, &s[..len], out);
+        octets::copy(out, 0, text);
+        cipher.crypt(&mut out[..text.len()]);
     }
     good
 }

@@ -12,6 +12,7 @@ use std::{fs, io, str};
 fn read_all(file: &mut impl Read, buf: &mut [u8]) -> io::Result<usize>
     ensures { IfOk result (λ count. count ≤ length buf.new) }
 {
+    // A lent buffer and no heap: std's `read_to_end` fills a Vec, and `read_exact` refuses a file that ends sooner.
     let mut at: usize = 0;
     while at < buf.len() {
         let n = file.read(&mut buf[at..])?;
@@ -40,11 +41,9 @@ fn main(rt: HostRuntime) -> io::Result<()> {
     let mut first = [0u8; 32769];
     let mut second = [0u8; 32769];
     let mut out = [0u8; 65536];
-    let a = load(&rt, 1, &mut first);
-    let b = load(&rt, 2, &mut second);
-    let readable = a.is_some() && b.is_some();
-    let m = a.unwrap_or(0);
-    let n = b.unwrap_or(0);
-    let printed = comparison_text::print(readable, &first[..m], &second[..n], &mut out);
+    let printed = match (load(&rt, 1, &mut first), load(&rt, 2, &mut second)) {
+        (Some(m), Some(n)) => comparison_text::print(true, &first[..m], &second[..n], &mut out),
+        _ => comparison_text::print(false, &[], &[], &mut out),
+    };
     io::writer(&rt).write_all(&out[..printed])
 }

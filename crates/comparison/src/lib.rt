@@ -23,14 +23,13 @@ fn agreeing(a: &[u8], i: usize, b: &[u8], j: usize, n: usize) -> usize
     requires { (i + n ≤ length a.now) × (j + n ≤ length b.now) }
     ensures { result ≡ agree n a.now i b.now j }
 {
-    let mut p: usize = 0;
-    while p < n {
+    // An index: it is the answer, and each string is read at it from a place of its own.
+    for p in 0..n {
         if a[i + p] != b[j + p] {
             return p;
         }
-        p += 1;
     }
-    p
+    n
 }
 
 // Of two bodies of n bytes that agree in p bytes.
@@ -52,10 +51,7 @@ fn of_entries(a: &[u8], e: Entry, b: &[u8], f: Entry) -> Difference
     if e.len != f.len {
         return Difference::Length(e.len, f.len);
     }
-    if e.direction != f.direction {
-        return Difference::Meta;
-    }
-    if e.clock != f.clock {
+    if e.direction != f.direction || e.clock != f.clock {
         return Difference::Meta;
     }
     let p = agreeing(a, e.offset as usize, b, f.offset as usize, e.len as usize);
@@ -69,16 +65,15 @@ pub fn difference_at(a: &[u8], b: &[u8], i: usize) -> Difference
 {
     let m = recording::count(a) as usize;
     let n = recording::count(b) as usize;
-    if m <= i {
-        if n <= i {
-            return Difference::Same;
+    match (i < m, i < n) {
+        (true, true) => {
+            let place = 4 + 15 * i;
+            let e = recording::read_entry(a, place);
+            let f = recording::read_entry(b, place);
+            of_entries(a, e, b, f)
         }
-        return Difference::SecondOnly;
+        (true, false) => Difference::FirstOnly,
+        (false, true) => Difference::SecondOnly,
+        (false, false) => Difference::Same,
     }
-    if n <= i {
-        return Difference::FirstOnly;
-    }
-    let e = recording::read_entry(a, 4 + 15 * i);
-    let f = recording::read_entry(b, 4 + 15 * i);
-    of_entries(a, e, b, f)
 }

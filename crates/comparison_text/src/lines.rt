@@ -15,6 +15,7 @@ fn put_byte(out: &mut [u8], at: usize, b: u8) -> usize
     at + 1
 }
 
+// Digit by digit: std's printing of a number, of which a clause can say the bytes, makes a String, and there is no heap.
 fn put_decimal(out: &mut [u8], at: usize, n: u16) -> usize
     requires { at + length (decimal n) ≤ length out.old }
     ensures { Written out.old at out.new result (decimal n) }
@@ -90,12 +91,10 @@ pub fn put_lines(out: &mut [u8], at: usize, first: &[u8], second: &[u8], n: usiz
     requires n_in_bounds { at + length (lines first.now second.now n) ≤ length out.old }
     ensures { Written out.old at out.new result (lines first.now second.now n) }
 {
-    let mut i: usize = 0;
     let mut end = at;
-    while i < n {
+    for i in 0..n {
         let d = comparison::difference_at(first, second, i);
         end = put_line(out, end, i as u16, d);
-        i += 1;
     }
     end
 }
@@ -122,12 +121,10 @@ pub fn lines_length(first: &[u8], second: &[u8], most: usize) -> usize
     requires { (is_well_formed first.now ≡ true) × (is_well_formed second.now ≡ true) × (most ≤ 4096) }
     ensures { (result ≡ length (lines first.now second.now most)) × (result ≤ 25 * most) }
 {
-    let mut i: usize = 0;
     let mut total: usize = 0;
-    while i < most {
+    for i in 0..most {
         let d = comparison::difference_at(first, second, i);
         total += line_length(i as u16, d);
-        i += 1;
     }
     total
 }

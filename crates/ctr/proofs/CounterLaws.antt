@@ -1,6 +1,7 @@
 -- The counter block: its bytes, and one up.
 -- Assumes nothing.
-use Rattle.std.proofs.Common.{◌≡◌, ℕ, ◌+◌, ◌*◌, ◌/◌, ◌%◌, ◌^◌, ◌<◌, List, [], ◌∷◌, ◌++◌, length, take, drop, sym, refl, ap, ◌∙◌, ap₂, arith, take_all, drop-drop, take-add}
+use Rattle.std.proofs.Common.{◌≡◌, ℕ, ◌+◌, ◌*◌, ◌/◌, ◌%◌, ◌^◌, ◌<◌, List, [], ◌∷◌, ◌++◌, length, take, drop, sym, refl, ap, ◌∙◌, ap₂, arith, take_all, drop-drop, take-add, w32}
+use Rattle.std.specs.Int.{swap_bytes}
 use lib.Arith.{digits_div, digits_mod}
 use Rattle.octets.specs.Buffers.{Octets}
 use Rattle.octets.specs.Numbers.{be, to_be, le}
@@ -12,13 +13,13 @@ use Rattle.aes.proofs.WordLaws.{octets-bytes, bytes-column, bytes_read}
 use Rattle.ctr.specs.Gctr.{inc32, counter_block}
 
 -- a counter's bytes, the highest first
-pub bytes-swapped : (x : ℕ) → x < 2 ^ 32
-    → bytes (column (x / 0x100_0000) (x / 0x1_0000 % 256) (x / 256 % 256) (x % 256)) ≡ to_be 4 x
+pub bytes-swapped : (x : ℕ) → x < 2 ^ 32 → bytes (swap_bytes w32 x) ≡ to_be 4 x
 unfolding to_be
 bytes-swapped x h =
     let high : x / 0x100_0000 ≡ x / 0x100_0000 % 256 = omega arith in
     let low : x % 256 ≡ x / 1 % 256 = omega arith in
-    bytes-column _ _ _ _ (omega arith) (omega arith) (omega arith) (omega arith)
+    let swapped : swap_bytes w32 x ≡ column (x / 0x100_0000) (x / 0x1_0000 % 256) (x / 256 % 256) (x % 256) = omega arith in
+    ap bytes swapped ∙ bytes-column _ _ _ _ (omega arith) (omega arith) (omega arith) (omega arith)
     ∙ (λ i. high i ∷ x / 0x1_0000 % 256 ∷ x / 256 % 256 ∷ low i ∷ [])
 
 -- the bytes of a counter block: the nonce, and the counter behind it

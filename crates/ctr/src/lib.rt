@@ -6,12 +6,13 @@ ghost use Rattle.std.specs.Prelude.{◌≡◌, ℕ, ◌+◌, ◌%◌, ◌^◌, �
 ghost use Rattle.octets.specs.Buffers.{block_count, put, ◌⊞◌};
 ghost use Rattle.octets.specs.Numbers.{to_be};
 ghost use Rattle.aes.specs.Keyed.{lawful};
-ghost use Rattle.aes.specs.Words.{CanEncrypt, bytes, block_bytes};
+ghost use Rattle.aes.specs.Words.{bytes, block_bytes};
 ghost use Rattle.ctr.specs.Words.{nonce_bytes};
 ghost use Rattle.ctr.specs.Gctr.{gctr as gctr_of, ciph_at, counter_block, aes_ctr};
 ghost use Rattle.ctr.specs.Kept.{Kept};
 
 use aes::Block;
+use aes::encrypt::Encryptor;
 
 mod long;
 
@@ -38,7 +39,7 @@ pub fn read_nonce(s: &[u8]) -> Nonce
 fn swapped(x: u32) -> u32
     ensures { bytes result ≡ to_be 4 x }
 {
-    x / 0x100_0000 + x / 0x1_0000 % 256 * 256 + x / 256 % 256 * 0x1_0000 + x % 256 * 0x100_0000
+    x.swap_bytes()
 }
 
 fn counter_block(n: Nonce, counter: u32) -> Block
@@ -56,7 +57,7 @@ fn counter_block(n: Nonce, counter: u32) -> Block
 fn inc32(c: u32) -> u32
     ensures { result ≡ (c + 1) % 2 ^ 32 }
 {
-    std::num::wrapping_add_u32(c, 1)
+    c.wrapping_add(1)
 }
 
 // The last, short block.
@@ -83,48 +84,30 @@ fn xor_block(text: &mut [u8], at: usize, k: Block)
 }
 
 // GCTR of what is left of a text from block i on, whose counter is c, block by block.
-fn rest(
-    t: &[u32; 256],
-    sbox: &[u8; 256],
-    w: &[u32; 60],
-    rounds: usize,
-    n: Nonce,
-    c: u32,
-    text: &mut [u8],
-    i: usize,
-)
-    requires can_encrypt { CanEncrypt t.now sbox.now rounds }
-    requires i_bound { i ≤ block_count text.old }
+fn rest(aes: &Encryptor<'_>, n: Nonce, c: u32, text: &mut [u8], i: usize)
+    requires { i ≤ block_count text.old }
     ensures { (counter : ℕ) (all : List ℕ)
-        → Kept (ciph_at rounds w.now) (nonce_bytes n) counter all text.old c i
-        → text.new ≡ gctr_of (ciph_at rounds w.now) (counter_block (nonce_bytes n) counter) all }
+        → Kept (ciph_at aes.now.rounds aes.now.w.now) (nonce_bytes n) counter all text.old c i
+        → text.new ≡ gctr_of (ciph_at aes.now.rounds aes.now.w.now) (counter_block (nonce_bytes n) counter) all }
 {
     let blocks = (text.len() + 15) / 16;
     let mut e = c;
+    // An index: once a chunks_mut is over, a proof knows the text's length and not its bytes.
     for j in i..blocks {
-        let k = aes::encrypt::cipher(t, sbox, w, rounds, counter_block(n, e));
+        let k = aes.cipher(counter_block(n, e));
         xor_block(text, 16 * j, k);
         e = inc32(e);
     }
 }
 
-// GCTR of the text, in place, at an expanded key and its number of rounds: in batches, and what is left block by block.
-pub fn gctr(
-    t: &[u32; 256],
-    sbox: &[u8; 256],
-    w: &[u32; 60],
-    rounds: usize,
-    n: Nonce,
-    counter: u32,
-    text: &mut [u8],
-)
-    requires { CanEncrypt t.now sbox.now rounds }
+// GCTR of the text, in place, at an expanded key: in batches, and what is left block by block.
+pub fn gctr(aes: &Encryptor<'_>, n: Nonce, counter: u32, text: &mut [u8])
     ensures { text.new
-        ≡ gctr_of (ciph_at rounds w.now) (counter_block (nonce_bytes n) counter) text.old }
+        ≡ gctr_of (ciph_at aes.now.rounds aes.now.w.now) (counter_block (nonce_bytes n) counter) text.old }
 {
-    let i = long::batches(w, rounds, n, counter, text);
-    let c = std::num::wrapping_add_u32(counter, (i % 0x1_0000_0000) as u32);
-    rest(t, sbox, w, rounds, n, c, text, i);
+    let i = long::batches(aes, n, counter, text);
+    let c = counter.wrapping_add((i % 0x1_0000_0000) as u32);
+    rest(aes, n, c, text, i);
 }
 
 // AES in counter mode under a key of 16, 24 or 32 bytes and a nonce of 12, in place. Any other length of either is refused:
@@ -133,16 +116,21 @@ pub fn aes_ctr(key: &[u8], nonce: &[u8], counter: u32, text: &mut [u8]) -> bool
     ensures value { result ≡ lawful 12 key.now nonce.now }
     ensures text_after { text.new ≡ aes_ctr key.now nonce.now counter text.old }
 {
-    let nk = aes::key::key_words(key.len());
-    if nk == 0 {
+    let Some(nk) = aes::key::key_words(key.len()) else {
         return false;
-    }
+    };
     if nonce.len() != 12 {
         return false;
     }
     let sbox = aes_tables::sbox();
     let t = aes_tables::mix_table();
     let w = aes::key::expand(&sbox, key, nk);
-    gctr(&t, &sbox, &w, nk + 6, read_nonce(nonce), counter, text);
+    let aes = Encryptor {
+        t: &t,
+        sbox: &sbox,
+        w: &w,
+        rounds: nk + 6,
+    };
+    gctr(&aes, read_nonce(nonce), counter, text);
     true
 }

@@ -1,5 +1,5 @@
 // GCTR of a long text: 32 blocks at once, on planes of bits (crate `aes_sliced`).
-ghost use Rattle.std.specs.Prelude.{◌≡◌, ℕ, ◌+◌, ◌*◌, ◌/◌, ◌%◌, ◌^◌, ◌<◌, ◌≤◌, List, map, length};
+ghost use Rattle.std.specs.Prelude.{◌≡◌, ℕ, ◌+◌, ◌*◌, ◌/◌, ◌%◌, ◌^◌, ◌<◌, ◌≤◌, List, map, length, IfSome};
 ghost use Rattle.octets.specs.Buffers.{block_count};
 ghost use Rattle.octets.specs.Numbers.{to_be};
 ghost use Rattle.aes.specs.Words.{bytes, block_bytes};
@@ -12,6 +12,7 @@ ghost use Rattle.ctr.specs.Long.{set_block, Batch};
 
 use super::{Nonce, counter_block, xor_block};
 use aes::Block;
+use aes::encrypt::Encryptor;
 
 // Writes the words of block i.
 fn set_block(s: &mut [u32; 128], i: usize, x: Block)
@@ -34,7 +35,7 @@ fn counter_blocks(s: &mut [u32; 128], n: Nonce, c: u32)
     ensures batch { Batch (to_be 16) (nonce_bytes n) c 32 s.new }
 {
     for i in 0..32 {
-        let x = counter_block(n, std::num::wrapping_add_u32(c, i as u32));
+        let x = counter_block(n, c.wrapping_add(i as u32));
         set_block(s, i, x);
     }
 }
@@ -63,6 +64,7 @@ fn xor_blocks(text: &mut [u8], i: usize, m: usize, s: &[u32; 128])
         → Kept ciph nonce counter all text.old c i
         → Kept ciph nonce counter all text.new ((c + m) % 2 ^ 32) (i + m) }
 {
+    // An index: once a chunks_mut is over, a proof knows the text's length and not its bytes.
     for k in 0..m {
         xor_block(text, 16 * (i + k), block_of(s, k));
     }
@@ -87,43 +89,40 @@ fn batch(k: &[u32; 1920], rounds: usize, n: Nonce, c: u32, text: &mut [u8], i: u
     xor_blocks(text, i, m, &s);
 }
 
-// So many blocks go into the next batch, where so many are left and so many are done; 0 where the T-table does the rest in less
-// time. Here alone it is decided. With AES-128 a batch takes as long as 16 blocks from the table, whether it is full or not, and
-// the masks, made before the first one, as long as 5 more (docs/PERFORMANCE.md).
-fn batch_size(left: usize, done: usize) -> usize
-    ensures upper_bound { result ≤ 32 }
-    ensures upper_bound_2 { result ≤ left }
+// So many blocks go into the next batch, where so many are left and so many are done; none where the T-table does the rest in
+// less time. Here alone it is decided. With AES-128 a batch takes as long as 16 blocks from the table, whether it is full or not,
+// and the masks, made before the first one, as long as 5 more (docs/PERFORMANCE.md).
+fn batch_size(left: usize, done: usize) -> Option<usize>
+    ensures { IfSome result (λ m. (0 < m) × (m ≤ 32) × (m ≤ left)) }
 {
     let least = if done == 0 { 21 } else { 17 };
     if left < least {
-        return 0;
+        return None;
     }
     if left < 32 {
-        return left;
+        return Some(left);
     }
-    32
+    Some(32)
 }
 
 // GCTR of the first blocks of the text, and how many they are: all that are worth a batch.
-pub fn batches(w: &[u32; 60], rounds: usize, n: Nonce, counter: u32, text: &mut [u8]) -> usize
-    requires rounds_nonzero { 0 < rounds }
-    requires rounds_bound { rounds < 15 }
-    ensures { Kept (ciph_at rounds w.now) (nonce_bytes n) counter text.old text.new ((counter + result) % 2 ^ 32) result }
+pub fn batches(aes: &Encryptor<'_>, n: Nonce, counter: u32, text: &mut [u8]) -> usize
+    ensures { Kept (ciph_at aes.now.rounds aes.now.w.now) (nonce_bytes n) counter text.old text.new ((counter + result) % 2 ^ 32) result }
 {
     let blocks = (text.len() + 15) / 16;
-    let mut m = batch_size(blocks, 0);
-    if m == 0 {
+    let mut next = batch_size(blocks, 0);
+    if next.is_none() {
         return 0;
     }
     let mut k = [0u32; 1920];
-    aes_sliced::masks(&mut k, w, rounds);
+    aes_sliced::masks(&mut k, aes.w, aes.rounds);
     let mut c = counter;
     let mut i = 0;
-    while 0 < m {
-        batch(&k, rounds, n, c, text, i, m);
-        c = std::num::wrapping_add_u32(c, m as u32);
+    while let Some(m) = next {
+        batch(&k, aes.rounds, n, c, text, i, m);
+        c = c.wrapping_add(m as u32);
         i += m;
-        m = batch_size(blocks - i, i);
+        next = batch_size(blocks - i, i);
     }
     i
 }

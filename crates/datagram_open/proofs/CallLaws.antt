@@ -1,5 +1,6 @@
 -- A call of an opener is a step of the table with what its arguments decide; a law for each way out.
 -- Assumes nothing.
+use Rattle.std.specs.Prelude.{Err, Ok, Result}
 use mathlib.Core.Path.{◌≡◌, refl, sym, ap, ◌∙◌}
 use mathlib.Core.Bool.{true, false, cond}
 use mathlib.Core.List.{List, ◌++◌}
@@ -10,8 +11,7 @@ use lib.ListN.{length, drop, replicate, length-replicate}
 use Rattle.octets.specs.Buffers.{put}
 use Rattle.octets.proofs.BufferLaws.{put-again}
 use Rattle.session_record.specs.declared.Peer.{Peer}
-use Rattle.session_table.specs.declared.Admitted.{Admitted}
-use Rattle.session_table.specs.Table.{lawful, Entry, stores, replay, full, meet, keep, admitted}
+use Rattle.session_table.specs.Table.{Admitted, lawful, Entry, stores, replay, full, meet, keep, admitted}
 use Rattle.session_book.specs.Call.{Call, Decision, early, reaches, refused, onto}
 use Rattle.session_book.specs.Runs.{report, table_outcome_by, table_next_by}
 use Rattle.protocol.specs.Method.{cipher_of}
@@ -21,24 +21,18 @@ use Rattle.datagram_parts.specs.declared.Side.{Side}
 use Rattle.datagram_parts.specs.declared.Side.TheVariants.{Client, Server}
 use Rattle.datagram_parts.specs.Parts.{overhead}
 use Rattle.datagram_read.specs.declared.Header.{Header}
-use Rattle.datagram_read.specs.declared.Opened.{Opened}
-use Rattle.datagram_read.specs.declared.Opened.TheVariants.{Datagram, Refused}
 use Rattle.datagram_read.specs.Opening.{plain_of, read_answer, settled, read_out}
 use Rattle.datagram_open.specs.Deciding.{expected, opener_of, decided_by, decide, answer_of, call_of, admitted_as, entered, open_answer, open_out, open_table}
 use Rattle.datagram_read.proofs.OpeningLaws.{length-plain}
 use Rattle.datagram_read.proofs.ReadLaws.{answer-tells, opens-room, opened_out}
-
--- what was found
-pub as-law : (h : Header) (m n : Admitted) → m ≡ n → admitted_as h n ≡ admitted_as h m
-as-law h m n e = ap (admitted_as h) (sym e)
 
 pub expected-opener : (side : Side) → expected (opener_of side) ≡ side
 expected-opener Client = refl
 expected-opener (Server client) = refl
 
 -- a buffer settled by an equal answer
-pub settled-as : (a b : Opened) → a ≡ b → (due : ℕ) (out o : List ℕ) → o ≡ settled a due out → o ≡ settled b due out
-settled-as a b e due out o eo = eo ∙ ap (λ (x : Opened). settled x due out) e
+pub settled-as : (a b : Result Header Refusal) → a ≡ b → (due : ℕ) (out o : List ℕ) → o ≡ settled a due out → o ≡ settled b due out
+settled-as a b e due out o eo = eo ∙ ap (λ (x : Result Header Refusal). settled x due out) e
 
 -- the front of a buffer, written
 onto-put : (out s : List ℕ) → put out 0 s ≡ onto s out
@@ -65,7 +59,7 @@ module _ (method : ℕ) (key : List ℕ) (side : Side) (clock : ℕ) (peer : Pee
   abbrev call : Call
   call = call_of clock peer s out (opener_of side)
 
-  abbrev answer : Opened
+  abbrev answer : Result Header Refusal
   answer = read_answer method key side clock s out
 
   abbrev plain : List ℕ
@@ -104,17 +98,17 @@ module _ (method : ℕ) (key : List ℕ) (side : Side) (clock : ℕ) (peer : Pee
 
   module _ (l : lawful t ≡ true) (o : List ℕ) (eo : o ≡ read_out method key side clock s out) where
     -- refused before a session was looked at
-    pub refused-call : (a : Opened) → a ≡ answer → (r : Refusal) → a ≡ Refused r
+    pub refused-call : (a : Result Header Refusal) → a ≡ answer → (r : Refusal) → a ≡ Err r
         → (answer_of a ≡ open_answer method key (opener_of side) clock peer s t out)
         × ((o ≡ open_out method key (opener_of side) clock peer s t out) × (t ≡ open_table method key (opener_of side) clock peer s t out))
     refused-call a ea r er =
         let q =
         step l (early (refusal_number r) (read_out method key side clock s out))
-        (decided ∙ ap (λ (x : Opened). decided_by x (read_out method key side clock s out) plain) (sym ea ∙ er)) in
+        (decided ∙ ap (λ (x : Result Header Refusal). decided_by x (read_out method key side clock s out) plain) (sym ea ∙ er)) in
         (ap answer_of er ∙ q.0, (eo ∙ q.1.0, q.1.1))
 
     -- taken to its session
-    pub entered-call : (h : Header) → answer ≡ Datagram h → (f : ℕ) → f ≡ overhead (cipher_of method) → (u w : List ℕ)
+    pub entered-call : (h : Header) → answer ≡ Ok h → (f : ℕ) → f ≡ overhead (cipher_of method) → (u w : List ℕ)
         → u ≡ settled (entered h t clock peer) (length s - f) o
         → w ≡ keep (meet t clock peer h.session h.packet) t
         → (answer_of (entered h t clock peer) ≡ open_answer method key (opener_of side) clock peer s t out)
@@ -129,6 +123,6 @@ module _ (method : ℕ) (key : List ℕ) (side : Side) (clock : ℕ) (peer : Pee
         let written : o ≡ put out 0 plain = eo ∙ opened_out method key side clock s out h d in
         let q =
         step l (reaches h.session h.packet h plain)
-        (decided ∙ ap (λ (x : Opened). decided_by x (read_out method key side clock s out) plain) eh) in
+        (decided ∙ ap (λ (x : Result Header Refusal). decided_by x (read_out method key side clock s out) plain) eh) in
         let m = met h call due plain lp room (meet t clock peer h.session h.packet) in
         (m.0 ∙ q.0, (eu ∙ ap (settled (entered h t clock peer) due) written ∙ m.1 ∙ q.1.0, ew ∙ q.1.1))

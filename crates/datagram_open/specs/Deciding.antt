@@ -1,11 +1,9 @@
 -- Opening as a call on the session table: what the arguments of a call decide for a method and a key, which session a datagram
 -- names, and the answer, the buffer and the table that a call leaves.
-use Rattle.std.specs.Prelude.{Bool, cond, ◌&&◌, List, ℕ, ◌+◌, leb, length}
-use Rattle.std.proofs.Math.Option.{Option, none, some}
+use Rattle.std.specs.Prelude.{Bool, cond, ◌&&◌, List, ℕ, ◌+◌, leb, length, Err, Ok, Result, None, Option, Some}
 use Rattle.session_record.specs.declared.Peer.{Peer}
-use Rattle.session_table.specs.declared.Admitted.{Admitted}
-use Rattle.session_table.specs.declared.Admitted.TheVariants.{Accepted, Replay, Full}
-use Rattle.session_table.specs.Table.{meet, admitted}
+use Rattle.std.specs.Prelude.{Ok, Err}
+use Rattle.session_table.specs.Table.{Admitted, Replay, Full, meet, admitted}
 use Rattle.session_book.specs.Call.{Call, Answer, refused, opened, Decision, early, reaches}
 use Rattle.session_book.specs.Runs.{table_outcome, table_next}
 use Rattle.protocol.specs.declared.Cipher.{Cipher}
@@ -18,23 +16,22 @@ use Rattle.datagram_parts.specs.declared.Side.TheVariants.{Client, Server}
 use Rattle.datagram_parts.specs.Headers.{separate_length}
 use Rattle.datagram_parts.specs.Parts.{overhead}
 use Rattle.datagram_read.specs.declared.Header.{Header}
-use Rattle.datagram_read.specs.declared.Opened.{Opened}
-use Rattle.datagram_read.specs.declared.Opened.TheVariants.{Datagram, Refused}
 use Rattle.datagram_read.specs.Opening.{datagram_authentic, plain_of, session_of, read_answer, read_out}
+use Rattle.protocol.specs.declared.Refusal.{Refusal}
 
 -- whose datagram a call expects: a server's call has no client session ID, and opens clients' datagrams
 abbrev pub expected : Option ℕ → Side
-expected none = Client
-expected (some client) = Server client
+expected None = Client
+expected (Some client) = Server client
 
 -- the client session ID that the opener of a side's datagrams brings
 abbrev pub opener_of : Side → Option ℕ
-opener_of Client = none
-opener_of (Server client) = some client
+opener_of Client = None
+opener_of (Server client) = Some client
 
-abbrev pub decided_by : Opened → List ℕ → List ℕ → Decision Header
-decided_by (Datagram h) out plain = reaches h.session h.packet h plain
-decided_by (Refused r) out plain = early (refusal_number r) out
+abbrev pub decided_by : Result Header Refusal → List ℕ → List ℕ → Decision Header
+decided_by (Ok h) out plain = reaches h.session h.packet h plain
+decided_by (Err r) out plain = early (refusal_number r) out
 
 -- whether a datagram names a session: with AES by its first 16 bytes, whatever stands behind them; with ChaCha the ID is sealed, so
 -- that the datagram has to be authentic, with a plaintext of 8 bytes or more
@@ -51,23 +48,23 @@ module _ (method : ℕ) (key : List ℕ) where
   -- the session that a datagram names, whether it is accepted or not; none where the method or the key gives refusal 1
   unfoldable pub belongs : Call → Option ℕ
   belongs c =
-      cond (key_fits method (length key) && names (cipher_of method) key c.datagram) (some (session_of (cipher_of method) key c.datagram))
-      none
+      cond (key_fits method (length key) && names (cipher_of method) key c.datagram) (Some (session_of (cipher_of method) key c.datagram))
+      None
 
 -- ---- a call of the code
 
 -- the number or the header that an answer gives
-abbrev pub answer_of : Opened → Answer Header
-answer_of (Datagram h) = opened h
-answer_of (Refused r) = refused (refusal_number r)
+abbrev pub answer_of : Result Header Refusal → Answer Header
+answer_of (Ok h) = opened h
+answer_of (Err r) = refused (refusal_number r)
 
 -- a header that was read, by what its packet ID met
-abbrev pub admitted_as : Header → Admitted → Opened
-admitted_as h Accepted = Datagram h
-admitted_as h Replay = Refused RefusedReplay
-admitted_as h Full = Refused RefusedFull
+abbrev pub admitted_as : Header → Admitted → Result Header Refusal
+admitted_as h (Ok u) = Ok h
+admitted_as h (Err Replay) = Err RefusedReplay
+admitted_as h (Err Full) = Err RefusedFull
 
-unfoldable pub entered : Header → List ℕ → ℕ → Peer → Opened
+unfoldable pub entered : Header → List ℕ → ℕ → Peer → Result Header Refusal
 entered h t clock peer = admitted_as h (admitted (meet t clock peer h.session h.packet))
 
 abbrev pub call_of : ℕ → Peer → List ℕ → List ℕ → Option ℕ → Call

@@ -1,25 +1,24 @@
 // Opening datagrams of SIP022, sections 3.2 and 4: takes what was read to its session.
 #![tactic(auto)]
 
-ghost use Rattle.std.specs.Prelude.{◌≡◌, ◌≤◌, length, drop};
-ghost use Rattle.std.proofs.Math.Option.{none, some};
+ghost use Rattle.std.specs.Prelude.{◌≡◌, ◌≤◌, length, drop, None, Some};
 ghost use Rattle.session_table.specs.Table.{table_words, meet, keep};
 ghost use Rattle.datagram_read.specs.Opening.{settled};
 ghost use Rattle.datagram_open.specs.Deciding.{opener_of, answer_of, admitted_as, entered, open_answer, open_out, open_table};
 
 use datagram_parts::{Side, overhead};
-pub use datagram_read::{Header, Opened};
+pub use datagram_read::Header;
 use datagram_read::{clear_refused, read_datagram};
 use protocol::Refusal;
-use session_table::{Admitted, Peer};
+use session_table::{NotAdmitted, Peer};
 
-fn admitted_as(header: Header, met: Admitted) -> Opened
+fn admitted_as(header: Header, met: Result<(), NotAdmitted>) -> Result<Header, Refusal>
     ensures { result ≡ admitted_as header met }
 {
     match met {
-        Admitted::Accepted => Opened::Datagram(header),
-        Admitted::Replay => Opened::Refused(Refusal::Replay),
-        Admitted::Full => Opened::Refused(Refusal::Full),
+        Ok(()) => Ok(header),
+        Err(NotAdmitted::Replay) => Err(Refusal::Replay),
+        Err(NotAdmitted::Full) => Err(Refusal::Full),
     }
 }
 
@@ -32,7 +31,7 @@ fn take_to_session(
     due: usize,
     table: &mut [u64],
     out: &mut [u8],
-) -> Opened
+) -> Result<Header, Refusal>
     requires table_len { length table.old ≡ table_words }
     requires due_in_bounds { due ≤ length out.old }
     ensures value { result ≡ entered header table.old clock peer }
@@ -55,7 +54,7 @@ fn open(
     s: &[u8],
     table: &mut [u64],
     out: &mut [u8],
-) -> Opened
+) -> Result<Header, Refusal>
     ensures result_value { answer_of result
         ≡ open_answer method key.now (opener_of side) clock peer s.now table.old
         out.old }
@@ -66,17 +65,12 @@ fn open(
         ≡ open_table method key.now (opener_of side) clock peer s.now table.old
         out.old }
 {
-    if session_table::is_lawful(table) {
-        let read = read_datagram(method, key, side, clock, s, out);
-        return match read {
-            Opened::Refused(_) => read,
-            Opened::Datagram(header) => {
-                let due = s.len() - overhead(protocol::cipher_of(method));
-                take_to_session(header, clock, peer, due, table, out)
-            }
-        };
+    if !session_table::is_lawful(table) {
+        return Err(Refusal::Settings);
     }
-    Opened::Refused(Refusal::Settings)
+    let header = read_datagram(method, key, side, clock, s, out)?;
+    let due = s.len() - overhead(protocol::cipher_of(method));
+    take_to_session(header, clock, peer, due, table, out)
 }
 
 // Opens a client's datagram, for a server, into the lent buffer: its header, or a refusal in the order 1, 2, 3, 4, 5, 6, 7, 5,
@@ -90,13 +84,13 @@ pub fn open_server(
     s: &[u8],
     table: &mut [u64],
     out: &mut [u8],
-) -> Opened
+) -> Result<Header, Refusal>
     ensures result_value { answer_of result
-        ≡ open_answer method key.now none clock peer s.now table.old out.old }
+        ≡ open_answer method key.now None clock peer s.now table.old out.old }
     ensures out_after { out.new
-        ≡ open_out method key.now none clock peer s.now table.old out.old }
+        ≡ open_out method key.now None clock peer s.now table.old out.old }
     ensures table_after { table.new
-        ≡ open_table method key.now none clock peer s.now table.old out.old }
+        ≡ open_table method key.now None clock peer s.now table.old out.old }
 {
     open(method, key, Side::Client, clock, peer, s, table, out)
 }
@@ -111,15 +105,15 @@ pub fn open_client(
     s: &[u8],
     table: &mut [u64],
     out: &mut [u8],
-) -> Opened
+) -> Result<Header, Refusal>
     ensures result_value { answer_of result
-        ≡ open_answer method key.now (some client) clock peer s.now table.old
+        ≡ open_answer method key.now (Some client) clock peer s.now table.old
         out.old }
     ensures out_after { out.new
-        ≡ open_out method key.now (some client) clock peer s.now table.old
+        ≡ open_out method key.now (Some client) clock peer s.now table.old
         out.old }
     ensures table_after { table.new
-        ≡ open_table method key.now (some client) clock peer s.now table.old
+        ≡ open_table method key.now (Some client) clock peer s.now table.old
         out.old }
 {
     open(
@@ -138,8 +132,5 @@ pub fn open_client(
 pub fn payload(plain: &[u8], place: usize) -> &[u8]
     ensures { result.now ≡ drop place plain.now }
 {
-    if plain.len() < place {
-        return &plain[plain.len()..];
-    }
-    &plain[place..]
+    &plain[place.min(plain.len())..]
 }

@@ -1,5 +1,5 @@
 -- SIP022, sections 3.2 and 4: the parts of a datagram under its keys.
-use Rattle.std.specs.Prelude.{Bool, true, List, ◌++◌, ℕ, ◌+◌, eqb, length, take, drop}
+use Rattle.std.specs.Prelude.{Bool, true, List, ◌++◌, ℕ, ◌+◌, eqb, length, take, drop, None, Option, Some}
 use Rattle.aes.specs.KeyExpansion.{aes}
 use Rattle.aes.specs.Keyed.{nk_of}
 pub use Rattle.gcm.specs.Gcm.{tag_length}
@@ -8,11 +8,10 @@ use Rattle.gcm.specs.Keyed.{ciph_of}
 use Rattle.chacha_poly.specs.Extended.{extended_seal}
 use Rattle.protocol.specs.declared.Cipher.{Cipher}
 use Rattle.protocol.specs.declared.Cipher.TheVariants.{AesGcm, ChaChaPoly}
-use Rattle.protocol.specs.declared.Numbered.{Numbered}
-use Rattle.protocol.specs.declared.Numbered.TheVariants.{Known, Unknown}
 use Rattle.protocol.specs.Method.{method_of}
 use Rattle.protocol.specs.Subkey.{session_subkey, subkey}
 use Rattle.datagram_parts.specs.Headers.{separate_length, separate_header, nonce, main_start}
+use Rattle.protocol.specs.declared.Method.{Method}
 
 -- what UDP can carry over IPv4
 abbrev pub max_datagram : ℕ
@@ -36,9 +35,9 @@ abbrev pub packet_overhead : Cipher → ℕ
 packet_overhead cipher = overhead cipher + main_start cipher
 
 -- the same by the method; 0 where there is no such method
-abbrev pub overhead_in : Numbered → ℕ
-overhead_in (Known m) = packet_overhead m.cipher
-overhead_in Unknown = 0
+abbrev pub overhead_in : Option Method → ℕ
+overhead_in (Some m) = packet_overhead m.cipher
+overhead_in None = 0
 
 unfoldable pub overhead_of : ℕ → ℕ
 overhead_of method = overhead_in (method_of method)

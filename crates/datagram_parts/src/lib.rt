@@ -17,7 +17,11 @@ ghost use Rattle.datagram_parts.specs.Headers.{separate_length, separate_header,
 ghost use Rattle.datagram_parts.specs.Parts.{tag_length, max_datagram, nonce_length, lead_length, overhead, packet_overhead, overhead_of, nonce_fits, separate_block, seal_under, seal_body, datagram_by};
 
 use gcm::TAG;
-use protocol::{Cipher, MAX_KEY, Method, Numbered};
+use protocol::{Cipher, MAX_KEY, Method};
+
+mod key;
+
+pub use key::SharedKey;
 
 // The longest datagram: what UDP can carry over IPv4.
 pub const MAX_DATAGRAM: usize = 65507;
@@ -38,6 +42,23 @@ const SERVER_FIXED: usize = CLIENT_FIXED + 8;
 pub enum Side {
     Client,
     Server(u64),
+}
+
+// What names a datagram: the ID of its session and its own in it.
+#[derive(Clone, Copy)]
+pub struct Ids {
+    pub session: u64,
+    pub packet: u64,
+}
+
+// What a datagram says: main header, padding, address and payload. The address is given as its bytes.
+#[derive(Clone, Copy)]
+pub struct Message<'a> {
+    pub side: Side,
+    pub clock: u64,
+    pub address: &'a [u8],
+    pub padding: u16,
+    pub payload: &'a [u8],
 }
 
 // ---- lengths
@@ -77,16 +98,11 @@ pub fn packet_overhead(cipher: Cipher) -> usize
 }
 
 // The same by the method; 0 where there is no such method.
+#[tactic(auto, unfolding(crate::specs::Parts::overhead_of))]
 pub fn overhead_of(method: u64) -> usize
     ensures { result ≡ overhead_of method }
 {
-    match Method::numbered(method) {
-        Numbered::Known(m) => {
-            let cipher = m.cipher;
-            packet_overhead(cipher)
-        }
-        Numbered::Unknown => 0,
-    }
+    Method::numbered(method).map_or(0, |m| packet_overhead(m.cipher))
 }
 
 // Whether a nonce of so many bytes serves: with ChaCha it is part of the datagram, and with AES it is not looked at.
@@ -111,13 +127,24 @@ pub fn fixed_length(side: Side) -> usize
 
 // ---- the text that is sealed
 
-// Session ID and packet ID.
-fn write_ids(out: &mut [u8], id: u64, packet: u64)
-    requires { separate_length ≤ length out.old }
-    ensures { out.new ≡ put out.old 0 (separate_header id packet) }
-{
-    octets::write_u64_be(out, 0, id);
-    octets::write_u64_be(out, 8, packet);
+impl Ids {
+    // The two in the order in which they stand in a datagram.
+    fn write(self, out: &mut [u8])
+        requires { separate_length ≤ length out.old }
+        ensures { out.new ≡ put out.old 0 (separate_header self.session self.packet) }
+    {
+        octets::write_u64_be(out, 0, self.session);
+        octets::write_u64_be(out, 8, self.packet);
+    }
+
+    // The separate header in the clear.
+    fn separate_header(self) -> [u8; SEPARATE]
+        ensures { result ≡ separate_header self.session self.packet }
+    {
+        let mut header = [0u8; SEPARATE];
+        self.write(&mut header);
+        header
+    }
 }
 
 // Type and time.
@@ -129,137 +156,120 @@ fn write_start(out: &mut [u8], kind: u8, clock: u64)
     octets::write_u64_be(out, 1, clock);
 }
 
-// The main header before its padding.
-fn write_fixed(out: &mut [u8], side: Side, clock: u64, padding: usize)
-    requires server_fixed_in_bounds { server_fixed ≤ length out.old }
-    requires padding_le_max_datagram { padding ≤ max_datagram }
-    ensures { out.new ≡ put out.old 0 (fixed_part side clock padding) }
-{
-    match side {
-        Side::Client => {
-            write_start(out, 0, clock);
-            octets::write_u16_be(out, 9, padding as u16);
+impl Message<'_> {
+    // The main header before its padding.
+    fn write_fixed(&self, out: &mut [u8])
+        requires { server_fixed ≤ length out.old }
+        ensures { out.new ≡ put out.old 0 (fixed_part self.now.side self.now.clock self.now.padding) }
+    {
+        match self.side {
+            Side::Client => {
+                write_start(out, 0, self.clock);
+                octets::write_u16_be(out, 9, self.padding);
+            }
+            Side::Server(client) => {
+                write_start(out, 1, self.clock);
+                octets::write_u64_be(out, 9, client);
+                octets::write_u16_be(out, 17, self.padding);
+            }
         }
-        Side::Server(client) => {
-            write_start(out, 1, clock);
-            octets::write_u64_be(out, 9, client);
-            octets::write_u16_be(out, 17, padding as u16);
-        }
+    }
+
+    // All of it, to the front of a buffer with room for it and for the tag.
+    fn write(&self, out: &mut [u8])
+        requires { fixed_length self.now.side + self.now.padding + length self.now.address.now + length self.now.payload.now + tag_length
+            ≤ length out.old }
+        ensures { out.new
+            ≡ put out.old 0 (plaintext self.now.side self.now.clock self.now.padding self.now.address.now self.now.payload.now) }
+    {
+        self.write_fixed(out);
+        let fixed = fixed_length(self.side);
+        let padding = self.padding as usize;
+        octets::zero(out, fixed, padding);
+        let at = fixed + padding;
+        octets::copy(out, at, self.address);
+        octets::copy(out, at + self.address.len(), self.payload);
     }
 }
 
-// Main header, padding, address and payload, to the front of a buffer with room for it and for the tag.
-fn write_plaintext(
-    out: &mut [u8],
-    side: Side,
-    clock: u64,
-    address: &[u8],
-    padding: usize,
-    payload: &[u8],
-)
-    requires padding_le_max_datagram { padding ≤ max_datagram }
-    requires tag_length_in_bounds { fixed_length side + padding + length address.now + length payload.now + tag_length ≤ length out.old }
-    ensures { out.new
-        ≡ put out.old 0 (plaintext side clock padding address.now payload.now) }
-{
-    write_fixed(out, side, clock, padding);
-    let fixed = fixed_length(side);
-    octets::zero(out, fixed, padding);
-    let at = fixed + padding;
-    octets::copy(out, at, address);
-    octets::copy(out, at + address.len(), payload);
-}
-
 // What stands in front of the main header: with ChaCha session ID and packet ID, and with AES nothing.
-fn write_inner_ids(out: &mut [u8], cipher: Cipher, id: u64, packet: u64)
+fn write_inner_ids(out: &mut [u8], cipher: Cipher, ids: Ids)
     requires { main_start cipher ≤ length out.old }
-    ensures { out.new ≡ put out.old 0 (inner_ids cipher id packet) }
+    ensures { out.new ≡ put out.old 0 (inner_ids cipher ids.session ids.packet) }
 {
     match cipher {
         Cipher::AesGcm => {}
-        Cipher::ChaChaPoly(_) => write_ids(out, id, packet),
+        Cipher::ChaChaPoly(_) => ids.write(out),
     }
 }
 
 // All that is sealed, to the front of a buffer with room for it and for the tag.
-pub fn write_text(
-    out: &mut [u8],
-    cipher: Cipher,
-    id: u64,
-    packet: u64,
-    side: Side,
-    clock: u64,
-    address: &[u8],
-    padding: usize,
-    payload: &[u8],
-)
-    requires padding_le_max_datagram { padding ≤ max_datagram }
-    requires tag_length_in_bounds { main_start cipher + (fixed_length side + padding + length address.now + length payload.now) + tag_length
+pub fn write_text(out: &mut [u8], cipher: Cipher, ids: Ids, message: &Message<'_>)
+    requires { main_start cipher + (fixed_length message.now.side + message.now.padding + length message.now.address.now + length message.now.payload.now) + tag_length
         ≤ length out.old }
     ensures { out.new
         ≡ put out.old 0
-        (sealed_text cipher id packet side clock padding address.now payload.now) }
+        (sealed_text cipher ids.session ids.packet message.now.side message.now.clock message.now.padding message.now.address.now
+        message.now.payload.now) }
 {
-    write_inner_ids(out, cipher, id, packet);
+    write_inner_ids(out, cipher, ids);
     let start = main_start(cipher);
-    write_plaintext(&mut out[start..], side, clock, address, padding, payload);
+    message.write(&mut out[start..]);
 }
 
 // ---- sealing, where the text stands behind room for what leads it and before room for the tag
 
-// The separate header in the clear.
-fn separate_header(id: u64, packet: u64) -> [u8; SEPARATE]
-    ensures { result ≡ separate_header id packet }
-{
-    let mut header = [0u8; SEPARATE];
-    write_ids(&mut header, id, packet);
-    header
-}
-
 // A separate header, given in the clear, encrypted to the front of a buffer. AES's tables are lent, as for the body: a datagram
 // has them once.
-fn write_separate(t: &[u32; 256], sbox: &[u8; 256], out: &mut [u8], key: &[u8], header: &[u8])
-    requires nonzero { 0 < nk_of (length key.now) }
+fn write_separate(
+    t: &[u32; 256],
+    sbox: &[u8; 256],
+    out: &mut [u8],
+    key: &SharedKey<'_>,
+    header: &[u8; SEPARATE],
+)
     requires separate_length_in_bounds { separate_length ≤ length out.old }
     requires table { IsTable mix_entry t.now }
     requires table_2 { IsTable s_box sbox.now }
-    requires header_len { length header.now ≡ separate_length }
     ensures { out.new
-        ≡ put out.old 0 (aes (nk_of (length key.now)) key.now header.now) }
+        ≡ put out.old 0 (aes (nk_of (length key.now.bytes.now)) key.now.bytes.now header.now) }
 {
     octets::copy(out, 0, header);
-    aes::encrypt::encrypt_with(t, sbox, key, &mut out[..SEPARATE]);
+    aes::encrypt::encrypt_with(t, sbox, key.bytes, &mut out[..SEPARATE]);
 }
 
 // Seals a body in place: its last bytes are room for the tag. The separate header in the clear has the session ID, which the
 // subkey is derived from, and the nonce.
-fn seal_body(t: &[u32; 256], sbox: &[u8; 256], body: &mut [u8], key: &[u8], header: &[u8])
-    requires nonzero { 0 < nk_of (length key.now) }
+fn seal_body(
+    t: &[u32; 256],
+    sbox: &[u8; 256],
+    body: &mut [u8],
+    key: &SharedKey<'_>,
+    header: &[u8; SEPARATE],
+)
     requires tag_length_in_bounds { tag_length ≤ length body.old }
     requires body_len_bound { length body.old ≤ max_datagram }
     requires table { IsTable mix_entry t.now }
     requires table_2 { IsTable s_box sbox.now }
-    requires header_len { length header.now ≡ separate_length }
-    ensures { body.new ≡ seal_under key.now header.now (text_of body.old) }
+    ensures { body.new ≡ seal_under key.now.bytes.now header.now (text_of body.old) }
 {
     let mut subkey = [0u8; MAX_KEY];
-    protocol::derive_subkey(key, &header[..8], &mut subkey);
-    let n = key.len();
-    gcm::seal_in_place_with(t, sbox, &subkey[..n], &header[4..SEPARATE], body);
+    protocol::derive_subkey(key.bytes, &header[..8], &mut subkey);
+    let n = key.bytes.len();
+    gcm::seal_in_place_with(t, sbox, &subkey[..n], &header[4..], body);
 }
 
 // With AES: a separate header, which is made once: it is encrypted, and lends the nonce.
-fn seal_aes(s: &mut [u8], key: &[u8], id: u64, packet: u64)
+fn seal_aes(s: &mut [u8], key: &SharedKey<'_>, ids: Ids)
     requires overhead_in_bounds { overhead AesGcm ≤ length s.old }
     requires s_len_bound { length s.old ≤ max_datagram }
-    requires nonzero { 0 < nk_of (length key.now) }
     ensures { s.new
-        ≡ separate_block key.now id packet
-        ++ seal_body key.now id packet (text_of (drop separate_length s.old)) }
+        ≡ separate_block key.now.bytes.now ids.session ids.packet
+        ++ seal_body key.now.bytes.now ids.session ids.packet (text_of (drop separate_length s.old)) }
 {
     let sbox = aes_tables::sbox();
     let t = aes_tables::mix_table();
-    let header = separate_header(id, packet);
+    let header = ids.separate_header();
     write_separate(&t, &sbox, s, key, &header);
     seal_body(&t, &sbox, &mut s[SEPARATE..], key, &header);
 }
@@ -276,16 +286,16 @@ fn seal_chacha(doubles: usize, s: &mut [u8], key: &[u8], nonce: &[u8])
 }
 
 // A datagram, in the buffer that it fills.
-pub fn seal_in_place(cipher: Cipher, s: &mut [u8], key: &[u8], nonce: &[u8], id: u64, packet: u64)
-    requires cipher_in_bounds { overhead cipher ≤ length s.old }
+pub fn seal_in_place(s: &mut [u8], key: &SharedKey<'_>, nonce: &[u8], ids: Ids)
+    requires cipher_in_bounds { overhead key.now.cipher ≤ length s.old }
     requires s_len_bound { length s.old ≤ max_datagram }
-    requires nonzero { 0 < nk_of (length key.now) }
-    requires nonce_value { nonce_fits cipher (length nonce.now) ≡ true }
+    requires nonce_value { nonce_fits key.now.cipher (length nonce.now) ≡ true }
     ensures { s.new
-        ≡ datagram_by cipher key.now nonce.now id packet (text_of (drop (lead_length cipher) s.old)) }
+        ≡ datagram_by key.now.cipher key.now.bytes.now nonce.now ids.session ids.packet
+        (text_of (drop (lead_length key.now.cipher) s.old)) }
 {
-    match cipher {
-        Cipher::AesGcm => seal_aes(s, key, id, packet),
-        Cipher::ChaChaPoly(doubles) => seal_chacha(doubles, s, key, nonce),
+    match key.cipher {
+        Cipher::AesGcm => seal_aes(s, key, ids),
+        Cipher::ChaChaPoly(doubles) => seal_chacha(doubles, s, key.bytes, nonce),
     }
 }

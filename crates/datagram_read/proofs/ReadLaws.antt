@@ -1,5 +1,6 @@
 -- What a header that was read tells, and what gives a header: each test of the order came out well. And what the buffer holds.
 -- Assumes nothing.
+use Rattle.std.specs.Prelude.{Err, None, Ok, Option, Result, Some}
 use mathlib.Core.Path.{◌≡◌, refl, sym, ap, ◌∙◌}
 use mathlib.Core.Bool.{Bool, true, false, cond, ◌&&◌, and-eq-true_iff}
 use mathlib.Core.List.{List}
@@ -15,33 +16,30 @@ use Rattle.protocol.specs.Method.{key_fits, cipher_of}
 use Rattle.protocol.specs.declared.Refusal.{Refusal}
 use Rattle.protocol.specs.declared.Refusal.TheVariants.{Settings, Length, Room, NotAuthentic, Malformed, WrongType, WrongTime, Binding}
 use Rattle.protocol.specs.Time.{time_valid}
-use Rattle.socks5.specs.declared.Parsed.{Parsed}
-use Rattle.socks5.specs.declared.Parsed.TheVariants.{Found, Malformed as NoAddress}
 use Rattle.socks5.specs.Address.{parse_at}
 use Rattle.datagram_parts.specs.declared.Side.{Side}
 use Rattle.datagram_parts.specs.Headers.{type_of, fixed_length, main_start}
 use Rattle.datagram_parts.specs.Parts.{overhead}
 use Rattle.datagram_read.specs.declared.Header.{Header}
-use Rattle.datagram_read.specs.declared.Opened.{Opened}
-use Rattle.datagram_read.specs.declared.Opened.TheVariants.{Datagram, Refused}
 use Rattle.datagram_read.specs.Opening.{datagram_authentic, plain_of, session_of, packet_of, time_of, padding_of, meant, header_with, read_address, read_main, length_lawful, main_of, read_text, read_answer, settled, text_out, read_out}
 use Rattle.datagram_read.proofs.OpeningLaws.{length-plain}
+use Rattle.socks5.specs.declared.Address.{Address}
 
 -- ---- answers
 
 -- 1 for a header, 0 for a refusal
-abbrev is_header : Opened → ℕ
-is_header (Datagram h) = 1
-is_header (Refused r) = 0
+abbrev is_header : Result Header Refusal → ℕ
+is_header (Ok h) = 1
+is_header (Err r) = 0
 
-not-refused : (r : Refusal) (h : Header) → Refused r ≡ Datagram h → ⊥
+not-refused : (r : Refusal) (h : Header) → Err r ≡ Ok h → ⊥
 not-refused r h e = let z : ◌≡◌ {A = ℕ} 0 1 = ap is_header e in omega arith
 
-record Passed (b : Bool) (x : Opened) (h : Header) : Type 0 where
+record Passed (b : Bool) (x : Result Header Refusal) (h : Header) : Type 0 where
   test : b ≡ true
-  then : x ≡ Datagram h
+  then : x ≡ Ok h
 
-passed : (b : Bool) (x : Opened) (r : Refusal) (h : Header) → cond b x (Refused r) ≡ Datagram h → Passed b x h
+passed : (b : Bool) (x : Result Header Refusal) (r : Refusal) (h : Header) → cond b x (Err r) ≡ Ok h → Passed b x h
 passed true x r h e = record { test = refl; then = e }
 passed false x r h e = absurd (not-refused r h e)
 
@@ -53,10 +51,10 @@ pub record Reads (start : ℕ) (side : Side) (clock id packet : ℕ) (plain : Li
   pub kind : eqb (get_or plain start 0) (type_of side) ≡ true
   pub timely : time_valid (time_of start plain) clock ≡ true
   pub ours : meant start side plain ≡ true
-  pub address : read_address start side id packet plain ≡ Datagram h
+  pub address : read_address start side id packet plain ≡ Ok h
 
 module _ (start : ℕ) (side : Side) (clock id packet : ℕ) (plain : List ℕ) (h : Header) where
-  pub main-tells : read_main start side clock id packet plain ≡ Datagram h → Reads start side clock id packet plain h
+  pub main-tells : read_main start side clock id packet plain ≡ Ok h → Reads start side clock id packet plain h
   unfolding read_main
   main-tells e =
       let e₁ = passed (leb (start + fixed_length side) (length plain)) _ _ h e in
@@ -65,13 +63,13 @@ module _ (start : ℕ) (side : Side) (clock id packet : ℕ) (plain : List ℕ) 
       let e₄ = passed (meant start side plain) _ _ h e₃.then in
       record { long = e₁.test; kind = e₂.test; timely = e₃.test; ours = e₄.test; address = e₄.then }
 
-  pub main-given : Reads start side clock id packet plain h → read_main start side clock id packet plain ≡ Datagram h
+  pub main-given : Reads start side clock id packet plain h → read_main start side clock id packet plain ≡ Ok h
   unfolding read_main
   main-given d =
       (λ i. cond (d.long i)
       (cond (d.kind i)
-      (cond (d.timely i) (cond (d.ours i) (read_address start side id packet plain) (Refused Binding)) (Refused WrongTime))
-      (Refused WrongType)) (Refused Malformed))
+      (cond (d.timely i) (cond (d.ours i) (read_address start side id packet plain) (Err Binding)) (Err WrongTime))
+      (Err WrongType)) (Err Malformed))
       ∙ d.address
 
 -- the whole datagram, with lawful settings, length and room
@@ -84,22 +82,22 @@ pub record Opens (method : ℕ) (key : List ℕ) (side : Side) (clock : ℕ) (s 
       (plain_of (cipher_of method) key s) h
 
 -- what a header that was read says of its session and its packet ID
-abbrev session_in : Opened → ℕ → ℕ
-session_in (Datagram h) other = h.session
-session_in (Refused r) other = other
+abbrev session_in : Result Header Refusal → ℕ → ℕ
+session_in (Ok h) other = h.session
+session_in (Err r) other = other
 
-abbrev packet_in : Opened → ℕ → ℕ
-packet_in (Datagram h) other = h.packet
-packet_in (Refused r) other = other
+abbrev packet_in : Result Header Refusal → ℕ → ℕ
+packet_in (Ok h) other = h.packet
+packet_in (Err r) other = other
 
 module _ (id packet time padding : ℕ) (h : Header) where
-  with-session : (p : Parsed) → header_with id packet time padding p ≡ Datagram h → h.session ≡ id
-  with-session (Found a) e = sym (ap (λ (o : Opened). session_in o id) e)
-  with-session NoAddress e = absurd (not-refused Malformed h e)
+  with-session : (p : Option Address) → header_with id packet time padding p ≡ Ok h → h.session ≡ id
+  with-session (Some a) e = sym (ap (λ (o : Result Header Refusal). session_in o id) e)
+  with-session None e = absurd (not-refused Malformed h e)
 
-  with-packet : (p : Parsed) → header_with id packet time padding p ≡ Datagram h → h.packet ≡ packet
-  with-packet (Found a) e = sym (ap (λ (o : Opened). packet_in o packet) e)
-  with-packet NoAddress e = absurd (not-refused Malformed h e)
+  with-packet : (p : Option Address) → header_with id packet time padding p ≡ Ok h → h.packet ≡ packet
+  with-packet (Some a) e = sym (ap (λ (o : Result Header Refusal). packet_in o packet) e)
+  with-packet None e = absurd (not-refused Malformed h e)
 
 module _ (method : ℕ) (key : List ℕ) (side : Side) (clock : ℕ) (s out : List ℕ) where
   abbrev cipher : Cipher
@@ -124,7 +122,7 @@ module _ (method : ℕ) (key : List ℕ) (side : Side) (clock : ℕ) (s out : Li
   settings = key_fits method (length key) && (length_lawful cipher s && leb due (length out))
 
   module _ (h : Header) where
-    pub answer-tells : read_answer method key side clock s out ≡ Datagram h → Opens method key side clock s out h
+    pub answer-tells : read_answer method key side clock s out ≡ Ok h → Opens method key side clock s out h
     unfolding read_answer read_text
     answer-tells e =
         let e₁ = passed (key_fits method (length key)) _ _ h e in
@@ -139,13 +137,13 @@ module _ (method : ℕ) (key : List ℕ) (side : Side) (clock : ℕ) (s out : Li
           main = main-tells start side clock id packet plain h e₄.then;
         }
 
-    pub answer-given : Opens method key side clock s out h → read_answer method key side clock s out ≡ Datagram h
+    pub answer-given : Opens method key side clock s out h → read_answer method key side clock s out ≡ Ok h
     unfolding read_answer read_text
     answer-given d =
         (λ i. cond (d.fits i)
         (cond (d.size i)
-        (cond (d.room i) (cond (d.authentic i) (main_of cipher side clock key s) (Refused NotAuthentic)) (Refused Room))
-        (Refused Length)) (Refused Settings))
+        (cond (d.room i) (cond (d.authentic i) (main_of cipher side clock key s) (Err NotAuthentic)) (Err Room))
+        (Err Length)) (Err Settings))
         ∙ main-given start side clock id packet plain h d.main
 
     module _ (d : Opens method key side clock s out h) where
@@ -197,19 +195,19 @@ module _ (method : ℕ) (key : List ℕ) (side : Side) (clock : ℕ) (s out : Li
 
   -- after a good tag: zeros where the plaintext was, as many as are due
   pub cleared-out : settings ≡ true → datagram_authentic cipher key s ≡ true → (r : Refusal)
-      → read_answer method key side clock s out ≡ Refused r → due ≤ length out
+      → read_answer method key side clock s out ≡ Err r → due ≤ length out
       → read_out method key side clock s out ≡ put out 0 (replicate due 0)
   unfolding read_answer read_text read_out text_out
   cleared-out e a r ea room =
       let lp : length plain ≡ due = length-plain cipher key s in
       let lz : length (replicate {A = ℕ} due 0) ≡ due = length-replicate due 0 in
       let fits = parts (key_fits method (length key)) (length_lawful cipher s) (leb due (length out)) e in
-      let main : main_of cipher side clock key s ≡ Refused r =
+      let main : main_of cipher side clock key s ≡ Err r =
       sym
       (λ i. cond (fits.0 i)
       (cond (fits.1.0 i)
-      (cond (fits.1.1 i) (cond (a i) (main_of cipher side clock key s) (Refused NotAuthentic)) (Refused Room)) (Refused Length))
-      (Refused Settings))
+      (cond (fits.1.1 i) (cond (a i) (main_of cipher side clock key s) (Err NotAuthentic)) (Err Room)) (Err Length))
+      (Err Settings))
       ∙ ea in
       (λ i. cond (e i) (cond (a i) (settled (main i) due (put out 0 plain)) out) out)
       ∙ put-again out plain (replicate due 0) (omega (arith, lp)) (lz ∙ sym lp)

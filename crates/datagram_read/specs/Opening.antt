@@ -1,7 +1,7 @@
 -- Opening a datagram (SIP022, sections 3.2 and 4) as far as its arguments decide it, before any session is looked at: what is
 -- answered and what the lent buffer holds then. A client's datagrams are opened by a server, a server's by the client whose
 -- session ID they name, so the side here is the one whose datagrams are expected.
-use Rattle.std.specs.Prelude.{Bool, true, cond, ◌&&◌, List, ℕ, ◌+◌, ◌-◌, eqb, leb, length, get_or, take, drop, replicate}
+use Rattle.std.specs.Prelude.{Bool, true, cond, ◌&&◌, List, ℕ, ◌+◌, ◌-◌, eqb, leb, length, get_or, take, drop, replicate, Err, None, Ok, Option, Result, Some}
 use Rattle.octets.specs.Buffers.{put}
 use Rattle.octets.specs.Numbers.{be}
 use Rattle.aes.specs.Keyed.{nk_of}
@@ -15,17 +15,15 @@ use Rattle.protocol.specs.Method.{key_fits, cipher_of}
 use Rattle.protocol.specs.declared.Refusal.TheVariants.{Settings, Length, Room, NotAuthentic, Malformed, WrongType, WrongTime, Binding}
 use Rattle.protocol.specs.Subkey.{session_subkey}
 use Rattle.protocol.specs.Time.{time_valid}
-use Rattle.socks5.specs.declared.Parsed.{Parsed}
-use Rattle.socks5.specs.declared.Parsed.TheVariants.{Found, Malformed as NoAddress}
 use Rattle.socks5.specs.Address.{parse_at}
+use Rattle.datagram_parts.specs.declared.Ids.{Ids}
 use Rattle.datagram_parts.specs.declared.Side.{Side}
 use Rattle.datagram_parts.specs.declared.Side.TheVariants.{Client, Server}
 use Rattle.datagram_parts.specs.Headers.{separate_length, nonce, type_of, fixed_length, main_start}
 use Rattle.datagram_parts.specs.Parts.{nonce_length, overhead, max_datagram}
-use Rattle.datagram_read.specs.declared.Unsealed.{Unsealed}
-use Rattle.datagram_read.specs.declared.Unsealed.TheVariants.{Text, Forged}
-use Rattle.datagram_read.specs.declared.Opened.{Opened}
-use Rattle.datagram_read.specs.declared.Opened.TheVariants.{Datagram, Refused}
+use Rattle.socks5.specs.declared.Address.{Address}
+use Rattle.datagram_read.specs.declared.Header.{Header}
+use Rattle.protocol.specs.declared.Refusal.{Refusal}
 
 -- ---- with AES: the separate header and the body
 
@@ -62,8 +60,9 @@ session_of cipher key s = be 8 (ids_of cipher key s)
 unfoldable pub packet_of : Cipher → List ℕ → List ℕ → ℕ
 packet_of cipher key s = be 8 (drop 8 (ids_of cipher key s))
 
-unfoldable pub unsealed : Cipher → List ℕ → List ℕ → Unsealed
-unsealed cipher key s = cond (datagram_authentic cipher key s) (Text (session_of cipher key s) (packet_of cipher key s)) Forged
+unfoldable pub unsealed : Cipher → List ℕ → List ℕ → Option Ids
+unsealed cipher key s =
+    cond (datagram_authentic cipher key s) (Some (record { session = session_of cipher key s; packet = packet_of cipher key s })) None
 
 -- a good tag lets the plaintext into the buffer
 unfoldable pub unsealed_out : Cipher → List ℕ → List ℕ → List ℕ → List ℕ
@@ -83,9 +82,9 @@ abbrev pub meant : ℕ → Side → List ℕ → Bool
 meant start Client plain = true
 meant start (Server client) plain = eqb (be 8 (drop (start + 9) plain)) client
 
-abbrev pub header_with : ℕ → ℕ → ℕ → ℕ → Parsed → Opened
-header_with id packet time padding (Found a) =
-    Datagram
+abbrev pub header_with : ℕ → ℕ → ℕ → ℕ → Option Address → Result Header Refusal
+header_with id packet time padding (Some a) =
+    Ok
     (record {
       target = a.target;
       port = a.port;
@@ -95,20 +94,20 @@ header_with id packet time padding (Found a) =
       padding = padding;
       payload = a.end;
     })
-header_with id packet time padding NoAddress = Refused Malformed
+header_with id packet time padding None = Err Malformed
 
-unfoldable pub read_address : ℕ → Side → ℕ → ℕ → List ℕ → Opened
+unfoldable pub read_address : ℕ → Side → ℕ → ℕ → List ℕ → Result Header Refusal
 read_address start side id packet plain =
     header_with id packet (time_of start plain) (padding_of start side plain)
     (parse_at plain (start + fixed_length side + padding_of start side plain))
 
-unfoldable pub read_main : ℕ → Side → ℕ → ℕ → ℕ → List ℕ → Opened
+unfoldable pub read_main : ℕ → Side → ℕ → ℕ → ℕ → List ℕ → Result Header Refusal
 read_main start side clock id packet plain =
     cond (leb (start + fixed_length side) (length plain))
     (cond (eqb (get_or plain start 0) (type_of side))
     (cond (time_valid (time_of start plain) clock)
-    (cond (meant start side plain) (read_address start side id packet plain) (Refused Binding)) (Refused WrongTime))
-    (Refused WrongType)) (Refused Malformed)
+    (cond (meant start side plain) (read_address start side id packet plain) (Err Binding)) (Err WrongTime))
+    (Err WrongType)) (Err Malformed)
 
 -- ---- the whole, in the order 1, 2, 3, 4 and then the main header's
 
@@ -116,24 +115,24 @@ unfoldable pub length_lawful : Cipher → List ℕ → Bool
 length_lawful cipher s = leb (overhead cipher) (length s) && leb (length s) max_datagram
 
 -- the plaintext's main header
-abbrev pub main_of : Cipher → Side → ℕ → List ℕ → List ℕ → Opened
+abbrev pub main_of : Cipher → Side → ℕ → List ℕ → List ℕ → Result Header Refusal
 main_of cipher side clock key s =
     read_main (main_start cipher) side clock (session_of cipher key s) (packet_of cipher key s) (plain_of cipher key s)
 
-unfoldable pub read_text : Cipher → Side → ℕ → List ℕ → List ℕ → Opened
-read_text cipher side clock key s = cond (datagram_authentic cipher key s) (main_of cipher side clock key s) (Refused NotAuthentic)
+unfoldable pub read_text : Cipher → Side → ℕ → List ℕ → List ℕ → Result Header Refusal
+read_text cipher side clock key s = cond (datagram_authentic cipher key s) (main_of cipher side clock key s) (Err NotAuthentic)
 
-unfoldable pub read_answer : ℕ → List ℕ → Side → ℕ → List ℕ → List ℕ → Opened
+unfoldable pub read_answer : ℕ → List ℕ → Side → ℕ → List ℕ → List ℕ → Result Header Refusal
 read_answer method key side clock s out =
     cond (key_fits method (length key))
     (cond (length_lawful (cipher_of method) s)
-    (cond (leb (length s - overhead (cipher_of method)) (length out)) (read_text (cipher_of method) side clock key s) (Refused Room))
-    (Refused Length)) (Refused Settings)
+    (cond (leb (length s - overhead (cipher_of method)) (length out)) (read_text (cipher_of method) side clock key s) (Err Room))
+    (Err Length)) (Err Settings)
 
 -- a refusal clears what the plaintext has filled
-abbrev pub settled : Opened → ℕ → List ℕ → List ℕ
-settled (Datagram h) due out = out
-settled (Refused r) due out = put out 0 (replicate due 0)
+abbrev pub settled : Result Header Refusal → ℕ → List ℕ → List ℕ
+settled (Ok h) due out = out
+settled (Err r) due out = put out 0 (replicate due 0)
 
 -- a good tag lets the plaintext into the buffer, and then a refusal clears it
 unfoldable pub text_out : Cipher → Side → ℕ → List ℕ → List ℕ → List ℕ → List ℕ

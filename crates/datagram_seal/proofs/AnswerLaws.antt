@@ -1,5 +1,7 @@
 -- What sealing answers: one law for each way out, and what an answered length tells.
 -- Assumes nothing.
+use Rattle.std.specs.Prelude.{Err, Ok, Result, Some}
+use Rattle.std.specs.Bool.{then_some}
 use mathlib.Core.Path.{◌≡◌, refl, sym, ap, ap₂, ◌∙◌}
 use mathlib.Core.Bool.{Bool, true, false, cond, ◌&&◌, and-eq-true_iff}
 use mathlib.Core.List.{List}
@@ -19,41 +21,32 @@ use Rattle.protocol.proofs.MethodLaws.{fits-sizes}
 use Rattle.socks5.specs.Address.{is_address}
 use Rattle.datagram_parts.specs.declared.Side.{Side}
 use Rattle.datagram_seal.specs.declared.Sender.{Sender}
-use Rattle.datagram_seal.specs.declared.Sealed.{Sealed}
-use Rattle.datagram_seal.specs.declared.Sealed.TheVariants.{Datagram, Refused}
-use Rattle.datagram_parts.specs.Headers.{fixed_length}
-use Rattle.datagram_parts.specs.Parts.{packet_overhead, max_datagram}
-use Rattle.datagram_seal.specs.Sealing.{differs, nonce_fits, sealed_length, capped, length_answer, argument_answer, seal_answer, ids_differ, packets_of}
-
--- the side that was found
-pub differs-law : (id : ℕ) (p q : Side) → p ≡ q → differs q id ≡ differs p id
-differs-law id p q e = ap (λ (side : Side). differs side id) (sym e)
+use Rattle.datagram_parts.proofs.LengthLaws.{fixed-least}
+use Rattle.datagram_parts.specs.Parts.{max_datagram}
+use Rattle.datagram_seal.specs.Sealing.{nonce_fits, sealed_length, capped, length_answer, argument_answer, seal_answer, ids_differ, packets_of}
 
 -- ---- the length
-
-pub capped-over : (n x : ℕ) → max_datagram < x → x ≤ n → 0 ≡ capped n
-unfolding capped
-capped-over n x h l = let m : max_datagram < n = omega arith in sym (ap (λ (b : Bool). cond b n 0) (lt-leb n max_datagram m))
 
 pub capped-within : (n : ℕ) → n ≤ max_datagram → n ≡ capped n
 unfolding capped
 capped-within n h = sym (ap (λ (b : Bool). cond b n 0) (le-leb n max_datagram h))
 
+-- a length that is given is one that a datagram has
+pub within : (n total : ℕ) → Some n ≡ then_some (leb total max_datagram) total → (n ≡ total) × (total ≤ max_datagram)
+within n total = go (leb total max_datagram) refl
+  where
+    go : (b : Bool) → leb total max_datagram ≡ b → Some n ≡ then_some b total → (n ≡ total) × (total ≤ max_datagram)
+    go true e f = (cc, leb-true total max_datagram e)
+    go false e f = absurd cc
+
 module _ (cipher : Cipher) (side : Side) (address padding payload : ℕ) where
-  -- a part that is too long by itself
-  pub part-over : (x : ℕ) → max_datagram < x → x ≤ address + padding + payload → 0 ≡ capped (sealed_length cipher side address padding payload)
+  pub sealed_some : sealed_length cipher side address padding payload ≡ 0 → ⊥
   unfolding sealed_length
-  part-over x h l = capped-over _ x h (omega arith)
+  sealed_some e = omega (arith, e, fixed-least side)
 
-  module _ (fixed overhead : ℕ) (e : fixed ≡ fixed_length side) (f : overhead ≡ packet_overhead cipher) where
-    pub sum_over : max_datagram < fixed + padding + address + payload + overhead → 0 ≡ capped (sealed_length cipher side address padding payload)
-    unfolding sealed_length
-    sum_over h = capped-over _ _ h (omega (arith, e, f))
-
-    pub sum-within : fixed + padding + address + payload + overhead ≤ max_datagram
-        → fixed + padding + address + payload + overhead ≡ capped (sealed_length cipher side address padding payload)
-    unfolding sealed_length
-    sum-within h = capped-within _ h ∙ ap₂ (λ (n k : ℕ). capped (n + padding + address + payload + k)) e f
+  pub padding-most : (n : ℕ) → n ≡ sealed_length cipher side address padding payload → n ≤ max_datagram → padding < 65536
+  unfolding sealed_length
+  padding-most n e h = omega arith
 
 -- one that is not 0 is the length itself
 capped_is : (n : ℕ) → (capped n ≡ 0 → ⊥) → (capped n ≡ n) × (n ≤ max_datagram)
@@ -68,61 +61,52 @@ capped_is n f = go (leb n max_datagram) refl (leb→le n max_datagram) f
 
 module _ (packet n room : ℕ) where
   length-decided : (a b c : Bool) → eqb packet (2 ^ 64 - 1) ≡ a → eqb n 0 ≡ b → leb n room ≡ c
-      → cond a (Refused Counter) (cond b (Refused Length) (cond c (Datagram n) (Refused Room))) ≡ length_answer packet n room
+      → cond a (Err Counter) (cond b (Err Length) (cond c (Ok n) (Err Room))) ≡ length_answer packet n room
   unfolding length_answer
   length-decided a b c ea eb ec =
-      λ i. cond (sym ea i) (Refused Counter) (cond (sym eb i) (Refused Length) (cond (sym ec i) (Datagram n) (Refused Room)))
+      λ i. cond (sym ea i) (Err Counter) (cond (sym eb i) (Err Length) (cond (sym ec i) (Ok n) (Err Room)))
 
-  pub counter-used : packet ≡ 2 ^ 64 - 1 → Refused Counter ≡ length_answer packet n room
+  pub counter-used : packet ≡ 2 ^ 64 - 1 → Err Counter ≡ length_answer packet n room
   counter-used h = length-decided true (eqb n 0) (leb n room) (eq-eqb packet (2 ^ 64 - 1) h) refl refl
 
-  pub too_long : (packet ≡ 2 ^ 64 - 1 → ⊥) → n ≡ 0 → Refused Length ≡ length_answer packet n room
-  too_long f z = length-decided false true (leb n room) (ne_eqb packet (2 ^ 64 - 1) f) (eq-eqb n 0 z) refl
-
-  pub no_room : (packet ≡ 2 ^ 64 - 1 → ⊥) → (n ≡ 0 → ⊥) → room < n → Refused Room ≡ length_answer packet n room
+  pub no_room : (packet ≡ 2 ^ 64 - 1 → ⊥) → (n ≡ 0 → ⊥) → room < n → Err Room ≡ length_answer packet n room
   no_room f z h = length-decided false false false (ne_eqb packet (2 ^ 64 - 1) f) (ne_eqb n 0 z) (lt-leb n room h)
 
-  pub fitting : (packet ≡ 2 ^ 64 - 1 → ⊥) → (n ≡ 0 → ⊥) → n ≤ room → Datagram n ≡ length_answer packet n room
+  pub fitting : (packet ≡ 2 ^ 64 - 1 → ⊥) → (n ≡ 0 → ⊥) → n ≤ room → Ok n ≡ length_answer packet n room
   fitting f z h = length-decided false false true (ne_eqb packet (2 ^ 64 - 1) f) (ne_eqb n 0 z) (le-leb n room h)
 
 module _ (cipher : Cipher) (sender : Sender) (address : List ℕ) (padding payload room : ℕ) where
   argument-decided : (b : Bool) → (is_address address && ids_differ sender) ≡ b
-      → cond b (length_answer sender.packet (capped (sealed_length cipher sender.side (length address) padding payload)) room) (Refused Argument)
+      → cond b (length_answer sender.packet (capped (sealed_length cipher sender.side (length address) padding payload)) room) (Err Argument)
       ≡ argument_answer cipher sender address padding payload room
   unfolding argument_answer
   argument-decided b e =
       ap
-      (λ (x : Bool). cond x (length_answer sender.packet (capped (sealed_length cipher sender.side (length address) padding payload)) room) (Refused Argument))
+      (λ (x : Bool). cond x (length_answer sender.packet (capped (sealed_length cipher sender.side (length address) padding payload)) room) (Err Argument))
       (sym e)
 
-  pub no_address : is_address address ≡ false → Refused Argument ≡ argument_answer cipher sender address padding payload room
-  no_address e = argument-decided false (ap (λ (b : Bool). b && ids_differ sender) e)
-
-  pub same-ids : is_address address ≡ true → ids_differ sender ≡ false → Refused Argument ≡ argument_answer cipher sender address padding payload room
-  same-ids e f = argument-decided false (ap₂ ◌&&◌ e f)
-
   pub good-argument : is_address address ≡ true → ids_differ sender ≡ true → (n : ℕ)
-      → n ≡ capped (sealed_length cipher sender.side (length address) padding payload) → (r : Sealed) → r ≡ length_answer sender.packet n room
+      → n ≡ capped (sealed_length cipher sender.side (length address) padding payload) → (r : Result ℕ Refusal) → r ≡ length_answer sender.packet n room
       → r ≡ argument_answer cipher sender address padding payload room
   good-argument e f n en r er =
       er ∙ ap (λ (m : ℕ). length_answer sender.packet m room) en ∙ argument-decided true (ap₂ ◌&&◌ e f)
 
 module _ (method k nonce : ℕ) (sender : Sender) (address : List ℕ) (padding payload room : ℕ) where
   settings-decided : (a b : Bool) → key_fits method k ≡ a → nonce_fits (cipher_of method) nonce ≡ b
-      → cond (a && b) (argument_answer (cipher_of method) sender address padding payload room) (Refused Settings)
+      → cond (a && b) (argument_answer (cipher_of method) sender address padding payload room) (Err Settings)
       ≡ seal_answer method k nonce sender address padding payload room
   unfolding seal_answer
   settings-decided a b ea eb =
-      λ i. cond (sym ea i && sym eb i) (argument_answer (cipher_of method) sender address padding payload room) (Refused Settings)
+      λ i. cond (sym ea i && sym eb i) (argument_answer (cipher_of method) sender address padding payload room) (Err Settings)
 
-  pub unlawful-key : key_fits method k ≡ false → Refused Settings ≡ seal_answer method k nonce sender address padding payload room
+  pub unlawful-key : key_fits method k ≡ false → Err Settings ≡ seal_answer method k nonce sender address padding payload room
   unlawful-key e = settings-decided false (nonce_fits (cipher_of method) nonce) e refl
 
   module _ (cipher : Cipher) (ec : cipher ≡ cipher_of method) (e : key_fits method k ≡ true) where
-    pub unlawful-nonce : nonce_fits cipher nonce ≡ false → Refused Settings ≡ seal_answer method k nonce sender address padding payload room
+    pub unlawful-nonce : nonce_fits cipher nonce ≡ false → Err Settings ≡ seal_answer method k nonce sender address padding payload room
     unlawful-nonce f = settings-decided true false e (ap (λ (c : Cipher). nonce_fits c nonce) (sym ec) ∙ f)
 
-    pub lawful : nonce_fits cipher nonce ≡ true → (r : Sealed) → r ≡ argument_answer cipher sender address padding payload room
+    pub lawful : nonce_fits cipher nonce ≡ true → (r : Result ℕ Refusal) → r ≡ argument_answer cipher sender address padding payload room
         → r ≡ seal_answer method k nonce sender address padding payload room
     lawful f r er =
         er ∙ ap (λ (c : Cipher). argument_answer c sender address padding payload room) ec
@@ -140,23 +124,23 @@ pub record Sealable (method k nonce : ℕ) (sender : Sender) (address : List ℕ
   pub most : n ≤ max_datagram
   pub space : n ≤ room
 
-abbrev length_of : Sealed → ℕ
-length_of (Datagram n) = n
-length_of (Refused r) = 0
+abbrev length_of : Result ℕ Refusal → ℕ
+length_of (Ok n) = n
+length_of (Err r) = 0
 
-not-refused : (r : Refusal) (n : ℕ) → Refused r ≡ Datagram n → ⊥
+not-refused : (r : Refusal) (n : ℕ) → Err r ≡ Ok n → ⊥
 not-refused r n e = let z : ◌≡◌ {A = ℕ} 0 1 = ap packets_of e in omega arith
 
-passed : (b : Bool) (x : Sealed) (r : Refusal) (n : ℕ) → cond b x (Refused r) ≡ Datagram n → (b ≡ true) × (x ≡ Datagram n)
+passed : (b : Bool) (x : Result ℕ Refusal) (r : Refusal) (n : ℕ) → cond b x (Err r) ≡ Ok n → (b ≡ true) × (x ≡ Ok n)
 passed true x r n e = (refl, e)
 passed false x r n e = absurd (not-refused r n e)
 
-escaped : (b : Bool) (x : Sealed) (r : Refusal) (n : ℕ) → cond b (Refused r) x ≡ Datagram n → (b ≡ false) × (x ≡ Datagram n)
+escaped : (b : Bool) (x : Result ℕ Refusal) (r : Refusal) (n : ℕ) → cond b (Err r) x ≡ Ok n → (b ≡ false) × (x ≡ Ok n)
 escaped true x r n e = absurd (not-refused r n e)
 escaped false x r n e = (refl, e)
 
 module _ (method k nonce : ℕ) (sender : Sender) (address : List ℕ) (padding payload room n : ℕ) where
-  pub sealable : seal_answer method k nonce sender address padding payload room ≡ Datagram n
+  pub sealable : seal_answer method k nonce sender address padding payload room ≡ Ok n
       → Sealable method k nonce sender address padding payload room n
   unfolding seal_answer argument_answer length_answer
   sealable e =
@@ -181,17 +165,17 @@ module _ (method k nonce : ℕ) (sender : Sender) (address : List ℕ) (padding 
         space = omega (arith, is, within);
       }
 
+pub granted : {method k nonce : ℕ} {sender : Sender} {address : List ℕ} {padding payload room n : ℕ} {r : Result ℕ Refusal}
+    → r ≡ seal_answer method k nonce sender address padding payload room → r ≡ Ok n
+    → Sealable method k nonce sender address padding payload room n
+granted e f = sealable _ _ _ _ _ _ _ _ _ (sym e ∙ f)
+
 -- ---- the counter
 
-packets-most : (answer : Sealed) → packets_of answer ≤ 1
-packets-most (Datagram n) = omega arith
-packets-most (Refused r) = omega arith
-
--- where the last packet ID is not used up, no sum wraps
-pub counter-fits : (packet k : ℕ) (answer : Sealed) → packet < 2 ^ 64 → k ≡ packets_of answer → (packet ≡ 2 ^ 64 - 1 → packets_of answer ≡ 0)
-    → packet + k < 2 ^ 64
-counter-fits packet k answer h e f = go (dec_le (2 ^ 64 - 1) packet)
+-- where the last packet ID is not used up, there is a next
+pub next-fits : (packet : ℕ) → packet < 2 ^ 64 → (packet ≡ 2 ^ 64 - 1 → ⊥) → packet + 1 < 2 ^ 64
+next-fits packet h f = go (dec_le (2 ^ 64 - 1) packet)
   where
-    go : Dec (2 ^ 64 - 1 ≤ packet) → packet + k < 2 ^ 64
-    go (yes l) = let z : packets_of answer ≡ 0 = f (omega arith) in omega (arith, z)
-    go (no l) = omega (arith, packets-most answer)
+    go : Dec (2 ^ 64 - 1 ≤ packet) → packet + 1 < 2 ^ 64
+    go (yes l) = absurd (f (omega arith))
+    go (no l) = omega arith

@@ -20,24 +20,10 @@ pub struct Sender {
     pub packet: u64,
 }
 
-// What beginning answers. A server's session begins on the table of its clients' (crate reply_session).
-#[derive(Clone, Copy)]
-pub enum Begun {
-    Ready(Sender),
-    Refused(Refusal),
-}
-
-// What sealing answers: the datagram's length, or why there is none.
-#[derive(Clone, Copy)]
-pub enum Sealed {
-    Datagram(usize),
-    Refused(Refusal),
-}
-
 // The answer, and the sending session as it is then.
 #[derive(Clone, Copy)]
 pub struct Sealing {
-    pub answer: Sealed,
+    pub answer: Result<usize, Refusal>,
     pub sender: Sender,
 }
 
@@ -48,7 +34,7 @@ impl Sender {
     {
         Self {
             side: Side::Client,
-            id: id,
+            id,
             packet: 0,
         }
     }

@@ -1,14 +1,15 @@
 // Sealing datagrams.
-ghost use Rattle.std.specs.Prelude.{◌≡◌, true, ◌-◌, ◌<◌, ◌≤◌, ◌^◌, length};
-ghost use Rattle.aes.specs.Keyed.{nk_of};
+ghost use Rattle.std.specs.Prelude.{◌≡◌, true, ◌-◌, ◌<◌, ◌≤◌, leb, length};
+ghost use Rattle.std.specs.Bool.{then_some};
 ghost use Rattle.protocol.specs.Method.{cipher_of};
-ghost use Rattle.datagram_parts.specs.Parts.{max_datagram};
-ghost use Rattle.datagram_seal.specs.Sealing.{ids_differ, nonce_fits, sealed_length, capped, length_answer, argument_answer, seal_answer, packets_of, seal_next, datagram, seal_out};
+ghost use Rattle.datagram_parts.specs.Headers.{sealed_text};
+ghost use Rattle.datagram_parts.specs.Parts.{max_datagram, datagram_by};
+ghost use Rattle.datagram_seal.specs.Sealing.{ids_differ, nonce_fits, sealed_length, seal_answer, seal_next, datagram, seal_out};
 
-use super::{Sealed, Sealing, Sender};
+use super::{Sealing, Sender};
 use datagram_parts::{
-    MAX_DATAGRAM, Side, fixed_length, lead_length, nonce_fits, packet_overhead, seal_in_place,
-    write_text,
+    Ids, MAX_DATAGRAM, Message, SharedKey, Side, fixed_length, lead_length, nonce_fits,
+    packet_overhead, seal_in_place, write_text,
 };
 use protocol::{Cipher, Refusal};
 
@@ -17,79 +18,35 @@ use protocol::{Cipher, Refusal};
 fn ids_differ(sender: Sender) -> bool
     ensures { result ≡ ids_differ sender }
 {
-    let side = sender.side;
-    match side {
+    match sender.side {
         Side::Client => true,
         Side::Server(client) => sender.id != client,
     }
 }
 
-// The length of the sealed datagram, and 0 where that is over the longest.
+// The length of the sealed datagram, if a datagram may have it.
+#[tactic(auto, unfolding(crate::specs::Sealing::sealed_length))]
 fn sealed_length(
     cipher: Cipher,
     side: Side,
     address: usize,
     padding: usize,
     payload: usize,
-) -> usize
-    ensures { result ≡ capped (sealed_length cipher side address padding payload) }
+) -> Option<usize>
+    ensures { result
+        ≡ then_some (leb (sealed_length cipher side address padding payload) max_datagram)
+        (sealed_length cipher side address padding payload) }
 {
-    let fixed = fixed_length(side);
-    let overhead = packet_overhead(cipher);
-    if MAX_DATAGRAM < address {
-        return 0;
-    }
-    if MAX_DATAGRAM < padding {
-        return 0;
-    }
-    if MAX_DATAGRAM < payload {
-        return 0;
-    }
-    let n = fixed + padding + address + payload + overhead;
-    if MAX_DATAGRAM < n {
-        return 0;
-    }
-    n
-}
-
-// Refusals 11, 2 and 3, in this order.
-fn length_answer(packet: u64, n: usize, room: usize) -> Sealed
-    ensures { result ≡ length_answer packet n room }
-{
-    if packet == 0xffff_ffff_ffff_ffff {
-        return Sealed::Refused(Refusal::Counter);
-    }
-    if n == 0 {
-        return Sealed::Refused(Refusal::Length);
-    }
-    if room < n {
-        return Sealed::Refused(Refusal::Room);
-    }
-    Sealed::Datagram(n)
-}
-
-// Refusal 12, and those behind it.
-fn argument_answer(
-    cipher: Cipher,
-    sender: Sender,
-    address: &[u8],
-    padding: usize,
-    payload: usize,
-    room: usize,
-) -> Sealed
-    ensures { result ≡ argument_answer cipher sender address.now padding payload room }
-{
-    if socks5::is_address(address) {
-        if ids_differ(sender) {
-            let side = sender.side;
-            let n = sealed_length(cipher, side, address.len(), padding, payload);
-            return length_answer(sender.packet, n, room);
-        }
-    }
-    Sealed::Refused(Refusal::Argument)
+    let besides = fixed_length(side) + packet_overhead(cipher);
+    let n = besides
+        .checked_add(address)?
+        .checked_add(padding)?
+        .checked_add(payload)?;
+    (n <= MAX_DATAGRAM).then_some(n)
 }
 
 // What sealing answers, from the lengths of what is lent: refusals 1, 12, 11, 2 and 3, in this order, or the length.
+#[tactic(auto, unfolding(crate::specs::Sealing::seal_answer, crate::specs::Sealing::argument_answer, crate::specs::Sealing::length_answer, crate::specs::Sealing::capped))]
 fn seal_answer(
     method: u64,
     key: usize,
@@ -99,81 +56,45 @@ fn seal_answer(
     padding: usize,
     payload: usize,
     room: usize,
-) -> Sealed
+) -> Result<usize, Refusal>
     ensures { result ≡ seal_answer method key nonce sender address.now padding payload room }
 {
-    if protocol::key_fits(method, key) {
-        let cipher = protocol::cipher_of(method);
-        if nonce_fits(cipher, nonce) {
-            return argument_answer(cipher, sender, address, padding, payload, room);
-        }
+    let cipher = protocol::cipher_of(method);
+    if !protocol::key_fits(method, key) || !nonce_fits(cipher, nonce) {
+        return Err(Refusal::Settings);
     }
-    Sealed::Refused(Refusal::Settings)
-}
-
-// How many packet IDs an answer uses up.
-fn packets(answer: Sealed) -> u64
-    ensures { result ≡ packets_of answer }
-{
-    match answer {
-        Sealed::Datagram(_) => 1,
-        Sealed::Refused(_) => 0,
+    if !socks5::is_address(address) || !ids_differ(sender) {
+        return Err(Refusal::Argument);
     }
-}
-
-// An answer, with the sending session as it is then.
-fn sealing(sender: Sender, answer: Sealed) -> Sealing
-    requires { sender.packet ≡ 2 ^ 64 - 1 → packets_of answer ≡ 0 }
-    ensures answer_value { result.answer ≡ answer }
-    ensures sender_value { result.sender ≡ seal_next sender answer }
-{
-    let side = sender.side;
-    Sealing {
-        answer: answer,
-        sender: Sender {
-            side: side,
-            id: sender.id,
-            packet: sender.packet + packets(answer),
-        },
+    if sender.packet == u64::MAX {
+        return Err(Refusal::Counter);
     }
+    let Some(n) = sealed_length(cipher, sender.side, address.len(), padding, payload) else {
+        return Err(Refusal::Length);
+    };
+    if room < n {
+        return Err(Refusal::Room);
+    }
+    Ok(n)
 }
 
 // ---- what is written
 
 // A datagram, into the buffer that it fills: the text is written to its place and sealed there.
-fn write_datagram(
-    s: &mut [u8],
-    cipher: Cipher,
-    key: &[u8],
-    nonce: &[u8],
-    sender: Sender,
-    clock: u64,
-    address: &[u8],
-    padding: usize,
-    payload: &[u8],
-)
-    requires nonzero { 0 < nk_of (length key.now) }
-    requires nonce_value { nonce_fits cipher (length nonce.now) ≡ true }
-    requires s_len { length s.old ≡ sealed_length cipher sender.side (length address.now) padding (length payload.now) }
+fn write_datagram(s: &mut [u8], key: &SharedKey<'_>, nonce: &[u8], ids: Ids, message: &Message<'_>)
+    requires nonce_value { nonce_fits key.now.cipher (length nonce.now) ≡ true }
+    requires s_len { length s.old
+        ≡ sealed_length key.now.cipher message.now.side (length message.now.address.now) message.now.padding
+        (length message.now.payload.now) }
     requires s_len_bound { length s.old ≤ max_datagram }
     ensures { s.new
-        ≡ datagram cipher key.now nonce.now sender clock address.now padding
-        payload.now }
+        ≡ datagram_by key.now.cipher key.now.bytes.now nonce.now ids.session ids.packet
+        (sealed_text key.now.cipher ids.session ids.packet message.now.side message.now.clock message.now.padding
+        message.now.address.now message.now.payload.now) }
 {
-    let lead = lead_length(cipher);
-    let side = sender.side;
-    write_text(
-        &mut s[lead..],
-        cipher,
-        sender.id,
-        sender.packet,
-        side,
-        clock,
-        address,
-        padding,
-        payload,
-    );
-    seal_in_place(cipher, s, key, nonce, sender.id, sender.packet);
+    let lead = lead_length(key.cipher);
+    write_text(&mut s[lead..], key.cipher, ids, message);
+    seal_in_place(s, key, nonce, ids);
 }
 
 // Seals a datagram to the front of the lent buffer. With ChaCha the nonce is the host's, of 24 bytes; with AES it is not looked at.
@@ -210,22 +131,30 @@ pub fn seal(
         payload.len(),
         out.len(),
     );
-    match answer {
-        Sealed::Datagram(n) => {
-            let cipher = protocol::cipher_of(method);
-            write_datagram(
-                &mut out[..n],
-                cipher,
-                key,
-                nonce,
-                sender,
-                clock,
-                address,
-                padding,
-                payload,
-            );
-            sealing(sender, answer)
-        }
-        Sealed::Refused(_) => sealing(sender, answer),
+    let Ok(n) = answer else {
+        return Sealing { answer, sender };
+    };
+    let key = SharedKey {
+        cipher: protocol::cipher_of(method),
+        bytes: key,
+    };
+    let ids = Ids {
+        session: sender.id,
+        packet: sender.packet,
+    };
+    let message = Message {
+        side: sender.side,
+        clock,
+        address,
+        padding: padding as u16,
+        payload,
+    };
+    write_datagram(&mut out[..n], &key, nonce, ids, &message);
+    Sealing {
+        answer,
+        sender: Sender {
+            packet: sender.packet + 1,
+            ..sender
+        },
     }
 }

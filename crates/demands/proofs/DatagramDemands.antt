@@ -1,10 +1,10 @@
 -- Demands 1 and 2 for opened datagrams.
 -- Assumes nothing.
+use Rattle.std.specs.Prelude.{Err, None, Ok, Option, Some}
 use mathlib.Core.Path.{◌≡◌, refl, sym, ap, ap₂, ◌∙◌, subst}
 use mathlib.Core.Logic.{◌≢◌}
 use mathlib.Core.Bool.{Bool, true, false, cond, ◌&&◌, and-false, true≢false}
 use mathlib.Core.List.{List}
-use mathlib.Core.Option.{Option, none, some}
 use Prim.Native.Nat.{ℕ, ◌+◌, ◌≤◌}
 use native.Mathlib.Nat.{zero-add}
 use native.Mathlib.Omega.{arith}
@@ -25,15 +25,12 @@ use Rattle.protocol.specs.declared.Refusal.{Refusal}
 use Rattle.protocol.specs.declared.Refusal.TheVariants.{Settings, Malformed}
 use Rattle.protocol.specs.Refusal.{refusal_number}
 use Rattle.protocol.specs.Time.{time_valid}
-use Rattle.socks5.specs.declared.Parsed.{Parsed}
-use Rattle.socks5.specs.declared.Parsed.TheVariants.{Found, Malformed as NoAddress}
 use Rattle.socks5.specs.Address.{parse_at}
 use Rattle.datagram_parts.specs.declared.Side.{Side}
 use Rattle.datagram_parts.specs.Headers.{type_of, fixed_length, main_start}
 use Rattle.datagram_parts.specs.Parts.{overhead, max_datagram}
 use Rattle.datagram_seal.specs.Sealing.{seal_answer, datagram}
 use Rattle.datagram_read.specs.declared.Header.{Header}
-use Rattle.datagram_read.specs.declared.Opened.TheVariants.{Datagram, Refused}
 use Rattle.datagram_read.specs.Opening.{plain_of, session_of, packet_of, time_of, padding_of, meant, header_with, read_address, length_lawful, read_answer, read_out}
 use Rattle.datagram_open.specs.Deciding.{expected, opener_of, decide, call_of, open_answer, open_out, open_table}
 use Rattle.demands.specs.Datagrams.{Answered, accepts, refuses, tag_good, due, Lawful, BeforeTag, unlawful-table, other_key, too_short, too_long, no_room, forged, Stage, before, after, RepeatCounted, Keeps, OpenersKeep, ValidHeader, Enters, ForUs, Acceptable, AcceptedExactlyWhen, SealedAccepted, Demand2}
@@ -43,6 +40,7 @@ use Rattle.datagram_read.proofs.OpeningLaws.{length-plain}
 use Rattle.datagram_read.proofs.ReadLaws.{Reads, Opens, answer-given, opened_out, unlawful-out, forged-out, cleared-out}
 use Rattle.datagram_open.proofs.CallLaws.{expected-opener}
 use Rattle.demands.proofs.DatagramWays.{opened-same, refused-same, not-both, read_same, not-read, of_reader, reader-opener, early-not-eight, among, among-answer, TableLeft, kept, counted, Way, unlawful, early, late, taken, way as way_of}
+use Rattle.socks5.specs.declared.Address.{Address}
 
 -- ---- the tests of the arguments
 
@@ -148,7 +146,7 @@ module _ (method : ℕ) (key : List ℕ) (client : Option ℕ) (clock : ℕ) (pe
   not_stopped h d (by-tag e) = true≢false (sym d.authentic ∙ e)
 
   -- a refusal that the arguments decide is one before 8
-  of_reader_lem : (r : Refusal) → read_answer method key side clock s out ≡ Refused r → of_reader r ≡ true
+  of_reader_lem : (r : Refusal) → read_answer method key side clock s out ≡ Err r → of_reader r ≡ true
   of_reader_lem r er = ap among (sym er) ∙ among-answer method key side clock s out
 
   answered : Answered answer
@@ -298,9 +296,9 @@ module _ (start : ℕ) (side : Side) (clock id packet : ℕ) (plain : List ℕ) 
   unfolding read_address
   valid-header d = go (parse_at plain (start + fixed_length side + padding_of start side plain)) refl d.address
     where
-      go : (p : Parsed) → parse_at plain (start + fixed_length side + padding_of start side plain) ≡ p
-          → header_with id packet (time_of start plain) (padding_of start side plain) p ≡ Datagram h → ValidHeader start side id packet plain h
-      go (Found a) ep e =
+      go : (p : Option Address) → parse_at plain (start + fixed_length side + padding_of start side plain) ≡ p
+          → header_with id packet (time_of start plain) (padding_of start side plain) p ≡ Ok h → ValidHeader start side id packet plain h
+      go (Some a) ep e =
           record {
             long-enough = leb-true (start + fixed_length side) (length plain) d.long;
             right-type = eqb-true (get_or plain start 0) (type_of side) d.kind;
@@ -308,7 +306,7 @@ module _ (start : ℕ) (side : Side) (clock id packet : ℕ) (plain : List ℕ) 
             address-found = ep;
             says = sym (read_same _ h e);
           }
-      go NoAddress ep e = absurd (not-read Malformed h (Refused Malformed) refl e)
+      go None ep e = absurd (not-read Malformed h (Err Malformed) refl e)
 
   header-reads : ValidHeader start side id packet plain h → meant start side plain ≡ true → time_valid h.time clock ≡ true → Reads start side clock id packet plain h
   unfolding read_address
@@ -318,24 +316,24 @@ module _ (start : ℕ) (side : Side) (clock id packet : ℕ) (plain : List ℕ) 
         kind = eq-eqb (get_or plain start 0) (type_of side) v.right-type;
         timely = ap (λ (g : Header). time_valid g.time clock) (sym v.says) ∙ timely;
         ours = ours;
-        address = ap (header_with id packet (time_of start plain) (padding_of start side plain)) v.address-found ∙ ap Datagram (sym v.says);
+        address = ap (header_with id packet (time_of start plain) (padding_of start side plain)) v.address-found ∙ ap Ok (sym v.says);
       }
 
 -- meant for us, by its test and plainly
 told-ours : (start : ℕ) (client : Option ℕ) (plain : List ℕ) → meant start (expected client) plain ≡ true → ForUs start client plain
-told-ours start none plain e = tt
-told-ours start (some client) plain e = eqb-true (be 8 (drop (start + 9) plain)) client e
+told-ours start None plain e = tt
+told-ours start (Some client) plain e = eqb-true (be 8 (drop (start + 9) plain)) client e
 
 ours-told : (start : ℕ) (client : Option ℕ) (plain : List ℕ) → ForUs start client plain → meant start (expected client) plain ≡ true
-ours-told start none plain u = refl
-ours-told start (some client) plain e = eq-eqb (be 8 (drop (start + 9) plain)) client e
+ours-told start None plain u = refl
+ours-told start (Some client) plain e = eq-eqb (be 8 (drop (start + 9) plain)) client e
 
 module _ (method : ℕ) (key : List ℕ) (client : Option ℕ) (clock : ℕ) (peer : Peer) (s t out : List ℕ) where
   abbrev by : Cipher
   by = cipher_of method
 
   -- a header that was read is accepted where its packet ID enters
-  pub enters-accepted : lawful t ≡ true → (h : Header) → read_answer method key (expected client) clock s out ≡ Datagram h
+  pub enters-accepted : lawful t ≡ true → (h : Header) → read_answer method key (expected client) clock s out ≡ Ok h
       → Enters t clock h.session h.packet
       → (open_answer method key client clock peer s t out ≡ opened h)
       × (open_out method key client clock peer s t out ≡ read_out method key (expected client) clock s out)

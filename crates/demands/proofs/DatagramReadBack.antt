@@ -1,6 +1,7 @@
 -- What a datagram was sealed from is read back from it: session ID and packet ID, the text, each field of the main header, and
 -- the whole. For all five methods.
 -- Assumes nothing.
+use Rattle.std.specs.Prelude.{Err, Ok, Some}
 use mathlib.Core.Path.{◌≡◌, refl, sym, ap, ap₂, ◌∙◌}
 use mathlib.Core.Bool.{true, cond, ◌&&◌}
 use mathlib.Core.List.{List, [], ◌∷◌, ◌++◌, append_assoc, append-nil}
@@ -31,7 +32,6 @@ use Rattle.protocol.specs.declared.Refusal.TheVariants.{Settings, Length, Room, 
 use Rattle.protocol.specs.Subkey.{session_subkey}
 use Rattle.protocol.specs.Time.{time_valid}
 use Rattle.socks5.specs.declared.Address.{Address}
-use Rattle.socks5.specs.declared.Parsed.TheVariants.{Found}
 use Rattle.socks5.specs.Address.{parse_at, is_address, moved}
 use Rattle.socks5.proofs.PlaceLaws.{found-anywhere}
 use Rattle.datagram_parts.specs.declared.Side.{Side}
@@ -41,7 +41,6 @@ use Rattle.datagram_parts.specs.Headers.{separate_header, nonce, type_of, client
 use Rattle.datagram_parts.specs.Parts.{overhead, max_datagram, nonce_length, nonce_fits, separate_block, seal_body, datagram_by}
 use Rattle.datagram_seal.specs.Sealing.{sealed_length, datagram}
 use Rattle.datagram_read.specs.declared.Header.{Header}
-use Rattle.datagram_read.specs.declared.Opened.TheVariants.{Datagram, Refused}
 use Rattle.datagram_read.specs.Opening.{separate_of, body_authentic, body_text, datagram_authentic, plain_of, session_of, packet_of, time_of, padding_of, meant, header_with, read_address, read_main, length_lawful, main_of, read_text, read_answer, settled, text_out, read_out}
 use Rattle.demands.specs.Datagrams.{client_of, header_of}
 use Rattle.datagram_parts.proofs.LengthLaws.{length-separate_header, length-separate_block, length-client_field, length-fixed_part, length-plaintext, length-inner_ids, length-sealed_text}
@@ -208,9 +207,9 @@ module _ (front : List ℕ) (start : ℕ) (placed : length front ≡ start) (sid
       ap (λ (s : List ℕ). front ++ s) (sym (append_assoc (fixed_part side time padding) (replicate padding 0) (address ++ payload)))
       ∙ sym (append_assoc front (fixed_part side time padding ++ replicate padding 0) (address ++ payload))
 
-  address-back : (a : Address) → is_address address ≡ true → parse_at address 0 ≡ Found a
+  address-back : (a : Address) → is_address address ≡ true → parse_at address 0 ≡ Some a
       → parse_at plain (start + fixed_length side + padding)
-      ≡ Found
+      ≡ Some
       (record {
         target = moved (start + fixed_length side + padding) a.target;
         port = a.port;
@@ -219,7 +218,7 @@ module _ (front : List ℕ) (start : ℕ) (placed : length front ≡ start) (sid
   address-back a one e =
       ap₂ parse_at split (sym length_before)
       ∙ found-anywhere before address payload a one e
-      ∙ ap (λ (k : ℕ). Found (record { target = moved k a.target; port = a.port; end = k + length address })) length_before
+      ∙ ap (λ (k : ℕ). Some (record { target = moved k a.target; port = a.port; end = k + length address })) length_before
 
   -- and behind it
   payload-back : drop (start + fixed_length side + padding + length address) plain ≡ payload
@@ -240,10 +239,10 @@ module _ (front : List ℕ) (start : ℕ) (placed : length front ≡ start) wher
   -- for a client ID, a time and a padding length that fit their bytes, and exactly one address
   module _ (side : Side) (time padding : ℕ) (address payload : List ℕ) (a : Address)
       (client-fits : client_of side < 2 ^ 64) (time-fits : time < 2 ^ 64) (padding-fits : padding < 2 ^ 16)
-      (one : is_address address ≡ true) (found : parse_at address 0 ≡ Found a) where
+      (one : is_address address ≡ true) (found : parse_at address 0 ≡ Some a) where
     reads-back : (clock id packet : ℕ) → time_valid time clock ≡ true
         → read_main start side clock id packet (front ++ plaintext side time padding address payload)
-        ≡ Datagram (header_of start side id packet time padding (length address) a)
+        ≡ Ok (header_of start side id packet time padding (length address) a)
     unfolding read_main read_address
     reads-back clock id packet valid =
         let plain = front ++ plaintext side time padding address payload in
@@ -256,8 +255,8 @@ module _ (front : List ℕ) (start : ℕ) (placed : length front ≡ start) wher
         (λ i. cond (long front start placed side time padding address payload i)
         (cond (type-back front start placed side time padding address payload i)
         (cond (valid-there i)
-        (cond (client-back side time padding address payload client-fits i) (read_address start side id packet plain) (Refused Binding))
-        (Refused WrongTime)) (Refused WrongType)) (Refused Malformed))
+        (cond (client-back side time padding address payload client-fits i) (read_address start side id packet plain) (Err Binding))
+        (Err WrongTime)) (Err WrongType)) (Err Malformed))
         ∙ (λ i. header_with id packet (here i) (pad i) (parsed i))
 
 -- ---- the whole
@@ -318,32 +317,32 @@ module _ (method : ℕ) (key : List ℕ) (p : Octets key) (nonce_bytes : List �
     module _ (clock : ℕ) (a : Address) (fits : key_fits method (length key) ≡ true)
         (id-fits : sender.id < 2 ^ 64) (packet-fits : sender.packet < 2 ^ 64) (client-fits : client_of sender.side < 2 ^ 64)
         (time-fits : time < 2 ^ 64) (valid : time_valid time clock ≡ true)
-        (one : is_address address ≡ true) (found : parse_at address 0 ≡ Found a) where
+        (one : is_address address ≡ true) (found : parse_at address 0 ≡ Some a) where
       abbrev header : Header
       header = header_of (main_start cipher) sender.side sender.id sender.packet time padding (length address) a
 
       abbrev back : Back cipher key sender.id sender.packet (plaintext sender.side time padding address payload) sent
       back = sent_back id-fits packet-fits
 
-      main-read : main_of cipher sender.side clock key sent ≡ Datagram header
+      main-read : main_of cipher sender.side clock key sent ≡ Ok header
       main-read =
           (λ i. read_main (main_start cipher) sender.side clock (back.session i) (back.counter i) (back.text i))
           ∙ reads-back ids (main_start cipher) (length-inner_ids cipher sender.id sender.packet) sender.side time padding address payload a
           client-fits time-fits padding-fits one found clock sender.id sender.packet valid
 
-      text-read : read_text cipher sender.side clock key sent ≡ Datagram header
+      text-read : read_text cipher sender.side clock key sent ≡ Ok header
       unfolding read_text
-      text-read = (λ i. cond (back.authentic i) (main-read i) (Refused NotAuthentic))
+      text-read = (λ i. cond (back.authentic i) (main-read i) (Err NotAuthentic))
 
       text-written : text_out cipher sender.side clock key sent out ≡ put out 0 text
       unfolding text_out sealed_text
       text-written = (λ i. cond (back.authentic i) (settled (main-read i) (length sent - overhead cipher) (put out 0 (back.text i))) out)
 
-      pub sealed-reads : (read_answer method key sender.side clock sent out ≡ Datagram header)
+      pub sealed-reads : (read_answer method key sender.side clock sent out ≡ Ok header)
           × (read_out method key sender.side clock sent out ≡ put out 0 text)
       unfolding read_answer read_out
       sealed-reads = (
-        (λ i. cond (fits i) (cond (length-fits i) (cond (room_fits i) (text-read i) (Refused Room)) (Refused Length)) (Refused Settings)),
+        (λ i. cond (fits i) (cond (length-fits i) (cond (room_fits i) (text-read i) (Err Room)) (Err Length)) (Err Settings)),
         (λ i. cond (fits i && (length-fits i && room_fits i)) (text-written i) out),
       )
 

@@ -1,10 +1,10 @@
 -- The ways out of a call that opens a datagram, and what each leaves; and which refusals there are.
 -- Assumes nothing.
+use Rattle.std.specs.Prelude.{Err, None, Ok, Option, Result, Some}
 use mathlib.Core.Path.{◌≡◌, refl, sym, ap, ap₂, ◌∙◌}
 use mathlib.Core.Logic.{◌≢◌}
 use mathlib.Core.Bool.{Bool, true, false, cond, not, ◌&&◌, ◌||◌, true≢false, and-eq-true_iff}
 use mathlib.Core.List.{List}
-use mathlib.Core.Option.{Option, none, some}
 use Prim.Native.Nat.{ℕ, ◌+◌, ◌-◌, ◌*◌, ◌^◌, min}
 use native.Mathlib.Omega.{arith}
 use lib.Dec.{eqb, leb}
@@ -22,21 +22,18 @@ use Rattle.protocol.specs.declared.Refusal.{Refusal}
 use Rattle.protocol.specs.declared.Refusal.TheVariants.{Settings, Length, Room, NotAuthentic, Malformed, WrongType, WrongTime, Replay, Full, Binding}
 use Rattle.protocol.specs.Refusal.{refusal_number}
 use Rattle.protocol.specs.Time.{time_valid}
-use Rattle.socks5.specs.declared.Parsed.{Parsed}
-use Rattle.socks5.specs.declared.Parsed.TheVariants.{Found, Malformed as NoAddress}
 use Rattle.socks5.specs.Address.{parse_at}
 use Rattle.datagram_parts.specs.declared.Side.{Side}
 use Rattle.datagram_parts.specs.Headers.{type_of, fixed_length, main_start}
 use Rattle.datagram_parts.specs.Parts.{overhead}
 use Rattle.datagram_read.specs.declared.Header.{Header}
-use Rattle.datagram_read.specs.declared.Opened.{Opened}
-use Rattle.datagram_read.specs.declared.Opened.TheVariants.{Datagram, Refused}
 use Rattle.datagram_read.specs.Opening.{plain_of, session_of, packet_of, time_of, padding_of, meant, header_with, read_address, read_main, length_lawful, read_text, read_answer, settled, read_out}
 use Rattle.datagram_open.specs.Deciding.{expected, opener_of, answer_of, admitted_as, entered, open_answer, open_out, open_table}
 use Rattle.demands.specs.Datagrams.{of_opener, tag_good, due, RepeatCounted, Enters, fresh, begins}
 use Rattle.datagram_read.proofs.OpeningLaws.{length-plain}
 use Rattle.datagram_read.proofs.ReadLaws.{Opens, answer-tells, opens-room, opened_out, header-session}
 use Rattle.datagram_open.proofs.CallLaws.{unlawful-call, refused-call, entered-call}
+use Rattle.socks5.specs.declared.Address.{Address}
 
 -- ---- telling answers apart
 
@@ -61,18 +58,18 @@ refused-same m n e = ap number_in e
 pub not-both : (n : ℕ) (h : Header) (a : Answer Header) → a ≡ refused n → a ≡ opened h → ⊥
 not-both n h a e f = let z : ◌≡◌ {A = ℕ} 0 1 = ap is_opened (sym e ∙ f) in omega arith
 
-abbrev read : Opened → Header → Header
-read (Datagram h) other = h
-read (Refused r) other = other
+abbrev read : Result Header Refusal → Header → Header
+read (Ok h) other = h
+read (Err r) other = other
 
-abbrev is_read : Opened → ℕ
-is_read (Datagram h) = 1
-is_read (Refused r) = 0
+abbrev is_read : Result Header Refusal → ℕ
+is_read (Ok h) = 1
+is_read (Err r) = 0
 
-pub read_same : (g h : Header) → Datagram g ≡ Datagram h → g ≡ h
-read_same g h e = ap (λ (o : Opened). read o g) e
+pub read_same : (g h : Header) → ◌≡◌ {A = Result Header Refusal} (Ok g) (Ok h) → g ≡ h
+read_same g h e = ap (λ (o : Result Header Refusal). read o g) e
 
-pub not-read : (r : Refusal) (h : Header) (o : Opened) → o ≡ Refused r → o ≡ Datagram h → ⊥
+pub not-read : (r : Refusal) (h : Header) (o : Result Header Refusal) → o ≡ Err r → o ≡ Ok h → ⊥
 not-read r h o e f = let z : ◌≡◌ {A = ℕ} 0 1 = ap is_read (sym e ∙ f) in omega arith
 
 -- ---- which refusals are given
@@ -86,20 +83,20 @@ reader-opener r e = ((and-eq-true_iff (of_opener r) _).0 e).0
 
 pub early-not-eight : (r : Refusal) → of_reader r ≡ true → refusal_number r ≢ 8
 early-not-eight r e f =
-    let none = not-true _ ((and-eq-true_iff (of_opener r) _).0 e).1 in
-    true≢false (sym (ap (λ (b : Bool). b || eqb (refusal_number r) 9) (eq-eqb (refusal_number r) 8 f)) ∙ none)
+    let None = not-true _ ((and-eq-true_iff (of_opener r) _).0 e).1 in
+    true≢false (sym (ap (λ (b : Bool). b || eqb (refusal_number r) 9) (eq-eqb (refusal_number r) 8 f)) ∙ None)
 
-abbrev pub among : Opened → Bool
-among (Datagram h) = true
-among (Refused r) = of_reader r
+abbrev pub among : Result Header Refusal → Bool
+among (Ok h) = true
+among (Err r) = of_reader r
 
-among-pick : (b : Bool) (x : Opened) (r : Refusal) → among x ≡ true → of_reader r ≡ true → among (cond b x (Refused r)) ≡ true
+among-pick : (b : Bool) (x : Result Header Refusal) (r : Refusal) → among x ≡ true → of_reader r ≡ true → among (cond b x (Err r)) ≡ true
 among-pick true x r e f = e
 among-pick false x r e f = f
 
-among-address : (id packet time padding : ℕ) (p : Parsed) → among (header_with id packet time padding p) ≡ true
-among-address id packet time padding (Found a) = refl
-among-address id packet time padding NoAddress = refl
+among-address : (id packet time padding : ℕ) (p : Option Address) → among (header_with id packet time padding p) ≡ true
+among-address id packet time padding (Some a) = refl
+among-address id packet time padding None = refl
 
 among-main : (start : ℕ) (side : Side) (clock id packet : ℕ) (plain : List ℕ) → among (read_main start side clock id packet plain) ≡ true
 unfolding read_main read_address
@@ -152,18 +149,18 @@ module _ (t : List ℕ) (clock : ℕ) (peer : Peer) (id p : ℕ) where
   unfolding meet
   stored-enters e = go (session_place t clock id) (free_place t clock) refl refl e
     where
-      alive : (i : ℕ) (b : Bool) → session_place t clock id ≡ some i → fresh_in (record_at t i) p ≡ b
+      alive : (i : ℕ) (b : Bool) → session_place t clock id ≡ Some i → fresh_in (record_at t i) p ≡ b
           → is_stored (cond b (stores i (accept_in clock peer p (record_at t i))) (replay i)) ≡ 1 → Enters t clock id p
       alive i true ex eb m = fresh i ex eb
       alive i false ex eb m = absurd (omega (arith, m))
 
       go : (x y : Option ℕ) → session_place t clock id ≡ x → free_place t clock ≡ y → is_stored (meet_by x y t clock peer id p) ≡ 1 → Enters t clock id p
-      go (some i) y ex ey m = alive i (fresh_in (record_at t i) p) ex refl m
-      go none (some i) ex ey m = begins i ex ey
-      go none none ex ey m = absurd (omega (arith, m))
+      go (Some i) y ex ey m = alive i (fresh_in (record_at t i) p) ex refl m
+      go None (Some i) ex ey m = begins i ex ey
+      go None None ex ey m = absurd (omega (arith, m))
 
   -- a repeat is one in the session's own record
-  replays-there : (i : ℕ) → meet t clock peer id p ≡ replay i → session_place t clock id ≡ some i
+  replays-there : (i : ℕ) → meet t clock peer id p ≡ replay i → session_place t clock id ≡ Some i
   unfolding meet
   replays-there i e = go (session_place t clock id) (free_place t clock) refl e
     where
@@ -171,10 +168,10 @@ module _ (t : List ℕ) (clock : ℕ) (peer : Peer) (id p : ℕ) where
       alive j true m = absurd (let z : ◌≡◌ {A = ℕ} 1 0 = ap is_stored m in omega arith)
       alive j false m = ap (replay_place j) m
 
-      go : (x y : Option ℕ) → session_place t clock id ≡ x → meet_by x y t clock peer id p ≡ replay i → session_place t clock id ≡ some i
-      go (some j) y ex m = ex ∙ ap some (alive j (fresh_in (record_at t j) p) m)
-      go none (some j) ex m = absurd (let z : ◌≡◌ {A = ℕ} 1 0 = ap is_stored m in omega arith)
-      go none none ex m = absurd (let z : ◌≡◌ {A = ℕ} 1 0 = ap is_full m in omega arith)
+      go : (x y : Option ℕ) → session_place t clock id ≡ x → meet_by x y t clock peer id p ≡ replay i → session_place t clock id ≡ Some i
+      go (Some j) y ex m = ex ∙ ap Some (alive j (fresh_in (record_at t j) p) m)
+      go None (Some j) ex m = absurd (let z : ◌≡◌ {A = ℕ} 1 0 = ap is_stored m in omega arith)
+      go None None ex m = absurd (let z : ◌≡◌ {A = ℕ} 1 0 = ap is_full m in omega arith)
 
 -- what a repeat writes, with its numbers written out
 repeated-word : (t : List ℕ) (i : ℕ) → repeated t i ≡ set t (1 + 13 * i + 12) (min (get_or t (1 + 13 * i + 12) 0 + 1) (2 ^ 64 - 1))
@@ -186,8 +183,8 @@ repeated-word t i =
 -- ---- the ways out of a call: the table is not lawful; refused by its arguments; refused by the table; accepted
 
 opener-expected : (client : Option ℕ) → opener_of (expected client) ≡ client
-opener-expected none = refl
-opener-expected (some id) = refl
+opener-expected None = refl
+opener-expected (Some id) = refl
 
 module _ (method : ℕ) (key : List ℕ) (client : Option ℕ) (clock : ℕ) (peer : Peer) (s t out : List ℕ) where
   abbrev side : Side
@@ -215,7 +212,7 @@ module _ (method : ℕ) (key : List ℕ) (client : Option ℕ) (clock : ℕ) (pe
 
   pub data Way : Type 0 where
     unlawful : lawful t ≡ false → answer ≡ refused 1 → buffer ≡ out → table ≡ t → Way
-    early : lawful t ≡ true → (r : Refusal) → read_answer method key side clock s out ≡ Refused r → answer ≡ refused (refusal_number r)
+    early : lawful t ≡ true → (r : Refusal) → read_answer method key side clock s out ≡ Err r → answer ≡ refused (refusal_number r)
         → buffer ≡ read_out method key side clock s out → table ≡ t → Way
     late : lawful t ≡ true → (h : Header) → Opens method key side clock s out h → (Enters t clock h.session h.packet → ⊥)
         → (r : Refusal) → of_opener r ≡ true → answer ≡ refused (refusal_number r) → buffer ≡ put out 0 zeros → TableLeft (refusal_number r) → Way
@@ -232,7 +229,7 @@ module _ (method : ℕ) (key : List ℕ) (client : Option ℕ) (clock : ℕ) (pe
   table-there = ap (λ (c : Option ℕ). open_table method key c clock peer s t out) (opener-expected client)
 
   -- a header that was read, by what its packet ID meets
-  module _ (l : lawful t ≡ true) (h : Header) (eh : read_answer method key side clock s out ≡ Datagram h) where
+  module _ (l : lawful t ≡ true) (h : Header) (eh : read_answer method key side clock s out ≡ Ok h) where
     facts : Opens method key side clock s out h
     facts = answer-tells method key side clock s out h eh
 
@@ -286,10 +283,10 @@ module _ (method : ℕ) (key : List ℕ) (client : Option ℕ) (clock : ℕ) (pe
         let m = met full em in
         late l h facts (stays_out full em refl) Full refl m.0 (m.1.0 ∙ cleared) (kept (omega arith) m.1.1)
 
-  by_answer : lawful t ≡ true → (o : Opened) → read_answer method key side clock s out ≡ o → Way
-  by_answer l (Datagram h) eo = by-meeting l h eo (meet t clock peer h.session h.packet) refl
-  by_answer l (Refused r) eo =
-      let q = refused-call method key side clock peer s t out l (read_out method key side clock s out) refl (Refused r) (sym eo) r refl in
+  by_answer : lawful t ≡ true → (o : Result Header Refusal) → read_answer method key side clock s out ≡ o → Way
+  by_answer l (Ok h) eo = by-meeting l h eo (meet t clock peer h.session h.packet) refl
+  by_answer l (Err r) eo =
+      let q = refused-call method key side clock peer s t out l (read_out method key side clock s out) refl (Err r) (sym eo) r refl in
       early l r eo (sym (q.0 ∙ answer-there)) (sym (q.1.0 ∙ buffer-there)) (sym (q.1.1 ∙ table-there))
 
   by-table : (b : Bool) → lawful t ≡ b → Way

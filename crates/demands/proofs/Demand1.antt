@@ -1,5 +1,6 @@
 -- Demand 1, of every call.
 -- Assumes nothing.
+use Rattle.std.specs.Prelude.{Err, Ok, Result}
 use mathlib.Core.Path.{◌≡◌, refl, sym, ap, ◌∙◌}
 use mathlib.Core.Bool.{Bool, true, false, cond, and-eq-true_iff}
 use mathlib.Core.List.{List}
@@ -18,8 +19,6 @@ use Rattle.retention.proofs.RetentionLaws.{else-itself}
 use Rattle.session_table.proofs.TableLaws.{wrong-length, new-length, made-in-range, below-range, above-range}
 use Rattle.salt_pool.specs.Pool as pool
 use Rattle.datagram_seal.specs.declared.Sender.{Sender}
-use Rattle.datagram_seal.specs.declared.Sealed.{Sealed}
-use Rattle.datagram_seal.specs.declared.Sealed.TheVariants.{Datagram, Refused}
 use Rattle.reply_session.specs.Beginning.{reply_begun}
 use Rattle.reply_session.proofs.BeginLaws.{unlawful, own-client, others-client, free}
 use Rattle.reply_session.proofs.Exactly.{reply-begins-exactly}
@@ -39,13 +38,13 @@ module _ (method : ℕ) (key nonce : List ℕ) (sender : Sender) (time : ℕ) (a
   abbrev text : List ℕ
   text = datagram (cipher_of method) key nonce sender time address padding payload
 
-  abbrev answer : Sealed
+  abbrev answer : Result ℕ Refusal
   answer = seal_answer method (length key) (length nonce) sender address padding (length payload) (length out)
 
-  refused_as : (a : Sealed) (r : Refusal) → a ≡ Refused r → seal_out a text out ≡ out
-  refused_as a r e = ap (λ (x : Sealed). seal_out x text out) e
+  refused_as : (a : Result ℕ Refusal) (r : Refusal) → a ≡ Err r → seal_out a text out ≡ out
+  refused_as a r e = ap (λ (x : Result ℕ Refusal). seal_out x text out) e
 
-  sealed-fits : (n : ℕ) → answer ≡ Datagram n → (length text ≡ n) × (n ≤ length out)
+  sealed-fits : (n : ℕ) → answer ≡ Ok n → (length text ≡ n) × (n ≤ length out)
   sealed-fits n e = (
     answers-length method key nonce sender time address padding payload out n e,
     (sealable method (length key) (length nonce) sender address padding (length payload) (length out) n e).space,
@@ -62,22 +61,22 @@ module _ (method : ℕ) (key nonce : List ℕ) (sender : Sender) (time : ℕ) (a
         sealed-length = sealed-fits;
         sealed-counts = λ n e. ap (seal_next sender) e;
         past-length-kept = λ n e.
-            ap (λ (x : Sealed). drop n (seal_out x text out)) e ∙ writes-length method key nonce sender time address padding payload out n e;
+            ap (λ (x : Result ℕ Refusal). drop n (seal_out x text out)) e ∙ writes-length method key nonce sender time address padding payload out n e;
         length-kept = kept answer refl;
       }
     where
-      by_order : (a : Sealed) → answer ≡ a → SealAnswered answer
-      by_order (Datagram n) e = sealed n e
-      by_order (Refused r) e =
+      by_order : (a : Result ℕ Refusal) → answer ≡ a → SealAnswered answer
+      by_order (Ok n) e = sealed n e
+      by_order (Err r) e =
           refused r
           (of-order (seal_order method (length key) (length nonce) sender address padding (length payload) (length out)) _ (refusal_number r) (added r)
           (sym (orders.datagram-sealed method (length key) (length nonce) sender address padding (length payload) (length out)) ∙ ap said_sealed e)) e
 
-      kept : (a : Sealed) → answer ≡ a → length (seal_out answer text out) ≡ length out
-      kept (Datagram n) e =
+      kept : (a : Result ℕ Refusal) → answer ≡ a → length (seal_out answer text out) ≡ length out
+      kept (Ok n) e =
           let f = sealed-fits n e in
-          ap (λ (x : Sealed). length (seal_out x text out)) e ∙ length-put out 0 text (omega (arith, f.0, f.1))
-      kept (Refused r) e = ap length (refused_as answer r e)
+          ap (λ (x : Result ℕ Refusal). length (seal_out x text out)) e ∙ length-put out 0 text (omega (arith, f.0, f.1))
+      kept (Err r) e = ap length (refused_as answer r e)
 
 -- ---- beginning
 

@@ -1,10 +1,10 @@
 -- Demand 3 for the openers, for every method and key.
 -- Assumes nothing.
+use Rattle.std.specs.Prelude.{Err, Ok, Result, None, Some}
 use mathlib.Core.Path.{◌≡◌, refl, sym, ap, ap₂, ◌∙◌}
 use mathlib.Core.Logic.{◌≢◌}
 use mathlib.Core.Bool.{Bool, true, false, cond, ◌&&◌, and-false}
 use mathlib.Core.List.{List}
-use mathlib.Core.Option.{none, some}
 use Prim.Native.Nat.{ℕ, ◌+◌, ◌-◌, ◌≤◌}
 use native.Mathlib.Omega.{arith}
 use lib.Dec.{leb}
@@ -15,8 +15,6 @@ use Rattle.session_book.specs.Demand3.{Named}
 use Rattle.session_book.specs.Counts.{NoEarlyEight}
 use Rattle.session_book.proofs.Demand3 as book
 use Rattle.datagram_read.specs.declared.Header.{Header}
-use Rattle.datagram_read.specs.declared.Opened.{Opened}
-use Rattle.datagram_read.specs.declared.Opened.TheVariants.{Datagram, Refused}
 use Rattle.datagram_read.specs.Opening.{separate_of, datagram_authentic, plain_of, session_of, read_answer, read_out}
 use Rattle.chacha_poly.specs.Extended.{extended_authentic}
 use Rattle.protocol.specs.declared.Cipher.{Cipher}
@@ -30,6 +28,7 @@ use Rattle.demands.specs.Demand3.{MembershipAes, MembershipChaCha, Membership, D
 use Rattle.datagram_read.proofs.OpeningLaws.{length-plain}
 use Rattle.datagram_read.proofs.ReadLaws.{answer-tells, opens-long, header-session}
 use Rattle.demands.proofs.DatagramWays.{among, among-answer, early-not-eight}
+use Rattle.protocol.specs.declared.Refusal.{Refusal}
 
 -- 1 where a session is reached, and its ID
 abbrev reached : Decision Header → ℕ
@@ -47,11 +46,11 @@ names-there AesGcm key s long header good = le-leb 16 (length s) (omega arith)
 names-there (ChaChaPoly n) key s long header good = ap₂ ◌&&◌ (le-leb 48 (length s) (omega arith)) good
 
 -- by what was read
-by_answer : (method : ℕ) (key : List ℕ) (c : Call) (a : Opened)
+by_answer : (method : ℕ) (key : List ℕ) (c : Call) (a : Result Header Refusal)
     → read_answer method key (expected c.client) c.clock c.datagram c.output ≡ a → (o : List ℕ) (id p : ℕ) (header : Header) (text : List ℕ)
-    → decided_by a o (plain_of (cipher_of method) key c.datagram) ≡ reaches id p header text → belongs method key c ≡ some id
+    → decided_by a o (plain_of (cipher_of method) key c.datagram) ≡ reaches id p header text → belongs method key c ≡ Some id
 unfolding belongs
-by_answer method key c (Datagram h) ea o id p header text e =
+by_answer method key c (Ok h) ea o id p header text e =
     let s = c.datagram in
     let cipher = cipher_of method in
     let side = expected c.client in
@@ -60,17 +59,17 @@ by_answer method key c (Datagram h) ea o id p header text e =
     let whole = leb-true (main_start cipher + fixed_length side) (length (plain_of cipher key s)) d.main.long in
     let there = names-there cipher key s long (omega (arith, whole, fixed-least side, length-plain cipher key s)) d.authentic in
     let this : session_of cipher key s ≡ id = sym (header-session method key side c.clock s c.output h d) ∙ ap id_in e in
-    (λ i. cond (d.fits i && there i) (some (session_of cipher key s)) none) ∙ ap some this
-by_answer method key c (Refused r) ea o id p header text e = absurd (let z : ◌≡◌ {A = ℕ} 0 1 = ap reached e in omega arith)
+    (λ i. cond (d.fits i && there i) (Some (session_of cipher key s)) None) ∙ ap Some this
+by_answer method key c (Err r) ea o id p header text e = absurd (let z : ◌≡◌ {A = ℕ} 0 1 = ap reached e in omega arith)
 
 -- the number that the arguments decide
 abbrev number_in : Decision Header → ℕ
 number_in (early n out) = n
 number_in (reaches id p h plain) = 0
 
-not_eight : (a : Opened) (o plain : List ℕ) → among a ≡ true → (n : ℕ) (out : List ℕ) → decided_by a o plain ≡ early n out → n ≢ 8
-not_eight (Datagram h) o plain among-a n out e f = let z : ◌≡◌ {A = ℕ} 1 0 = ap reached e in omega arith
-not_eight (Refused r) o plain among-a n out e f = early-not-eight r among-a (ap number_in e ∙ f)
+not_eight : (a : Result Header Refusal) (o plain : List ℕ) → among a ≡ true → (n : ℕ) (out : List ℕ) → decided_by a o plain ≡ early n out → n ≢ 8
+not_eight (Ok h) o plain among-a n out e f = let z : ◌≡◌ {A = ℕ} 1 0 = ap reached e in omega arith
+not_eight (Err r) o plain among-a n out e f = early-not-eight r among-a (ap number_in e ∙ f)
 
 module _ (method : ℕ) (key : List ℕ) where
   -- a datagram that reaches a session is of the one that it names
@@ -90,20 +89,20 @@ module _ (method : ℕ) (key : List ℕ) where
   -- the session that a datagram names, by the method's cipher
   belongs-by : (cipher : Cipher) → cipher_of method ≡ cipher → (c : Call)
       → belongs method key c
-      ≡ cond (key_fits method (length key) && names cipher key c.datagram) (some (session_of cipher key c.datagram)) none
+      ≡ cond (key_fits method (length key) && names cipher key c.datagram) (Some (session_of cipher key c.datagram)) None
   unfolding belongs
-  belongs-by cipher e c = λ i. cond (key_fits method (length key) && names (e i) key c.datagram) (some (session_of (e i) key c.datagram)) none
+  belongs-by cipher e c = λ i. cond (key_fits method (length key) && names (e i) key c.datagram) (Some (session_of (e i) key c.datagram)) None
 
   -- where it names one, and where it names none
   named_by : (cipher : Cipher) → cipher_of method ≡ cipher → (c : Call) → key_fits method (length key) ≡ true → names cipher key c.datagram ≡ true
-      → belongs method key c ≡ some (session_of cipher key c.datagram)
-  named_by cipher e c fits there = belongs-by cipher e c ∙ (λ i. cond (fits i && there i) (some (session_of cipher key c.datagram)) none)
+      → belongs method key c ≡ Some (session_of cipher key c.datagram)
+  named_by cipher e c fits there = belongs-by cipher e c ∙ (λ i. cond (fits i && there i) (Some (session_of cipher key c.datagram)) None)
 
-  unnamed-by : (cipher : Cipher) → cipher_of method ≡ cipher → (c : Call) → names cipher key c.datagram ≡ false → belongs method key c ≡ none
+  unnamed-by : (cipher : Cipher) → cipher_of method ≡ cipher → (c : Call) → names cipher key c.datagram ≡ false → belongs method key c ≡ None
   unnamed-by cipher e c none-there =
       belongs-by cipher e c
-      ∙ ap (λ (b : Bool). cond (key_fits method (length key) && b) (some (session_of cipher key c.datagram)) none) none-there
-      ∙ ap (λ (b : Bool). cond b (some (session_of cipher key c.datagram)) none) (and-false (key_fits method (length key)))
+      ∙ ap (λ (b : Bool). cond (key_fits method (length key) && b) (Some (session_of cipher key c.datagram)) None) none-there
+      ∙ ap (λ (b : Bool). cond b (Some (session_of cipher key c.datagram)) None) (and-false (key_fits method (length key)))
 
   by-aes : cipher_of method ≡ AesGcm → MembershipAes method key
   unfolding session_of separate_of
@@ -135,7 +134,7 @@ module _ (method : ℕ) (key : List ℕ) where
         chacha12 = λ e. by-chacha 6 (ap cipher_of e);
         chacha8 = λ e. by-chacha 4 (ap cipher_of e);
         no_key = λ c e.
-            ap (λ (b : Bool). cond (b && names (cipher_of method) key c.datagram) (some (session_of (cipher_of method) key c.datagram)) none) e;
+            ap (λ (b : Bool). cond (b && names (cipher_of method) key c.datagram) (Some (session_of (cipher_of method) key c.datagram)) None) e;
       }
 
   pub demand3 : Demand3 method key

@@ -1,5 +1,6 @@
 -- When exactly a fixed header is good, and a response's head accepted.
 -- Assumes nothing.
+use Rattle.std.specs.Prelude.{Err, Ok, Result}
 use mathlib.Core.Path.{◌≡◌, refl, sym, ap, ◌∙◌, subst}
 use mathlib.Core.Bool.{Bool, true, false, cond, ◌&&◌, and-eq-true_iff, false≢true}
 use mathlib.Core.List.{List, [], ◌∷◌}
@@ -24,11 +25,7 @@ use Rattle.stream_heads.specs.Heads.{front_length, fixed_of, fields_of, read_fix
 use Rattle.stream_open.specs.declared.Turn.TheVariants.{Payload}
 use Rattle.stream_open.specs.declared.Receiver.{Receiver}
 use Rattle.stream_heads.specs.declared.Fixed.{Fixed}
-use Rattle.stream_heads.specs.declared.FixedRead.{FixedRead}
-use Rattle.stream_heads.specs.declared.FixedRead.TheVariants.{Read, Refused as Unread}
 use Rattle.stream_open_response.specs.declared.Response.{Response}
-use Rattle.stream_open_response.specs.declared.ResponseOpened.{ResponseOpened}
-use Rattle.stream_open_response.specs.declared.ResponseOpened.TheVariants.{Accepted as Answered, Refused as Unanswered}
 use Rattle.stream_open_response.specs.Responses.{binding_of, bound_as, bound_of, response_at, opened_response}
 use Rattle.stream_open.specs.Chunks.{receiver}
 use Rattle.demands.specs.StreamsKeep.{salt_of, of_request, of_front, of_response, ResponseAnswered, accepted-response, refused-response}
@@ -36,31 +33,31 @@ use Rattle.demands.specs.StreamsOpen.{FixedOpens, ResponseOpens, ResponseExactly
 
 -- ---- the fixed header
 
-abbrev is_read : FixedRead → ℕ
-is_read (Read f) = 1
-is_read (Unread r) = 0
+abbrev is_read : Result Fixed Refusal → ℕ
+is_read (Ok f) = 1
+is_read (Err r) = 0
 
-abbrev fields_in : FixedRead → Fixed → Fixed
-fields_in (Read f) other = f
-fields_in (Unread r) other = other
+abbrev fields_in : Result Fixed Refusal → Fixed → Fixed
+fields_in (Ok f) other = f
+fields_in (Err r) other = other
 
-pub not-read : (r : Refusal) (f : Fixed) → Unread r ≡ Read f → ⊥
+pub not-read : (r : Refusal) (f : Fixed) → Err r ≡ Ok f → ⊥
 not-read r f e = let z : ◌≡◌ {A = ℕ} 0 1 = ap is_read e in omega arith
 
-record FixedPassed (b : Bool) (x : FixedRead) (f : Fixed) : Type 0 where
+record FixedPassed (b : Bool) (x : Result Fixed Refusal) (f : Fixed) : Type 0 where
   test : b ≡ true
-  then : x ≡ Read f
+  then : x ≡ Ok f
 
-fixed-passed : (b : Bool) (x : FixedRead) (r : Refusal) (f : Fixed) → cond b x (Unread r) ≡ Read f → FixedPassed b x f
+fixed-passed : (b : Bool) (x : Result Fixed Refusal) (r : Refusal) (f : Fixed) → cond b x (Err r) ≡ Ok f → FixedPassed b x f
 fixed-passed true x r f e = record { test = refl; then = e }
 fixed-passed false x r f e = absurd (not-read r f e)
 
 -- 4, 6 and 7
-abbrev pub of_fixed : FixedRead → Bool
-of_fixed (Read f) = true
-of_fixed (Unread r) = of_front r && (of_request r && of_response r)
+abbrev pub of_fixed : Result Fixed Refusal → Bool
+of_fixed (Ok f) = true
+of_fixed (Err r) = of_front r && (of_request r && of_response r)
 
-fixed-among : (b : Bool) (x : FixedRead) (r : Refusal) → of_fixed x ≡ true → of_fixed (Unread r) ≡ true → of_fixed (cond b x (Unread r)) ≡ true
+fixed-among : (b : Bool) (x : Result Fixed Refusal) (r : Refusal) → of_fixed x ≡ true → of_fixed (Err r) ≡ true → of_fixed (cond b x (Err r)) ≡ true
 fixed-among true x r e g = e
 fixed-among false x r e g = g
 
@@ -68,13 +65,13 @@ module _ (key : Keyed) (kind clock : ℕ) (s : List ℕ) where
   abbrev fixed_plain : List ℕ
   fixed_plain = open_at key 0 s
 
-  pub fixed-tells : (f : Fixed) → open_fixed key kind clock s ≡ Read f → FixedOpens key kind clock s f.time f.length
+  pub fixed-tells : (f : Fixed) → open_fixed key kind clock s ≡ Ok f → FixedOpens key kind clock s f.time f.length
   unfolding open_fixed read_fixed
   fixed-tells f e =
       let e₁ = fixed-passed (authentic_at key 0 s) _ _ f e in
       let e₂ = fixed-passed (eqb (get_or fixed_plain 0 0) kind) _ _ f e₁.then in
       let e₃ = fixed-passed (time_valid (be 8 (drop 1 fixed_plain)) clock) _ _ f e₂.then in
-      let here : f ≡ fields_of fixed_plain = sym (ap (λ (x : FixedRead). fields_in x f) e₃.then) in
+      let here : f ≡ fields_of fixed_plain = sym (ap (λ (x : Result Fixed Refusal). fields_in x f) e₃.then) in
       record {
         authentic = e₁.test;
         right-type = eqb-true (get_or fixed_plain 0 0) kind e₂.test;
@@ -83,14 +80,14 @@ module _ (key : Keyed) (kind clock : ℕ) (s : List ℕ) where
         says-length = ap (λ (x : Fixed). x.length) here;
       }
 
-  pub fixed-given : (time size : ℕ) → FixedOpens key kind clock s time size → open_fixed key kind clock s ≡ Read (record { time = time; length = size })
+  pub fixed-given : (time size : ℕ) → FixedOpens key kind clock s time size → open_fixed key kind clock s ≡ Ok (record { time = time; length = size })
   unfolding open_fixed read_fixed
   fixed-given time size d =
       let valid = ap (λ (t : ℕ). time_valid t clock) (sym d.says-time) ∙ d.time-valid in
       (λ i. cond (d.authentic i)
       (cond (eq-eqb (get_or fixed_plain 0 0) kind d.right-type i)
-      (cond (valid i) (Read (fields_of fixed_plain)) (Unread WrongTime)) (Unread WrongType)) (Unread NotAuthentic))
-      ∙ (λ i. Read (record { time = sym d.says-time i; length = sym d.says-length i }))
+      (cond (valid i) (Ok (fields_of fixed_plain)) (Err WrongTime)) (Err WrongType)) (Err NotAuthentic))
+      ∙ (λ i. Ok (record { time = sym d.says-time i; length = sym d.says-length i }))
 
   pub fixed-refusals : of_fixed (open_fixed key kind clock s) ≡ true
   unfolding open_fixed read_fixed
@@ -101,45 +98,45 @@ module _ (key : Keyed) (kind clock : ℕ) (s : List ℕ) where
 
 -- ---- a response
 
-abbrev is_answered : ResponseOpened → ℕ
-is_answered (Answered h st) = 1
-is_answered (Unanswered r) = 0
+abbrev is_answered : Result (Response × Receiver) Refusal → ℕ
+is_answered (Ok (h, st)) = 1
+is_answered (Err r) = 0
 
-not-answered : (r : Refusal) (h : Response) (st : Receiver) → Unanswered r ≡ Answered h st → ⊥
+not-answered : (r : Refusal) (h : Response) (st : Receiver) → ◌≡◌ {A = Result (Response × Receiver) Refusal} (Err r) (Ok (h, st)) → ⊥
 not-answered r h st e = let z : ◌≡◌ {A = ℕ} 0 1 = ap is_answered e in omega arith
 
-abbrev response_in : ResponseOpened → Response → Response
-response_in (Answered h st) other = h
-response_in (Unanswered r) other = other
+abbrev response_in : Result (Response × Receiver) Refusal → Response → Response
+response_in (Ok (h, st)) other = h
+response_in (Err r) other = other
 
-abbrev response_stream : ResponseOpened → Receiver → Receiver
-response_stream (Answered h st) other = st
-response_stream (Unanswered r) other = other
+abbrev response_stream : Result (Response × Receiver) Refusal → Receiver → Receiver
+response_stream (Ok (h, st)) other = st
+response_stream (Err r) other = other
 
-record ResponsePassed (b : Bool) (x : ResponseOpened) (h : Response) (st : Receiver) : Type 0 where
+record ResponsePassed (b : Bool) (x : Result (Response × Receiver) Refusal) (h : Response) (st : Receiver) : Type 0 where
   test : b ≡ true
-  then : x ≡ Answered h st
+  then : x ≡ Ok (h, st)
 
-response-passed : (b : Bool) (x : ResponseOpened) (r : Refusal) (h : Response) (st : Receiver) → cond b x (Unanswered r) ≡ Answered h st
+response-passed : (b : Bool) (x : Result (Response × Receiver) Refusal) (r : Refusal) (h : Response) (st : Receiver) → cond b x (Err r) ≡ Ok (h, st)
     → ResponsePassed b x h st
 response-passed true x r h st e = record { test = refl; then = e }
 response-passed false x r h st e = absurd (not-answered r h st e)
 
-record ResponseDenied (b : Bool) (x : ResponseOpened) (h : Response) (st : Receiver) : Type 0 where
+record ResponseDenied (b : Bool) (x : Result (Response × Receiver) Refusal) (h : Response) (st : Receiver) : Type 0 where
   test : b ≡ false
-  then : x ≡ Answered h st
+  then : x ≡ Ok (h, st)
 
-response-denied : (b : Bool) (x : ResponseOpened) (r : Refusal) (h : Response) (st : Receiver) → cond b (Unanswered r) x ≡ Answered h st
+response-denied : (b : Bool) (x : Result (Response × Receiver) Refusal) (r : Refusal) (h : Response) (st : Receiver) → cond b (Err r) x ≡ Ok (h, st)
     → ResponseDenied b x h st
 response-denied true x r h st e = absurd (not-answered r h st e)
 response-denied false x r h st e = record { test = refl; then = e }
 
-abbrev among_responses : ResponseOpened → Bool
-among_responses (Answered h st) = true
-among_responses (Unanswered r) = of_response r
+abbrev among_responses : Result (Response × Receiver) Refusal → Bool
+among_responses (Ok (h, st)) = true
+among_responses (Err r) = of_response r
 
-response-among : (b : Bool) (x : ResponseOpened) (r : Refusal) → among_responses x ≡ true → of_response r ≡ true
-    → among_responses (cond b x (Unanswered r)) ≡ true
+response-among : (b : Bool) (x : Result (Response × Receiver) Refusal) (r : Refusal) → among_responses x ≡ true → of_response r ≡ true
+    → among_responses (cond b x (Err r)) ≡ true
 response-among true x r e g = e
 response-among false x r e g = g
 
@@ -153,12 +150,12 @@ module _ (method : ℕ) (key : List ℕ) (clock : ℕ) (request_salt s : List �
   abbrev ours : Bool
   ours = same (binding_of salts (open_at response-key 0 (fixed_of salts salts s))) request_salt
 
-  abbrev response-front : FixedRead
+  abbrev response-front : Result Fixed Refusal
   response-front = open_fixed response-key 1 clock (fixed_of salts salts s)
 
-  bound-tells : (h : Response) (st : Receiver) (x : FixedRead) → response-front ≡ x → front_length salts salts ≤ length s
-      → bound_as method (subkey_words response-key.bytes) (front_length salts salts) ours x ≡ Answered h st → ResponseOpens method key clock request_salt s h st
-  bound-tells h st (Read f) ef whole e =
+  bound-tells : (h : Response) (st : Receiver) (x : Result Fixed Refusal) → response-front ≡ x → front_length salts salts ≤ length s
+      → bound_as method (subkey_words response-key.bytes) (front_length salts salts) ours x ≡ Ok (h, st) → ResponseOpens method key clock request_salt s h st
+  bound-tells h st (Ok f) ef whole e =
       let e₁ = response-passed ours _ _ h st e in
       let e₂ = response-denied (is_empty f.length) _ _ h st e₁.then in
       record {
@@ -168,12 +165,12 @@ module _ (method : ℕ) (key : List ℕ) (clock : ℕ) (request_salt s : List �
         fixed-opens = fixed-tells response-key 1 clock (fixed_of salts salts s) f ef;
         for-us = same-eq _ request_salt e₁.test;
         not-empty = some_left f.length e₂.test;
-        says = sym (ap (λ (x : ResponseOpened). response_in x h) e₂.then);
-        stream = sym (ap (λ (x : ResponseOpened). response_stream x st) e₂.then);
+        says = sym (ap (λ (x : Result (Response × Receiver) Refusal). response_in x h) e₂.then);
+        stream = sym (ap (λ (x : Result (Response × Receiver) Refusal). response_stream x st) e₂.then);
       }
-  bound-tells h st (Unread r) ef whole e = absurd (not-answered r h st e)
+  bound-tells h st (Err r) ef whole e = absurd (not-answered r h st e)
 
-  pub response-tells : (h : Response) (st : Receiver) → opened_response method key clock request_salt s ≡ Answered h st
+  pub response-tells : (h : Response) (st : Receiver) → opened_response method key clock request_salt s ≡ Ok (h, st)
       → ResponseOpens method key clock request_salt s h st
   unfolding opened_response response_at bound_of
   response-tells h st e =
@@ -182,7 +179,7 @@ module _ (method : ℕ) (key : List ℕ) (clock : ℕ) (request_salt s : List �
       bound-tells h st response-front refl (leb-true (front_length salts salts) (length s) e₂.test) e₂.then
 
   pub response-given : key_fits method (length key) ≡ true → length request_salt ≡ salts → (h : Response) (st : Receiver)
-      → ResponseOpens method key clock request_salt s h st → opened_response method key clock request_salt s ≡ Answered h st
+      → ResponseOpens method key clock request_salt s h st → opened_response method key clock request_salt s ≡ Ok (h, st)
   unfolding opened_response response_at bound_of
   response-given fits long h st d =
       let es = eq-eqb (length request_salt) salts long in
@@ -192,18 +189,18 @@ module _ (method : ℕ) (key : List ℕ) (clock : ℕ) (request_salt s : List �
       let en = not-zero-some d.size (λ z. omega (arith, z, d.not-empty)) in
       (λ i. cond (fits i && es i)
       (cond (ew i) (bound_as method (subkey_words response-key.bytes) (front_length salts salts) (eo i) (ef i))
-      (Unanswered (More (front_length salts salts)))) (Unanswered Settings))
-      ∙ (λ i. cond (en i) (Unanswered Empty) (Answered (sym d.says i) (sym d.stream i)))
+      (Err (More (front_length salts salts)))) (Err Settings))
+      ∙ (λ i. cond (en i) (Err Empty) (Ok (sym d.says i, sym d.stream i)))
 
-  bound-among : (b : Bool) (x : FixedRead) → of_fixed x ≡ true
+  bound-among : (b : Bool) (x : Result Fixed Refusal) → of_fixed x ≡ true
       → among_responses (bound_as method (subkey_words response-key.bytes) (front_length salts salts) b x) ≡ true
-  bound-among true (Read f) o = go (is_empty f.length)
+  bound-among true (Ok f) o = go (is_empty f.length)
     where
-      go : (b : Bool) → among_responses (cond b (Unanswered Empty) (Answered (record { time = f.time; length = f.length; used = front_length salts salts }) (receiver method (Payload f.length) 1 (subkey_words response-key.bytes)))) ≡ true
+      go : (b : Bool) → among_responses (cond b (Err Empty) (Ok (record { time = f.time; length = f.length; used = front_length salts salts }, receiver method (Payload f.length) 1 (subkey_words response-key.bytes)))) ≡ true
       go true = refl
       go false = refl
-  bound-among false (Read f) o = refl
-  bound-among b (Unread r) o = ((and-eq-true_iff (of_request r) _).0 ((and-eq-true_iff (of_front r) _).0 o).1).1
+  bound-among false (Ok f) o = refl
+  bound-among b (Err r) o = ((and-eq-true_iff (of_request r) _).0 ((and-eq-true_iff (of_front r) _).0 o).1).1
 
   among-response : among_responses (opened_response method key clock request_salt s) ≡ true
   unfolding opened_response response_at bound_of
@@ -215,9 +212,9 @@ module _ (method : ℕ) (key : List ℕ) (clock : ℕ) (request_salt s : List �
   pub response-keeps : ResponseAnswered (opened_response method key clock request_salt s)
   response-keeps = go (opened_response method key clock request_salt s) refl
     where
-      go : (a : ResponseOpened) → opened_response method key clock request_salt s ≡ a → ResponseAnswered (opened_response method key clock request_salt s)
-      go (Answered h st) e = accepted-response h st e
-      go (Unanswered r) e = refused-response r (ap among_responses (sym e) ∙ among-response) e
+      go : (a : Result (Response × Receiver) Refusal) → opened_response method key clock request_salt s ≡ a → ResponseAnswered (opened_response method key clock request_salt s)
+      go (Ok (h, st)) e = accepted-response h st e
+      go (Err r) e = refused-response r (ap among_responses (sym e) ∙ among-response) e
 
 pub response-exactly-when : ResponseExactlyWhen
 response-exactly-when method key clock request_salt s fits long h st =
@@ -228,31 +225,31 @@ response-exactly-when method key clock request_salt s fits long h st =
 
 -- ---- a response's 14
 
-abbrev is_emptied : ResponseOpened → ℕ
-is_emptied (Answered h st) = 0
-is_emptied (Unanswered r) = cond (eqb (refusal_number r) 14) 1 0
+abbrev is_emptied : Result (Response × Receiver) Refusal → ℕ
+is_emptied (Ok (h, st)) = 0
+is_emptied (Err r) = cond (eqb (refusal_number r) 14) 1 0
 
-not-emptied : {x : ResponseOpened} → is_emptied x ≡ 0 → x ≡ Unanswered Empty → ⊥
+not-emptied : {x : Result (Response × Receiver) Refusal} → is_emptied x ≡ 0 → x ≡ Err Empty → ⊥
 not-emptied o e = let z : ◌≡◌ {A = ℕ} 0 1 = sym o ∙ ap is_emptied e in omega arith
 
 -- it stands behind a test whose refusal is another
-record Behind (b : Bool) (x : ResponseOpened) : Type 0 where
+record Behind (b : Bool) (x : Result (Response × Receiver) Refusal) : Type 0 where
   test : b ≡ true
-  then : x ≡ Unanswered Empty
+  then : x ≡ Err Empty
 
-behind : (b : Bool) (x : ResponseOpened) (r : Refusal) → is_emptied (Unanswered r) ≡ 0 → cond b x (Unanswered r) ≡ Unanswered Empty → Behind b x
+behind : (b : Bool) (x : Result (Response × Receiver) Refusal) (r : Refusal) → is_emptied (Err r) ≡ 0 → cond b x (Err r) ≡ Err Empty → Behind b x
 behind true x r o e = record { test = refl; then = e }
 behind false x r o e = absurd (not-emptied o e)
 
 -- no refusal of a fixed header is 14
-fixed-not-empty : (r : Refusal) → of_front r ≡ true → is_emptied (Unanswered r) ≡ 0
+fixed-not-empty : (r : Refusal) → of_front r ≡ true → is_emptied (Err r) ≡ 0
 fixed-not-empty r o = go (eqb (refusal_number r) 14) refl
   where
     go : (b : Bool) → eqb (refusal_number r) 14 ≡ b → ◌≡◌ {A = ℕ} (cond b 1 0) 0
     go false e = refl
     go true e = absurd (false≢true (ap (λ (n : ℕ). among (4 ∷ 6 ∷ 7 ∷ []) n) (sym (eqb-true (refusal_number r) 14 e)) ∙ o))
 
-is-0 : (good : ResponseOpened) (n : ℕ) (b : Bool) → is_emptied good ≡ 0 → is_empty n ≡ b → cond b (Unanswered Empty) good ≡ Unanswered Empty → n ≡ 0
+is-0 : (good : Result (Response × Receiver) Refusal) (n : ℕ) (b : Bool) → is_emptied good ≡ 0 → is_empty n ≡ b → cond b (Err Empty) good ≡ Err Empty → n ≡ 0
 is-0 good n true o h e = empty-zero n h
 is-0 good n false o h e = absurd (not-emptied o e)
 
@@ -266,11 +263,11 @@ module _ (method : ℕ) (key : List ℕ) (clock : ℕ) (request_salt s : List �
   abbrev bound : Bool
   bound = same (binding_of (salt_length method) (open_at emptied-key 0 piece)) request_salt
 
-  bound-emptied : (x : FixedRead) → open_fixed emptied-key 1 clock piece ≡ x → of_fixed x ≡ true
+  bound-emptied : (x : Result Fixed Refusal) → open_fixed emptied-key 1 clock piece ≡ x → of_fixed x ≡ true
       → front_length (salt_length method) (salt_length method) ≤ length s
-      → bound_as method (subkey_words emptied-key.bytes) (front_length (salt_length method) (salt_length method)) bound x ≡ Unanswered Empty
+      → bound_as method (subkey_words emptied-key.bytes) (front_length (salt_length method) (salt_length method)) bound x ≡ Err Empty
       → ResponseEmpty method key clock request_salt s
-  bound-emptied (Read f) ef o whole e =
+  bound-emptied (Ok f) ef o whole e =
       let e₁ = behind bound _ Binding refl e in
       let size = is-0 _ f.length (is_empty f.length) refl refl e₁.then in
       record {
@@ -279,9 +276,9 @@ module _ (method : ℕ) (key : List ℕ) (clock : ℕ) (request_salt s : List �
         fixed-opens = subst (λ (n : ℕ). FixedOpens emptied-key 1 clock piece f.time n) size (fixed-tells emptied-key 1 clock piece f ef);
         for-us = same-eq _ request_salt e₁.test;
       }
-  bound-emptied (Unread r) ef o whole e = absurd (not-emptied (fixed-not-empty r ((and-eq-true_iff (of_front r) _).0 o).0) e)
+  bound-emptied (Err r) ef o whole e = absurd (not-emptied (fixed-not-empty r ((and-eq-true_iff (of_front r) _).0 o).0) e)
 
-  response-emptied : opened_response method key clock request_salt s ≡ Unanswered Empty → ResponseEmpty method key clock request_salt s
+  response-emptied : opened_response method key clock request_salt s ≡ Err Empty → ResponseEmpty method key clock request_salt s
   unfolding opened_response response_at bound_of
   response-emptied e =
       let n = salt_length method in
@@ -291,7 +288,7 @@ module _ (method : ℕ) (key : List ℕ) (clock : ℕ) (request_salt s : List �
       (leb-true (front_length n n) (length s) e₂.test) e₂.then
 
   emptied-given : key_fits method (length key) ≡ true → length request_salt ≡ salt_length method → ResponseEmpty method key clock request_salt s
-      → opened_response method key clock request_salt s ≡ Unanswered Empty
+      → opened_response method key clock request_salt s ≡ Err Empty
   unfolding opened_response response_at bound_of
   emptied-given fits long d =
       let n = salt_length method in
@@ -300,7 +297,7 @@ module _ (method : ℕ) (key : List ℕ) (clock : ℕ) (request_salt s : List �
       let ef = fixed-given emptied-key 1 clock piece d.time 0 d.fixed-opens in
       let eo = ap (λ (x : List ℕ). same x request_salt) d.for-us ∙ same_refl request_salt in
       λ i. cond (fits i && es i)
-      (cond (ew i) (bound_as method (subkey_words emptied-key.bytes) (front_length n n) (eo i) (ef i)) (Unanswered (More (front_length n n)))) (Unanswered Settings)
+      (cond (ew i) (bound_as method (subkey_words emptied-key.bytes) (front_length n n) (eo i) (ef i)) (Err (More (front_length n n)))) (Err Settings)
 
 pub response-empty-exactly-when : ResponseEmptyExactlyWhen
 response-empty-exactly-when method key clock request_salt s fits long =

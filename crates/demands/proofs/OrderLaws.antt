@@ -1,12 +1,12 @@
 -- The conditions of the rules, as the definitions test them.
 -- Assumes nothing.
+use Rattle.std.specs.Prelude.{Option}
 use mathlib.Core.Path.{◌≡◌, refl, sym, ap, ap₂, ◌∙◌}
 use mathlib.Core.Bool.{Bool, true, false, cond, not, ◌&&◌, ◌||◌, or-false, and-false}
 use Prim.Native.Nat.{ℕ, ◌+◌, ◌≤◌, ◌<◌}
 use native.Mathlib.Omega.{arith}
 use lib.Dec.{eqb, leb, ltb}
 use borrow.Author.Tests.{leb-true, ltb-true, ltb-false, eqb-true, eq-eqb, ne_eqb}
-use Rattle.protocol.specs.declared.Numbered.{Numbered}
 use Rattle.protocol.specs.Method.{asks, key_fits, key_in, key_length, salt_length, cipher_in, cipher_of}
 use Rattle.datagram_parts.specs.declared.Side.{Side}
 use Rattle.datagram_parts.specs.declared.Side.TheVariants.{Client, Server}
@@ -16,6 +16,7 @@ use Rattle.datagram_parts.proofs.OverheadLaws.{by_number}
 use Rattle.datagram_seal.specs.Sealing.{differs}
 use Rattle.protocol.proofs.OrderLaws.{not-and, under, eqb-turned}
 use Rattle.demands.specs.Orders.{with_cha_cha, other_method, other_key, besides, main_at, same_ids}
+use Rattle.protocol.specs.declared.Method.{Method}
 
 -- ---- conditions
 
@@ -31,7 +32,7 @@ no-chacha n f =
 pub other_key_lem : (method k : ℕ) → other_key method k ≡ not (key_fits method k)
 unfolding key_fits
 other_key_lem method k =
-    by_number (λ (n : ℕ) (m : Numbered). other_key n k ≡ not (asks m k)) (ap not (or-false (eqb k 16) ∙ eqb-turned k 16)) long long long long none-asks method
+    by_number (λ (n : ℕ) (m : Option Method). other_key n k ≡ not (asks m k)) (ap not (or-false (eqb k 16) ∙ eqb-turned k 16)) long long long long none-asks method
   where
     long : not (eqb k 32) ≡ not (eqb 32 k)
     long = ap not (eqb-turned k 32)
@@ -44,7 +45,7 @@ other_key_lem method k =
 pub other-method : (method : ℕ) → other_method method ≡ eqb (key_length method) 0
 unfolding key_length
 other-method method =
-    by_number (λ (n : ℕ) (m : Numbered). other_method n ≡ eqb (key_in m) 0) refl refl refl refl refl no-method method
+    by_number (λ (n : ℕ) (m : Option Method). other_method n ≡ eqb (key_in m) 0) refl refl refl refl refl no-method method
   where
     no-method : (n : ℕ) → (1 ≤ n → n ≤ 5 → ⊥) → other_method n ≡ true
     no-method n f =
@@ -55,20 +56,20 @@ other-method method =
 pub besides-overhead : (method : ℕ) → besides method ≡ overhead (cipher_of method)
 unfolding cipher_of
 besides-overhead method =
-    by_number (λ (n : ℕ) (m : Numbered). besides n ≡ overhead (cipher_in m)) refl refl refl refl refl
+    by_number (λ (n : ℕ) (m : Option Method). besides n ≡ overhead (cipher_in m)) refl refl refl refl refl
     (λ n f. ap (λ (b : Bool). cond b 40 32) (no-chacha n f)) method
 
 pub main-at : (method : ℕ) → main_at method ≡ main_start (cipher_of method)
 unfolding cipher_of
 main-at method =
-    by_number (λ (n : ℕ) (m : Numbered). main_at n ≡ main_start (cipher_in m)) refl refl refl refl refl
+    by_number (λ (n : ℕ) (m : Option Method). main_at n ≡ main_start (cipher_in m)) refl refl refl refl refl
     (λ n f. ap (λ (b : Bool). cond b 16 0) (no-chacha n f)) method
 
 -- a nonce of another length than 24, where it is looked at
 pub other-nonce : (method nonce : ℕ) → (with_cha_cha method && not (eqb nonce 24)) ≡ not (nonce_fits (cipher_of method) nonce)
 unfolding cipher_of
 other-nonce method nonce =
-    by_number (λ (n : ℕ) (m : Numbered). (with_cha_cha n && not (eqb nonce 24)) ≡ not (nonce_fits (cipher_in m) nonce)) refl refl refl refl refl
+    by_number (λ (n : ℕ) (m : Option Method). (with_cha_cha n && not (eqb nonce 24)) ≡ not (nonce_fits (cipher_in m) nonce)) refl refl refl refl refl
     (λ n f. ap (λ (b : Bool). b && not (eqb nonce 24)) (no-chacha n f)) method
 
 pub unsealable : (method k nonce : ℕ)

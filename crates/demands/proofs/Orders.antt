@@ -3,7 +3,6 @@
 use mathlib.Core.Path.{◌≡◌, refl, sym, ap, ◌∙◌}
 use mathlib.Core.Bool.{Bool, true, false, cond, not, ◌&&◌, ◌||◌, false≢true}
 use mathlib.Core.List.{List, [], ◌∷◌}
-use mathlib.Core.Option.{Option, none, some}
 use Prim.Native.Nat.{ℕ, ◌+◌, ◌-◌, ◌^◌, ◌≤◌, ◌<◌}
 use native.Mathlib.Omega.{arith}
 use lib.Dec.{eqb, leb, ltb}
@@ -21,23 +20,20 @@ use Rattle.protocol.specs.declared.Refusal.TheVariants.{Length as Long, Room as 
 use Rattle.protocol.specs.declared.Cipher.{Cipher}
 use Rattle.protocol.specs.Method.{key_fits, key_length, salt_length, cipher_of}
 use Rattle.protocol.specs.Time.{time_valid}
-use Rattle.socks5.specs.declared.Parsed.{Parsed}
-use Rattle.socks5.specs.declared.Parsed.TheVariants.{Found, Malformed}
 use Rattle.socks5.specs.Address.{parse_at, is_address}
 use Rattle.datagram_parts.specs.declared.Side.{Side}
 use Rattle.datagram_parts.specs.declared.Side.TheVariants.{Client, Server}
 use Rattle.datagram_parts.specs.Headers.{type_of, fixed_length, main_start}
 use Rattle.datagram_parts.specs.Parts.{overhead, packet_overhead, max_datagram, nonce_fits}
 use Rattle.datagram_seal.specs.declared.Sender.{Sender as Session}
-use Rattle.datagram_seal.specs.declared.Sealed.TheVariants.{Datagram, Refused as NoDatagram}
 use Rattle.reply_session.specs.Beginning.{reply_begun}
 use Rattle.datagram_seal.specs.Sealing.{ids_differ, sealed_length, capped, length_answer, argument_answer, seal_answer}
 use Rattle.datagram_read.specs.declared.Header.{Header}
-use Rattle.datagram_read.specs.declared.Opened.{Opened}
 use Rattle.datagram_read.specs.Opening.{plain_of, session_of, packet_of, time_of, meant, header_with, read_address, read_main, length_lawful, read_text, read_answer, read_out}
 use Rattle.datagram_open.specs.Deciding.{expected, decided_by, decide, call_of, open_answer}
-use Rattle.salt_pool.specs.declared.Met.{Met}
-use Rattle.salt_pool.specs.declared.Met.TheVariants.{Room as Free, Replay as Known, Full as NoRoom}
+use Rattle.salt_pool.specs.Pool.{Met}
+use Rattle.std.specs.Prelude.{Ok, Err, None, Option, Result, Some}
+use Rattle.salt_pool.specs.Pool.{Replay as Known, Full as NoRoom}
 use Rattle.salt_pool.specs.Pool.{meet as meet_salt, lawful as lawful_pool}
 use Rattle.stream_seal.specs.declared.Sender.{Sender}
 use Rattle.stream_pieces.specs.Pieces.{authentic_at, open_at, subkey_words, max_chunk, last_counter, Keyed, salted_key}
@@ -50,8 +46,6 @@ use Rattle.stream_open.specs.Chunks.{stream_key, step_answer}
 use Rattle.stream_open.specs.Steps.{length_read, length_answer as length_ruled, turn_answer}
 use Rattle.stream_open.specs.Steps as steps
 use Rattle.stream_heads.specs.declared.Fixed.{Fixed}
-use Rattle.stream_heads.specs.declared.FixedRead.{FixedRead}
-use Rattle.stream_heads.specs.declared.FixedRead.TheVariants.{Read as Fields, Refused as Unread}
 use Rattle.stream_open_response.specs.declared.Response.{Response}
 use Rattle.stream_heads.specs.Heads.{front_length, fields_of, read_fixed, open_fixed}
 use Rattle.stream_open_response.specs.Responses.{bound_as, bound_of, response_at, opened_response}
@@ -69,6 +63,7 @@ use Rattle.stream_chunks.proofs.ChunkOrders.{piece-order, size-order}
 use Rattle.protocol.proofs.OrderLaws.{next, unless, done, stops, passes, split, not-and, under, under-or-over}
 use Rattle.demands.specs.Orders.{other_method, other_key, besides, main_at, address_in, no_address, others_datagram, not_fresh, no_room, said_opened, open_order, opened_header, is_replay, is_full, bad_variable, said_request, request_order, request_opened, other_turn, header_size, said_variable, variable_order, header_opened, said_response, response_order, response_opened, no_step, empty_length, step_order, chunk_opened, own_header, said_sealed, datagram_bytes, seal_order, seal_request_order, request_sealed, seal_response_order, response_sealed, seal_chunk_order, chunk_sealed, said_begun, is_alive, begin_order, session_begun, Orders}
 use Rattle.demands.proofs.OrderLaws.{other_key_lem, other-method, besides-overhead, main-at, unsealable, unsuited, unsuited-both, bad-padding, same-ids, bad-behind}
+use Rattle.socks5.specs.declared.Address.{Address}
 
 -- ---- opening a datagram
 
@@ -87,9 +82,9 @@ module _ (t : List ℕ) (c : Call) (id p : ℕ) (h : Header) (text : List ℕ) w
 
       go : (x y : Option ℕ) → said_opened (report (meet_by x y t c.clock c.peer id p) c h text).answer
           ≡ first (rule 8 (not_fresh x t p) ∷ rule 9 (no_room x y) ∷ []) h
-      go (some i) y = fresh i (fresh_in (record_at t i) p) (accept_in c.clock c.peer p (record_at t i))
-      go none (some i) = refl
-      go none none = refl
+      go (Some i) y = fresh i (fresh_in (record_at t i) p) (accept_in c.clock c.peer p (record_at t i))
+      go None (Some i) = refl
+      go None None = refl
 
 module _ (method : ℕ) (key : List ℕ) (client : Option ℕ) (clock : ℕ) (peer : Peer) (s t out : List ℕ) where
   abbrev side : Side
@@ -114,14 +109,14 @@ module _ (method : ℕ) (key : List ℕ) (client : Option ℕ) (clock : ℕ) (pe
   packet = packet_of cipher key s
 
   -- what is said where the arguments came to this answer
-  abbrev said : Opened → Said Header
+  abbrev said : Result Header Refusal → Said Header
   said a = said_opened (table_outcome_by (decided_by a (read_out method key side clock s out) plain) t call).answer
 
   abbrev entry : List Rule
   entry =
       rule 8 (not_fresh (session_place t clock session) t packet) ∷ rule 9 (no_room (session_place t clock session) (free_place t clock)) ∷ []
 
-  headed : (n time : ℕ) (a : Parsed)
+  headed : (n time : ℕ) (a : Option Address)
       → said (header_with session packet time n a)
       ≡ first (rule 5 (no_address a) ∷ entry)
       (record {
@@ -134,8 +129,8 @@ module _ (method : ℕ) (key : List ℕ) (client : Option ℕ) (clock : ℕ) (pe
         payload = (address_in a).end;
       })
   unfolding first
-  headed n time (Found a) = meets t call session packet _ plain
-  headed n time Malformed = refl
+  headed n time (Some a) = meets t call session packet _ plain
+  headed n time None = refl
 
   -- 5, 6, 7, 13, 5: n bytes of header from `at` on, and the type byte of the side that is expected
   module _ (at n kind : ℕ) (others : Bool) (es : start ≡ at) (en : fixed_length side ≡ n) (ek : type_of side ≡ kind)
@@ -189,13 +184,13 @@ module _ (method : ℕ) (key : List ℕ) (client : Option ℕ) (clock : ℕ) (pe
 open_order_lem : (method : ℕ) (key : List ℕ) (client : Option ℕ) (clock : ℕ) (peer : Peer) (s t out : List ℕ)
     → said_opened (open_answer method key client clock peer s t out)
     ≡ first (open_order method key client clock s t out) (opened_header method key client clock s t out)
-open_order_lem method key none clock peer s t out =
-    whole method key none clock peer s t out (besides method) (besides-overhead method) _ _
-    (read-order method key none clock peer s t out (main_at method) 11 0 false (sym (main-at method)) refl refl refl)
-open_order_lem method key (some client) clock peer s t out =
+open_order_lem method key None clock peer s t out =
+    whole method key None clock peer s t out (besides method) (besides-overhead method) _ _
+    (read-order method key None clock peer s t out (main_at method) 11 0 false (sym (main-at method)) refl refl refl)
+open_order_lem method key (Some client) clock peer s t out =
     let plain = plain_of (cipher_of method) key s in
-    whole method key (some client) clock peer s t out (besides method) (besides-overhead method) _ _
-    (read-order method key (some client) clock peer s t out (main_at method) 19 1 (others_datagram (some client) (be 8 (drop (main_at method + 9) plain)))
+    whole method key (Some client) clock peer s t out (besides method) (besides-overhead method) _ _
+    (read-order method key (Some client) clock peer s t out (main_at method) 19 1 (others_datagram (Some client) (be 8 (drop (main_at method + 9) plain)))
     (sym (main-at method)) refl refl (λ i. not (eqb (be 8 (drop (main-at method i + 9) plain)) client)))
 
 -- ---- a step
@@ -268,20 +263,20 @@ module _ (method k nonce : ℕ) (sender : Session) (address : List ℕ) (padding
 
   -- 2 and 3: a length that is too long counts as 0
   capped-order : (n : ℕ) → 0 < n
-      → said_sealed (cond (eqb (capped n) 0) (NoDatagram Long) (cond (leb (capped n) room) (Datagram (capped n)) (NoDatagram Narrow)))
+      → said_sealed (cond (eqb (capped n) 0) (Err Long) (cond (leb (capped n) room) (Ok (capped n)) (Err Narrow)))
       ≡ first (rule 2 (ltb 65507 n) ∷ rule 3 (ltb room n) ∷ []) n
   unfolding capped
   capped-order n h = go (leb n max_datagram) refl
     where
       go : (b : Bool) → leb n max_datagram ≡ b
-          → said_sealed (cond (eqb (cond b n 0) 0) (NoDatagram Long) (cond (leb (cond b n 0) room) (Datagram (cond b n 0)) (NoDatagram Narrow)))
+          → said_sealed (cond (eqb (cond b n 0) 0) (Err Long) (cond (leb (cond b n 0) room) (Ok (cond b n 0)) (Err Narrow)))
           ≡ first (rule 2 (ltb 65507 n) ∷ rule 3 (ltb room n) ∷ []) n
       go true e =
-          ap (λ (b : Bool). said_sealed (cond b (NoDatagram Long) (cond (leb n room) (Datagram n) (NoDatagram Narrow)))) (ne_eqb n 0 (λ z. omega arith))
-          ∙ next said_sealed true {x = cond (leb n room) (Datagram n) (NoDatagram Narrow)} {bad = NoDatagram Long} (rule 2 (ltb 65507 n)) (rule 3 (ltb room n) ∷ []) n (under 65507 n ∙ ap not e) refl λ _.
+          ap (λ (b : Bool). said_sealed (cond b (Err Long) (cond (leb n room) (Ok n) (Err Narrow)))) (ne_eqb n 0 (λ z. omega arith))
+          ∙ next said_sealed true {x = cond (leb n room) (Ok n) (Err Narrow)} {bad = Err Long} (rule 2 (ltb 65507 n)) (rule 3 (ltb room n) ∷ []) n (under 65507 n ∙ ap not e) refl λ _.
           next said_sealed (leb n room) (rule 3 (ltb room n)) [] n (under room n) refl λ _. done n
       go false e =
-          next said_sealed false {x = NoDatagram Long} {bad = NoDatagram Long} (rule 2 (ltb 65507 n)) (rule 3 (ltb room n) ∷ []) n (under 65507 n ∙ ap not e) refl λ z. absurd (false≢true z)
+          next said_sealed false {x = Err Long} {bad = Err Long} (rule 2 (ltb 65507 n)) (rule 3 (ltb room n) ∷ []) n (under 65507 n ∙ ap not e) refl λ z. absurd (false≢true z)
 
   seal-order : said_sealed (seal_answer method k nonce sender address padding payload room)
       ≡ first (seal_order method k nonce sender address padding payload room) total
@@ -292,7 +287,7 @@ module _ (method k nonce : ℕ) (sender : Session) (address : List ℕ) (padding
       (ap (◌||◌ (not (is_address address))) (same-ids sender.side sender.id) ∙ not-and (is_address address) (ids_differ sender)) refl λ _.
       unless said_sealed (eqb sender.packet (2 ^ 64 - 1)) _ _ total refl refl λ _.
       ap
-      (λ (n : ℕ). said_sealed (cond (eqb (capped n) 0) (NoDatagram Long) (cond (leb (capped n) room) (Datagram (capped n)) (NoDatagram Narrow))))
+      (λ (n : ℕ). said_sealed (cond (eqb (capped n) 0) (Err Long) (cond (leb (capped n) room) (Ok (capped n)) (Err Narrow))))
       (lengths sender.side)
       ∙ capped-order total (let z : 0 < total = omega (arith, besides-overhead method) in z)
     where
@@ -309,8 +304,8 @@ begin-order t clock id client =
     unless said_begun (eqb id client || taken t clock id) _ [] _ (ap (◌||◌ (eqb id client)) (same_place (session_place t clock id))) refl λ _. done _
   where
     same_place : (o : Option ℕ) → is_alive o ≡ is_place o
-    same_place (some i) = refl
-    same_place none = refl
+    same_place (Some i) = refl
+    same_place None = refl
 
 -- ---- heads
 
@@ -321,11 +316,11 @@ length-place k n b s h =
     omega (arith, length-open_at k 0 (take (27 + b) (drop n s)))
 
 -- 4, 6 and 7 of a fixed header, and what follows it
-module _ {B : Type 0} (said : FixedRead → Said B) (k : Keyed) (kind clock : ℕ) (piece : List ℕ) (rs : List Rule) (v : B) where
+module _ {B : Type 0} (said : Result Fixed Refusal → Said B) (k : Keyed) (kind clock : ℕ) (piece : List ℕ) (rs : List Rule) (v : B) where
   abbrev text : List ℕ
   text = open_at k 0 piece
 
-  fixed-order : ((r : Refusal) → said (Unread r) ≡ refuses_with r) → said (Fields (fields_of text)) ≡ first rs v
+  fixed-order : ((r : Refusal) → said (Err r) ≡ refuses_with r) → said (Ok (fields_of text)) ≡ first rs v
       → said (open_fixed k kind clock piece)
       ≡ first
       (rule 4 (not (authentic_at k 0 piece)) ∷ rule 6 (not (eqb (get_or text 0 0) kind)) ∷ rule 7 (not (time_valid (be 8 (drop 1 text)) clock)) ∷ rs)
@@ -366,18 +361,18 @@ module _ (method : ℕ) (key : List ℕ) (clock : ℕ) (request_salt s : List �
   response-order =
       next said_response (key_fits method (length key) && eqb (length request_salt) n) _ _ _ (unsuited method (length key) (length request_salt)) refl λ _.
       next said_response (leb (n + 27 + n) (length s)) _ _ _ (under (length s) (n + 27 + n)) refl λ e.
-      fixed-order (λ (f : FixedRead). said_response (bound_as method (subkey_words k.bytes) (n + 27 + n) ours f)) k 1 clock (take (27 + n) (drop n s)) _ _ (λ r. refl)
+      fixed-order (λ (f : Result Fixed Refusal). said_response (bound_as method (subkey_words k.bytes) (n + 27 + n) ours f)) k 1 clock (take (27 + n) (drop n s)) _ _ (λ r. refl)
       (next said_response ours (rule 13 (not ours)) (nothing (length fixed - 2) ∷ []) (answered (length fixed - 2)) refl refl (λ _.
       unless said_response (is_empty (be 2 (drop (length fixed - 2) fixed))) (nothing (length fixed - 2)) [] (answered (length fixed - 2))
       (empty-length (be 2 (drop (length fixed - 2) fixed))) refl λ _. done _)
       ∙ ap (λ (m : ℕ). first (rule 13 (not ours) ∷ nothing m ∷ []) (answered m)) (length-place k n n s (leb-true (n + 27 + n) (length s) e)))
 
 -- 8 and 9
-met-order : {B : Type 0} (said : FixedRead → Said B) (f : Fixed) (v : B) → said (Fields f) ≡ gives v → ((r : Refusal) → said (Unread r) ≡ refuses_with r)
+met-order : {B : Type 0} (said : Result Fixed Refusal → Said B) (f : Fixed) (v : B) → said (Ok f) ≡ gives v → ((r : Refusal) → said (Err r) ≡ refuses_with r)
     → (m : Met) → said (met_as m f) ≡ first (rule 8 (is_replay m) ∷ rule 9 (is_full m) ∷ []) v
-met-order said f v e refused (Free i) = e ∙ done v ∙ passes 9 _ _ ∙ passes 8 _ _
-met-order said f v e refused Known = refused Replay ∙ stops 8 _ _
-met-order said f v e refused NoRoom = refused Full ∙ stops 9 _ _ ∙ passes 8 _ _
+met-order said f v e refused (Ok i) = e ∙ done v ∙ passes 9 _ _ ∙ passes 8 _ _
+met-order said f v e refused (Err Known) = refused Replay ∙ stops 8 _ _
+met-order said f v e refused (Err NoRoom) = refused Full ∙ stops 9 _ _ ∙ passes 8 _ _
 
 module _ (method : ℕ) (key : List ℕ) (clock : ℕ) (s pool : List ℕ) where
   abbrev bytes : ℕ
@@ -414,7 +409,7 @@ module _ (method : ℕ) (key : List ℕ) (clock : ℕ) (s pool : List ℕ) where
   abbrev front_bytes : ℕ
   front_bytes = front_length bytes 0
 
-  abbrev said_front : FixedRead → Said (Request × Receiver)
+  abbrev said_front : Result Fixed Refusal → Said (Request × Receiver)
   said_front x = said_request (opened_as method (subkey_words stream_key_of.bytes) front_bytes x)
 
   request-order : said_request (opened_request method key clock s pool) ≡ first (request_order method key clock s pool) (request_opened method key clock s pool)
@@ -424,7 +419,7 @@ module _ (method : ℕ) (key : List ℕ) (clock : ℕ) (s pool : List ℕ) where
       (ap (λ (b : Bool). b || not (lawful_pool pool method)) (other_key_lem method (length key)) ∙ not-and (key_fits method (length key)) (lawful_pool pool method))
       refl
       (λ _. next said_request (leb front_bytes (length s)) _ _ _ (under (length s) front_bytes) refl λ e.
-      fixed-order (λ (f : FixedRead). said_front (fixed_as met f)) stream_key_of 0 clock (take 27 (drop bytes s)) _ _ (λ r. refl)
+      fixed-order (λ (f : Result Fixed Refusal). said_front (fixed_as met f)) stream_key_of 0 clock (take 27 (drop bytes s)) _ _ (λ r. refl)
       (met-order said_front (fields_of front) (begun-by (length front - 2) front_bytes) refl (λ r. refl) met
       ∙ ap (λ (m : ℕ). first (rule 8 (is_replay met) ∷ rule 9 (is_full met) ∷ []) (begun-by m front_bytes))
       (length-place stream_key_of bytes 0 s (leb-true front_bytes (length s) e))))
@@ -446,7 +441,7 @@ module _ (st : Receiver) (s : List ℕ) (room : ℕ) where
         more (n + 16) (ltb (length s) (n + 16)) ∷ rule 3 (ltb room n)
         ∷ rule 4 (not (authentic_at (stream_key st) 1 (take (n + 16) s))) ∷ rule 5 (bad_variable (parse_at plain_header 0) plain_header) ∷ []
 
-    abbrev said_by : Parsed → VariableHeader
+    abbrev said_by : Option Address → VariableHeader
     said_by a =
         record {
           target = (address_in a).target;
@@ -457,12 +452,12 @@ module _ (st : Receiver) (s : List ℕ) (room : ℕ) where
           used = n + 16;
         }
 
-    headed-order : (a : Parsed) → said_variable (variable_with n plain_header a) ≡ first (rule 5 (bad_variable a plain_header) ∷ []) (said_by a)
+    headed-order : (a : Option Address) → said_variable (variable_with n plain_header a) ≡ first (rule 5 (bad_variable a plain_header) ∷ []) (said_by a)
     unfolding padding_fits
-    headed-order (Found a) =
+    headed-order (Some a) =
         next said_variable (padding_fits a.end plain_header) _ [] _
         (bad-behind (length plain_header) a.end (padding_at a.end plain_header)) refl λ _. done _
-    headed-order Malformed = stops 5 [] _
+    headed-order None = stops 5 [] _
 
     piece-header : said_variable (header_answer (stream_key st) n s room) ≡ first header_rules (said_by (parse_at plain_header 0))
     unfolding header_answer read_variable

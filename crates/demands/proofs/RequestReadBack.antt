@@ -21,26 +21,20 @@ use Rattle.protocol.specs.declared.Refusal.TheVariants.{Settings, More, Malforme
 use Rattle.socks5.specs.declared.Address.{Address}
 use Rattle.socks5.specs.declared.Target.{Target}
 use Rattle.socks5.specs.declared.Target.TheVariants.{V4, V6, Name}
-use Rattle.socks5.specs.declared.Parsed.TheVariants.{Found}
 use Rattle.socks5.specs.Address.{parse_at, is_address, moved as moved_by}
 use Rattle.socks5.proofs.PlaceLaws.{One, one_found, found-anywhere}
-use Rattle.salt_pool.specs.declared.Met.TheVariants.{Room as Free}
+use Rattle.std.specs.Prelude.{Ok, Err, Result, Some}
 use Rattle.salt_pool.specs.Pool.{lawful, meet, store}
 use Rattle.stream_seal.specs.declared.Sender.{Sender}
-use Rattle.stream_seal.specs.declared.Sealed.TheVariants.{Bytes}
 use Rattle.stream_pieces.specs.Pieces.{seal_at, authentic_at, open_at, subkey_words, max_chunk, Keyed, salted_key}
 use Rattle.stream_heads.specs.Heads.{max_padding, front_length, fixed_of, open_fixed}
 use Rattle.stream_seal_heads.specs.HeadSealing.{front, variable_part, variable_length, request_at, request, begun, sizes_fit, padding_lawful, request_answer}
 use Rattle.stream_open.specs.declared.Turn.TheVariants.{Variable, Length}
 use Rattle.stream_open.specs.declared.Receiver.{Receiver}
-use Rattle.stream_heads.specs.declared.FixedRead.TheVariants.{Read}
 use Rattle.stream_heads.specs.declared.Fixed.{Fixed}
-use Rattle.stream_open_request.specs.declared.RequestOpened.TheVariants.{Accepted, Refused as NoRequest}
 use Rattle.stream_open.specs.Chunks.{receiver, stream_key}
 use Rattle.stream_open_request.specs.Requests.{fixed_as, read_front, fixed_pool, front_pool, settings, opened_as, opened_request, request_pool}
 use Rattle.stream_open_variable.specs.declared.VariableHeader.{VariableHeader}
-use Rattle.stream_open_variable.specs.declared.VariableOpened.{VariableOpened}
-use Rattle.stream_open_variable.specs.declared.VariableOpened.TheVariants.{Header, Refused as Unheaded}
 use Rattle.stream_open_variable.specs.Variable.{padding_at, padding_fits, header_with, read_variable, settled, variable_answer, variable_out}
 use Rattle.demands.specs.StreamsOpen.{variable_at}
 use Rattle.demands.specs.StreamsBack.{sealed_header, RequestBack, RequestsGivenBack}
@@ -50,6 +44,7 @@ use Rattle.stream_pieces.proofs.PieceLaws.{piece_back}
 use Rattle.stream_chunks.proofs.ChunkBackLaws.{answers, Sized, sized}
 use Rattle.demands.proofs.StreamReadBack.{salt-back, front-whole, behind-front, fixed_back, stream-key}
 use Rattle.demands.proofs.VariableTells.{header-by, text-by}
+use Rattle.protocol.specs.declared.Refusal.{Refusal}
 
 -- ---- the variable header of a request
 
@@ -59,7 +54,7 @@ moved_none (V6 x y) = refl
 moved_none (Name place n) = ap (λ (k : ℕ). Name k n) (zero-add place)
 
 module _ (address : List ℕ) (padding : ℕ) (payload : List ℕ) (padding-short : padding ≤ max_padding)
-    (filled : 0 < padding + length payload) (one : is_address address ≡ true) (a : Address) (found : parse_at address 0 ≡ Found a)
+    (filled : 0 < padding + length payload) (one : is_address address ≡ true) (a : Address) (found : parse_at address 0 ≡ Some a)
   where
     abbrev variable : List ℕ
     variable = variable_part address padding payload
@@ -79,11 +74,11 @@ module _ (address : List ℕ) (padding : ℕ) (payload : List ℕ) (padding-shor
         ∙ drop_at (to_be 2 padding) (replicate padding 0 ++ payload) 2 (length-to_be 2 padding))
         ∙ drop_at (replicate padding 0) payload padding (length-replicate padding 0)
 
-    address-back : parse_at variable 0 ≡ Found (record { target = a.target; port = a.port; end = length address })
+    address-back : parse_at variable 0 ≡ Some (record { target = a.target; port = a.port; end = length address })
     unfolding variable_part
     address-back =
         found-anywhere [] address (to_be 2 padding ++ (replicate padding 0 ++ payload)) a one found
-        ∙ (λ i. Found (record { target = moved_none a.target i; port = a.port; end = zero-add (length address) i }))
+        ∙ (λ i. Some (record { target = moved_none a.target i; port = a.port; end = zero-add (length address) i }))
 
     variable-long : length variable ≡ length address + 2 + padding + length payload
     unfolding variable_length
@@ -101,12 +96,12 @@ module _ (address : List ℕ) (padding : ℕ) (payload : List ℕ) (padding-shor
         let e₄ = lt-ltb (length address + 2) (length variable) (omega (arith, l)) in
         λ i. e₁ i && (e₂ i && (e₃ i && e₄ i))
 
-    variable-reads : read_variable (length variable) variable ≡ Header (sealed_header (length address) a padding (length payload))
+    variable-reads : read_variable (length variable) variable ≡ Ok (sealed_header (length address) a padding (length payload))
     unfolding read_variable variable_length
     variable-reads =
         ap (header_with (length variable) variable) address-back
         ∙ (λ i. cond (fits-back i)
-        (Header
+        (Ok
         (record {
           target = a.target;
           port = a.port;
@@ -115,7 +110,7 @@ module _ (address : List ℕ) (padding : ℕ) (payload : List ℕ) (padding-shor
           length = variable-long i;
           used = variable-long i + 16;
         }))
-        (Unheaded Malformed))
+        (Err Malformed))
 
 -- ---- the head of a request
 
@@ -128,7 +123,7 @@ pub record Requests (method : ℕ) (key salt address : List ℕ) (padding payloa
   pub sizes : Sized max_chunk (variable_length (length address) padding payload) (length salt + 27) room (begun method key salt) n next
 
 pub requests : (method : ℕ) (key salt address : List ℕ) (padding payload room n : ℕ) (next : Sender)
-    → request_answer method key salt address padding payload room ≡ Bytes n next → Requests method key salt address padding payload room n next
+    → request_answer method key salt address padding payload room ≡ Ok (n, next) → Requests method key salt address padding payload room n next
 unfolding request_answer sizes_fit padding_lawful
 requests method key salt address padding payload room n next e =
     let e₁ = answers (key_fits method (length key) && eqb (length salt) (salt_length method)) _ _ n next e in
@@ -146,7 +141,7 @@ requests method key salt address padding payload room n next e =
     }
 
 module _ (method : ℕ) (key salt : List ℕ) (time : ℕ) (address : List ℕ) (padding : ℕ) (payload : List ℕ) (space n : ℕ) (next : Sender)
-    (answered : request_answer method key salt address padding (length payload) space ≡ Bytes n next) (time-fits : time < 2 ^ 64)
+    (answered : request_answer method key salt address padding (length payload) space ≡ Ok (n, next)) (time-fits : time < 2 ^ 64)
   where
     request-facts : Requests method key salt address padding (length payload) space n next
     request-facts = requests method key salt address padding (length payload) space n next answered
@@ -194,34 +189,33 @@ module _ (method : ℕ) (key salt : List ℕ) (time : ℕ) (address : List ℕ) 
       abbrev fields : Fixed
       fields = record { time = time; length = length text }
 
-      header-here : (clock : ℕ) → time_valid time clock ≡ true → open_fixed request-key 0 clock (fixed_of salts 0 all) ≡ Read fields
+      header-here : (clock : ℕ) → time_valid time clock ≡ true → open_fixed request-key 0 clock (fixed_of salts 0 all) ≡ Ok fields
       header-here = fixed_back request-key salt 0 time [] (length text) (body ++ rest) salts 0 request-facts.salt-fits refl time-fits text-long
 
       -- the front, on a pool with room for the salt
 
       module _ (later : ℕ) (valid : time_valid time later ≡ true) (pool : List ℕ) (made : lawful pool method ≡ true) (place : ℕ)
-          (free : meet pool later salt ≡ Free place) where
+          (free : meet pool later salt ≡ Ok place) where
         lawful-settings : settings method (length key) pool ≡ true
         unfolding settings
         lawful-settings = λ i. request-facts.fits i && made i
 
-        met-here : meet pool later (take salts all) ≡ Free place
+        met-here : meet pool later (take salts all) ≡ Ok place
         met-here = ap (meet pool later) salt-here ∙ free
 
         front-key : salted_key method key (take salts all) ≡ request-key
         front-key = ap (salted_key method key) salt-here
 
-        fixed-here : open_fixed (salted_key method key (take salts all)) 0 later (fixed_of salts 0 all) ≡ Read fields
+        fixed-here : open_fixed (salted_key method key (take salts all)) 0 later (fixed_of salts 0 all) ≡ Ok fields
         fixed-here = ap (λ (x : Keyed). open_fixed x 0 later (fixed_of salts 0 all)) front-key ∙ header-here later valid
 
         all-accepted : opened_request method key later all pool
-            ≡ Accepted (record { time = time; length = length text; used = front_length salts 0 })
-            (receiver method (Variable (length text)) 1 (subkey_words request-key.bytes))
+            ≡ Ok (record { time = time; length = length text; used = front_length salts 0 }, receiver method (Variable (length text)) 1 (subkey_words request-key.bytes))
         unfolding opened_request read_front
         all-accepted =
             (λ i. cond (lawful-settings i)
             (cond (whole_here i) (opened_as method (subkey_words (front-key i).bytes) (front_length salts 0) (fixed_as (met-here i) (fixed-here i)))
-            (NoRequest (More (front_length salts 0)))) (NoRequest Settings))
+            (Err (More (front_length salts 0)))) (Err Settings))
 
         all-stored : request_pool method key later all pool ≡ store pool place later salt
         unfolding request_pool front_pool
@@ -257,13 +251,13 @@ module _ (method : ℕ) (key salt : List ℕ) (time : ℕ) (address : List ℕ) 
       abbrev header : VariableHeader
       header = sealed_header (length address) target.address padding (length payload)
 
-      reads_here : read_variable (length text) text ≡ Header header
+      reads_here : read_variable (length text) text ≡ Ok header
       reads_here =
           variable-reads address padding payload request-facts.padding-short request-facts.filled request-facts.one_address
           target.address target.found
 
       module _ (out : List ℕ) (room : length text ≤ length out) where
-        variable-answered : variable_answer waiting (body ++ rest) (length out) ≡ Header header
+        variable-answered : variable_answer waiting (body ++ rest) (length out) ≡ Ok header
         variable-answered =
             header-by waiting (body ++ rest) out (length text) true true true true known_method refl refl
             (le-leb (length text + 16) (length (body ++ rest)) long-here) (le-leb (length text) (length out) room) authentic-here
@@ -274,12 +268,12 @@ module _ (method : ℕ) (key salt : List ℕ) (time : ℕ) (address : List ℕ) 
             text-by waiting (body ++ rest) out (length text) true true true true known_method refl refl
             (le-leb (length text + 16) (length (body ++ rest)) long-here) (le-leb (length text) (length out) room) authentic-here
             ∙ (λ i. settled (read_variable (length text) (opens-here i)) (length text) (put out 0 (opens-here i)))
-            ∙ ap (λ (x : VariableOpened). settled x (length text) (put out 0 text)) reads_here
+            ∙ ap (λ (x : Result VariableHeader Refusal). settled x (length text) (put out 0 text)) reads_here
 
       -- both calls
 
       request-given : (later : ℕ) → time_valid time later ≡ true → (pool out : List ℕ) → lawful pool method ≡ true → (place : ℕ)
-          → meet pool later salt ≡ Free place → length text ≤ length out
+          → meet pool later salt ≡ Ok place → length text ≤ length out
           → RequestBack method key salt time address padding payload n next later rest pool place out
       unfolding variable_length
       request-given later valid pool out made place free room =
@@ -292,7 +286,7 @@ module _ (method : ℕ) (key salt : List ℕ) (time : ℕ) (address : List ℕ) 
             sealed-length = request-length;
             accepted =
                 ap (λ (s : List ℕ). opened_request method key later s pool) (request-split rest) ∙ all-accepted later valid pool made place free
-                ∙ (λ i. Accepted (record { time = time; length = size i; used = sym used i }) (receiver method (Variable (size i)) 1 (words i)));
+                ∙ (λ i. Ok (record { time = time; length = size i; used = sym used i }, receiver method (Variable (size i)) 1 (words i)));
             stored = ap (λ (s : List ℕ). request_pool method key later s pool) (request-split rest) ∙ all-stored later valid pool made place free;
             target = target.address;
             target-sealed = target.found;

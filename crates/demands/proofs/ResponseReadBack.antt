@@ -1,5 +1,6 @@
 -- What the head of a response was sealed from is read back from it, and its first payload by the next step.
 -- Assumes nothing.
+use Rattle.std.specs.Prelude.{Err, Ok}
 use mathlib.Core.Path.{◌≡◌, refl, sym, ap, ap₂, ◌∙◌}
 use mathlib.Core.Bool.{Bool, true, false, cond, ◌&&◌, and-eq-true_iff}
 use mathlib.Core.List.{List, ◌++◌, append_assoc}
@@ -17,14 +18,11 @@ use Rattle.protocol.specs.Time.{time_valid}
 use Rattle.protocol.proofs.MethodLaws.{fits-sizes}
 use Rattle.protocol.specs.declared.Refusal.TheVariants.{Settings, More, Empty}
 use Rattle.stream_seal.specs.declared.Sender.{Sender}
-use Rattle.stream_seal.specs.declared.Sealed.TheVariants.{Bytes}
 use Rattle.stream_pieces.specs.Framing.{framing_of, is_empty}
 use Rattle.stream_pieces.proofs.FramingLaws.{some_left}
 use Rattle.stream_pieces.specs.Pieces.{seal_at, open_at, subkey_words, key_of, max_chunk, last_counter, Keyed, keyed, salted_key}
 use Rattle.stream_seal_heads.specs.HeadSealing.{front, response_of, response, begun, sizes_fit, response_answer}
 use Rattle.stream_open.specs.declared.Turn.TheVariants.{Length, Payload}
-use Rattle.stream_heads.specs.declared.FixedRead.TheVariants.{Read}
-use Rattle.stream_open_response.specs.declared.ResponseOpened.TheVariants.{Accepted as Answered, Refused as NoResponse}
 use Rattle.stream_heads.specs.Heads.{front_length, fixed_of, open_fixed}
 use Rattle.stream_open.specs.Chunks.{receiver, step_answer, step_out}
 use Rattle.stream_open_response.specs.Responses.{binding_of, bound_as, bound_of, response_at, opened_response}
@@ -44,7 +42,7 @@ pub record Responds (method : ℕ) (key salt binding : List ℕ) (payload room n
   pub sizes : Sized max_chunk payload (length salt + 27 + length binding) room (begun method key salt) n next
 
 pub responds : (method : ℕ) (key salt binding : List ℕ) (payload room n : ℕ) (next : Sender)
-    → response_answer method key salt binding payload room ≡ Bytes n next → Responds method key salt binding payload room n next
+    → response_answer method key salt binding payload room ≡ Ok (n, next) → Responds method key salt binding payload room n next
 unfolding response_answer sizes_fit
 responds method key salt binding payload room n next e =
     let e₁ = answers ((key_fits method (length key) && eqb (length salt) (salt_length method)) && eqb (length binding) (length salt)) _ _ n next e in
@@ -60,7 +58,7 @@ responds method key salt binding payload room n next e =
     }
 
 module _ (method : ℕ) (key salt binding : List ℕ) (time : ℕ) (payload : List ℕ) (space n : ℕ) (next : Sender)
-    (answered : response_answer method key salt binding (length payload) space ≡ Bytes n next) (time-fits : time < 2 ^ 64)
+    (answered : response_answer method key salt binding (length payload) space ≡ Ok (n, next)) (time-fits : time < 2 ^ 64)
   where
     response-facts : Responds method key salt binding (length payload) space n next
     response-facts = responds method key salt binding (length payload) space n next answered
@@ -123,34 +121,31 @@ module _ (method : ℕ) (key salt binding : List ℕ) (time : ℕ) (payload : Li
           response-facts.sizes.small
 
       header-here : (clock : ℕ) → time_valid time clock ≡ true
-          → open_fixed response-key 1 clock (fixed_of salts salts all) ≡ Read (record { time = time; length = length payload })
+          → open_fixed response-key 1 clock (fixed_of salts salts all) ≡ Ok (record { time = time; length = length payload })
       header-here =
           fixed_back response-key salt 1 time binding (length payload) (response-body ++ rest) salts salts salt-long binding-long time-fits
           response-facts.sizes.small
 
       head-accepted : (later : ℕ) → time_valid time later ≡ true
           → response_at method (subkey_words response-key.bytes) response-key later salts binding all
-          ≡ Answered (record { time = time; length = length payload; used = front_length salts salts })
-          (receiver method (Payload (length payload)) 1 (subkey_words response-key.bytes))
+          ≡ Ok (record { time = time; length = length payload; used = front_length salts salts }, receiver method (Payload (length payload)) 1 (subkey_words response-key.bytes))
       unfolding response_at bound_of
       head-accepted later valid =
           let ours = ap (λ (x : List ℕ). same x binding) binding-here ∙ same_refl binding in
           let accepted =
-          Answered (record { time = time; length = length payload; used = front_length salts salts })
-          (receiver method (Payload (length payload)) 1 (subkey_words response-key.bytes)) in
+          Ok (record { time = time; length = length payload; used = front_length salts salts }, receiver method (Payload (length payload)) 1 (subkey_words response-key.bytes)) in
           (λ i. bound_as method (subkey_words response-key.bytes) (front_length salts salts) (ours i) (header-here later valid i))
-          ∙ ap (λ (b : Bool). cond b (NoResponse Empty) accepted) response-facts.some
+          ∙ ap (λ (b : Bool). cond b (Err Empty) accepted) response-facts.some
 
       response-accepted : (later : ℕ) → time_valid time later ≡ true
           → opened_response method key later binding all
-          ≡ Answered (record { time = time; length = length payload; used = front_length salts salts })
-          (receiver method (Payload (length payload)) 1 (subkey_words response-key.bytes))
+          ≡ Ok (record { time = time; length = length payload; used = front_length salts salts }, receiver method (Payload (length payload)) 1 (subkey_words response-key.bytes))
       unfolding opened_response
       response-accepted later valid =
           (λ i. cond (response-facts.fits i && eq-eqb (length binding) salts binding-long i)
           (cond (whole_here i)
           (response_at method (subkey_words (subkey key (salt-here i))) (salted_key method key (salt-here i)) later salts binding all)
-          (NoResponse (More (front_length salts salts)))) (NoResponse Settings))
+          (Err (More (front_length salts salts)))) (Err Settings))
           ∙ head-accepted later valid
 
       -- the payload's step
@@ -175,8 +170,7 @@ module _ (method : ℕ) (key salt binding : List ℕ) (time : ℕ) (payload : Li
             sealed-length = response-length;
             accepted =
                 ap (opened_response method key later binding) (response-split rest) ∙ response-accepted later valid
-                ∙ (λ i. Answered (record { time = time; length = length payload; used = sym used i })
-                (receiver method (Payload (length payload)) 1 (words i)));
+                ∙ (λ i. Ok (record { time = time; length = length payload; used = sym used i }, receiver method (Payload (length payload)) 1 (words i)));
             payload-read =
                 (λ i. step_answer (receiver method (Payload (length payload)) 1 (sym words i)) (there i) (length out))
                 ∙ payload-step (framing_of method) method 1 (subkey_words response-key.bytes) known_method one-usable payload rest allows (length out) h;

@@ -9,31 +9,30 @@ use lib.ListN.{length}
 use borrow.Author.Tests.{leb-false, eqb-true}
 use Rattle.protocol.specs.declared.Refusal.TheVariants.{Replay}
 use Rattle.protocol.specs.Method.{key_fits, salt_length}
-use Rattle.salt_pool.specs.declared.Met.{Met}
-use Rattle.salt_pool.specs.declared.Met.TheVariants.{Room as Free, Replay as Known, Full as NoRoom}
+use Rattle.salt_pool.specs.Pool.{Met}
+use Rattle.std.specs.Prelude.{Ok, Err, Result}
+use Rattle.salt_pool.specs.Pool.{Replay as Known, Full as NoRoom}
 use Rattle.salt_pool.specs.Pool.{pool_words, lawful, meet}
 use Rattle.salt_pool.specs.Runs.{Item, next_by, next, run, Forward}
 use Rattle.salt_pool.proofs.StoreLaws.{lawful-store}
 use Rattle.salt_pool.proofs.RunLaws.{never-twice-forward}
 use Rattle.stream_pieces.specs.Pieces.{Keyed, salted_key}
 use Rattle.stream_open.specs.declared.Receiver.{Receiver}
-use Rattle.stream_heads.specs.declared.FixedRead.{FixedRead}
-use Rattle.stream_heads.specs.declared.FixedRead.TheVariants.{Read, Refused as Unread}
 use Rattle.stream_heads.specs.Heads.{front_length, fixed_of, open_fixed}
 use Rattle.stream_open_request.specs.declared.Request.{Request}
-use Rattle.stream_open_request.specs.declared.RequestOpened.{RequestOpened}
-use Rattle.stream_open_request.specs.declared.RequestOpened.TheVariants.{Accepted, Refused}
 use Rattle.stream_open_request.specs.Requests.{settings, request_pool}
 use Rattle.demands.specs.StreamsKeep.{of_front, salt_of}
 use Rattle.demands.specs.SaltsStay.{FrontCall, HeadCall, opens-front, opens-variable, Held, front_answer, leaves, held_after, ForwardCalls, ReplayOrEarlier, replayed, front-missing, front-refused, SaltStays}
 use Rattle.demands.proofs.HeadTells.{of_fixed, not-read, fixed-given, fixed-refusals}
 use Rattle.demands.proofs.RequestTells.{not-accepted, answer-by, meets-room, Way, refused, accepted, way, request-tells}
+use Rattle.protocol.specs.declared.Refusal.{Refusal}
+use Rattle.stream_heads.specs.declared.Fixed.{Fixed}
 
 -- ---- calls as the pool sees them
 
-abbrev is_accepted : RequestOpened → Bool
-is_accepted (Accepted h st) = true
-is_accepted (Refused r) = false
+abbrev is_accepted : Result (Request × Receiver) Refusal → Bool
+is_accepted (Ok (h, st)) = true
+is_accepted (Err r) = false
 
 module _ (method : ℕ) (key : List ℕ) where
   -- a call for a front, on a pool: its salt is stored where it is accepted
@@ -56,9 +55,9 @@ module _ (method : ℕ) (key : List ℕ) where
   way_of pool c = way method key c.clock c.bytes pool
 
   next-none : (m : Met) (pool : List ℕ) (clock : ℕ) (salt : List ℕ) → next_by m pool (record { clock = clock; salt = salt; stored = false }) ≡ pool
-  next-none (Free i) pool clock salt = refl
-  next-none Known pool clock salt = refl
-  next-none NoRoom pool clock salt = refl
+  next-none (Ok i) pool clock salt = refl
+  next-none (Err Known) pool clock salt = refl
+  next-none (Err NoRoom) pool clock salt = refl
 
   module _ (pool : List ℕ) (c : FrontCall) where
     abbrev salt : List ℕ
@@ -70,7 +69,7 @@ module _ (method : ℕ) (key : List ℕ) where
       where
         go : WayOf pool c → next pool (item_on pool c) ≡ pool_next pool c
         go (refused r o er ep) =
-            ap (λ (a : RequestOpened). next_by (meet pool c.clock salt) pool (record { clock = c.clock; salt = salt; stored = is_accepted a })) er
+            ap (λ (a : Result (Request × Receiver) Refusal). next_by (meet pool c.clock salt) pool (record { clock = c.clock; salt = salt; stored = is_accepted a })) er
             ∙ next-none (meet pool c.clock salt) pool c.clock salt ∙ sym ep
         go (accepted h st d q) =
             (λ i. next_by (meets-room method key c.clock c.bytes pool h st d i) pool
@@ -117,33 +116,33 @@ module _ (method : ℕ) (key : List ℕ) where
   -- ---- a call whose salt is kept
 
   module _ (pool : List ℕ) (c : FrontCall) (fits : settings method (length key) pool ≡ true)
-      (kept : meet pool c.clock (salt_of method c.bytes) ≡ Known) where
+      (kept : meet pool c.clock (salt_of method c.bytes) ≡ Err Known) where
     abbrev stream-key : Keyed
     stream-key = salted_key method key (salt_of method c.bytes)
 
-    abbrev front_read : FixedRead
+    abbrev front_read : Result Fixed Refusal
     front_read = open_fixed stream-key 0 c.clock (fixed_of (salt_length method) 0 c.bytes)
 
-    by-fixed : leb (front_length (salt_length method) 0) (length c.bytes) ≡ true → (x : FixedRead) → front_read ≡ x → ReplayOrEarlier method key c pool
-    by-fixed eb (Read f) ex = replayed (answer-by method key c.clock c.bytes pool true true Known (Read f) fits eb kept ex)
-    by-fixed eb (Unread r) ex =
+    by-fixed : leb (front_length (salt_length method) 0) (length c.bytes) ≡ true → (x : Result Fixed Refusal) → front_read ≡ x → ReplayOrEarlier method key c pool
+    by-fixed eb (Ok f) ex = replayed (answer-by method key c.clock c.bytes pool true true (Err Known) (Ok f) fits eb kept ex)
+    by-fixed eb (Err r) ex =
         front-refused r
         ((and-eq-true_iff (of_front r) _).0 (ap of_fixed (sym ex) ∙ fixed-refusals stream-key 0 c.clock (fixed_of (salt_length method) 0 c.bytes))).0
         (λ time size d. not-read r (record { time = time; length = size })
         (sym ex ∙ fixed-given stream-key 0 c.clock (fixed_of (salt_length method) 0 c.bytes) time size d))
-        (answer-by method key c.clock c.bytes pool true true Known (Unread r) fits eb kept ex)
+        (answer-by method key c.clock c.bytes pool true true (Err Known) (Err r) fits eb kept ex)
 
     by_front : (b : Bool) → leb (front_length (salt_length method) 0) (length c.bytes) ≡ b → ReplayOrEarlier method key c pool
     by_front true eb = by-fixed eb front_read refl
     by_front false eb =
         front-missing (leb-false (front_length (salt_length method) 0) (length c.bytes) eb)
-        (answer-by method key c.clock c.bytes pool true false Known front_read fits eb kept refl)
+        (answer-by method key c.clock c.bytes pool true false (Err Known) front_read fits eb kept refl)
 
     kept-refused : ReplayOrEarlier method key c pool
     kept-refused = by_front (leb (front_length (salt_length method) 0) (length c.bytes)) refl
 
   never-accepted : (pool : List ℕ) (c : FrontCall) → ReplayOrEarlier method key c pool → (h : Request) (st : Receiver)
-      → front_answer method key c pool ≡ Accepted h st → ⊥
+      → front_answer method key c pool ≡ Ok (h, st) → ⊥
   never-accepted pool c (replayed e) h st g = not-accepted (front_answer method key c pool) Replay h st e g
   never-accepted pool c (front-missing l e) h st g = not-accepted (front_answer method key c pool) _ h st e g
   never-accepted pool c (front-refused r o f e) h st g = not-accepted (front_answer method key c pool) r h st e g
@@ -168,7 +167,7 @@ salt-stays method key m before between x y h st e f same-salt soon =
     (item_on method key p₀ x) (last method key y) d.place size
     (ap (λ (t : List ℕ). meet t x.clock (salt_of method x.bytes)) there ∙ meets-room method key x.clock x.bytes p₀ h st d)
     (ap is_accepted e) (forward-items method key x.clock (pool_next method key p₀ x) between y f) same-salt soon in
-    let kept : meet p y.clock (salt_of method y.bytes) ≡ Known =
+    let kept : meet p y.clock (salt_of method y.bytes) ≡ Err Known =
     ap (λ (t : List ℕ). meet t y.clock (salt_of method y.bytes))
     (sym (run_is method key m (before ++ opens-front x ∷ between)) ∙ ap (run m.pool) (items-append method key m before (opens-front x ∷ between)))
     ∙ met in

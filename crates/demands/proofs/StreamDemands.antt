@@ -1,5 +1,6 @@
 -- Demands 1 and 2 for streams. Demand 1: each call answers or refuses, and what a refusal leaves.
 -- Assumes nothing.
+use Rattle.std.specs.Prelude.{Err, Ok, Result}
 use mathlib.Core.Path.{◌≡◌, refl, sym, ap, ap₂, ◌∙◌, subst}
 use mathlib.Core.Bool.{Bool, true, false, cond, ◌&&◌}
 use mathlib.Core.List.{List, ◌++◌}
@@ -17,8 +18,6 @@ use Rattle.protocol.specs.Orders.{among}
 use Rattle.protocol.specs.Method.{key_fits, key_length, salt_length, cipher_of}
 use Rattle.socks5.specs.Address.{is_address}
 use Rattle.stream_seal.specs.declared.Sender.{Sender}
-use Rattle.stream_seal.specs.declared.Sealed.{Sealed}
-use Rattle.stream_seal.specs.declared.Sealed.TheVariants.{Bytes, Refused as Unsealed}
 use Rattle.stream_pieces.specs.Framing.{framing_of, is_empty}
 use Rattle.stream_pieces.specs.Pieces.{open_at, max_chunk, last_counter, salted_key}
 use Rattle.stream_pieces.proofs.FramingLaws.{empty-zero}
@@ -27,10 +26,6 @@ use Rattle.stream_seal_heads.specs.HeadSealing.{variable_length, request, respon
 use Rattle.stream_open.specs.declared.Turn.{Turn}
 use Rattle.stream_open.specs.declared.Turn.TheVariants.{Variable, Length, Payload, Ended}
 use Rattle.stream_open.specs.declared.Receiver.{Receiver}
-use Rattle.stream_open.specs.declared.Stepped.{Stepped}
-use Rattle.stream_open.specs.declared.Stepped.TheVariants.{Refused as Unopened}
-use Rattle.stream_open_variable.specs.declared.VariableOpened.{VariableOpened}
-use Rattle.stream_open_variable.specs.declared.VariableOpened.TheVariants.{Refused}
 use Rattle.stream_open_variable.specs.Variable.{header_answer, variable_answer, variable_out, variable_next}
 use Rattle.stream_open.specs.Chunks.{stream_key, step_answer, ended, step_next}
 use Rattle.stream_open.specs.Steps.{turn_answer, written_by, payload_piece}
@@ -53,6 +48,8 @@ use Rattle.demands.proofs.StreamTells.{step-empty-exactly-when, no-empty-chunk}
 use Rattle.demands.proofs.RequestTells.{request-keeps, request-exactly-when}
 use Rattle.demands.proofs.VariableTells.{not-header, same-refusal, not_five, length-plain, Way, refused, missing, zeroed, opened, way, more-tells, answer-by, variable-exactly-when}
 use Rattle.demands.proofs.HeadTells.{response-keeps, response-exactly-when, response-empty-exactly-when}
+use Rattle.stream_open_variable.specs.declared.VariableHeader.{VariableHeader}
+use Rattle.stream_open.specs.declared.Chunk.{Chunk}
 
 -- ---- a variable header
 
@@ -75,7 +72,7 @@ ends-alike Empty = refl
 ends-alike (UnknownSetting setting) = refl
 
 module _ (st : Receiver) (s out : List ℕ) where
-  abbrev answer : VariableOpened
+  abbrev answer : Result VariableHeader Refusal
   answer = variable_answer st s (length out)
 
   abbrev buffer : List ℕ
@@ -99,7 +96,7 @@ module _ (st : Receiver) (s out : List ℕ) where
       go (zeroed n eu room er eo) = refused-variable Malformed refl er
       go (opened h d q) = opened-variable h q.answers
 
-  untouched : (r : Refusal) → answer ≡ Refused r → (refusal_number r ≡ 5 → ⊥) → buffer ≡ out
+  untouched : (r : Refusal) → answer ≡ Err r → (refusal_number r ≡ 5 → ⊥) → buffer ≡ out
   untouched r e other = go here
     where
       go : Ways → buffer ≡ out
@@ -112,7 +109,7 @@ module _ (st : Receiver) (s out : List ℕ) where
   owed : (n : ℕ) → st.turn ≡ Variable n → n ≡ due
   owed n eu = ap due_variable (sym eu)
 
-  cleared : answer ≡ Refused Malformed → (due ≤ length out) × (buffer ≡ put out 0 (replicate due 0))
+  cleared : answer ≡ Err Malformed → (due ≤ length out) × (buffer ≡ put out 0 (replicate due 0))
   cleared e = go here
     where
       go : Ways → (due ≤ length out) × (buffer ≡ put out 0 (replicate due 0))
@@ -137,7 +134,7 @@ module _ (st : Receiver) (s out : List ℕ) where
           (front_kept out (open_at (stream_key st) 1 (variable_at d.size s)) d.size (length-plain st s out d.size d.whole) d.has_room))
 
   -- a refusal of its list ends the stream by its own number
-  next-by : (r : Refusal) → answer ≡ Refused r → variable_next st answer ≡ cond (ends_variable r) (ended st) st
+  next-by : (r : Refusal) → answer ≡ Err r → variable_next st answer ≡ cond (ends_variable r) (ended st) st
   next-by r e = go answered
     where
       go : VariableAnswered answer → variable_next st answer ≡ cond (ends_variable r) (ended st) st
@@ -148,16 +145,16 @@ module _ (st : Receiver) (s out : List ℕ) where
           sym (ap (λ (b : Bool). b && ends_stream r) among) ∙ ends-alike r ∙ ap (λ (b : Bool). b && ends_variable r) among in
           ap (variable_next st) e ∙ ap (λ (b : Bool). cond b (ended st) st) alike
 
-  variable-ends : (r : Refusal) → answer ≡ Refused r → ends_variable r ≡ true → variable_next st answer ≡ ended st
+  variable-ends : (r : Refusal) → answer ≡ Err r → ends_variable r ≡ true → variable_next st answer ≡ ended st
   variable-ends r e t = next-by r e ∙ ap (λ (b : Bool). cond b (ended st) st) t
 
-  variable-stays : (r : Refusal) → answer ≡ Refused r → ends_variable r ≡ false → variable_next st answer ≡ st
+  variable-stays : (r : Refusal) → answer ≡ Err r → ends_variable r ≡ false → variable_next st answer ≡ st
   variable-stays r e t = next-by r e ∙ ap (λ (b : Bool). cond b (ended st) st) t
 
-  ended-unheaded : (key_length st.method ≡ 0 → ⊥) → (bytes : List ℕ) (room : ℕ) → variable_answer (ended st) bytes room ≡ Refused NotAuthentic
+  ended-unheaded : (key_length st.method ≡ 0 → ⊥) → (bytes : List ℕ) (room : ℕ) → variable_answer (ended st) bytes room ≡ Err NotAuthentic
   unfolding variable_answer
   ended-unheaded known bytes room =
-      ap (λ (b : Bool). cond b (Refused Settings) (Refused NotAuthentic)) (ne_eqb (key_length st.method) 0 known)
+      ap (λ (b : Bool). cond b (Err Settings) (Err NotAuthentic)) (ne_eqb (key_length st.method) 0 known)
 
   pub variable-keeps : VariableKeeps st s out
   variable-keeps =
@@ -199,33 +196,33 @@ either_way false x = refl
 
 module _ (st : Receiver) (s out : List ℕ) where
   -- refusal 1 of the call for a variable header, and what it leaves
-  variable-settings : variable_answer st s (length out) ≡ Refused Settings
-      → (variable_answer st s (length out) ≡ Refused Settings)
+  variable-settings : variable_answer st s (length out) ≡ Err Settings
+      → (variable_answer st s (length out) ≡ Err Settings)
       × ((variable_next st (variable_answer st s (length out)) ≡ st) × (variable_out st s out ≡ out))
   variable-settings e = (e, (variable-stays st s out Settings e refl, untouched st s out Settings e (λ z. omega arith)))
 
-  other-counter : (st.counter ≡ 1 → ⊥) → (st.turn ≡ Ended → ⊥) → (u : Turn) → st.turn ≡ u → variable_answer st s (length out) ≡ Refused Settings
+  other-counter : (st.counter ≡ 1 → ⊥) → (st.turn ≡ Ended → ⊥) → (u : Turn) → st.turn ≡ u → variable_answer st s (length out) ≡ Err Settings
   other-counter h g (Variable n) e =
       answer-by st s out (eqb (key_length st.method) 0) (Variable n) refl e
-      ∙ ap (λ (b : Bool). cond (eqb (key_length st.method) 0) (Refused Settings) (cond b (header_answer (stream_key st) n s (length out)) (Refused Settings)))
+      ∙ ap (λ (b : Bool). cond (eqb (key_length st.method) 0) (Err Settings) (cond b (header_answer (stream_key st) n s (length out)) (Err Settings)))
       (ne_eqb st.counter 1 h)
-      ∙ either_way (eqb (key_length st.method) 0) (Refused Settings)
+      ∙ either_way (eqb (key_length st.method) 0) (Err Settings)
   other-counter h g Length e =
-      answer-by st s out (eqb (key_length st.method) 0) Length refl e ∙ either_way (eqb (key_length st.method) 0) (Refused Settings)
+      answer-by st s out (eqb (key_length st.method) 0) Length refl e ∙ either_way (eqb (key_length st.method) 0) (Err Settings)
   other-counter h g (Payload n) e =
-      answer-by st s out (eqb (key_length st.method) 0) (Payload n) refl e ∙ either_way (eqb (key_length st.method) 0) (Refused Settings)
+      answer-by st s out (eqb (key_length st.method) 0) (Payload n) refl e ∙ either_way (eqb (key_length st.method) 0) (Err Settings)
   other-counter h g Ended e = absurd (g e)
 
-  step-at-variable : (n : ℕ) → st.turn ≡ Variable n → step_answer st s (length out) ≡ Unopened Settings
+  step-at-variable : (n : ℕ) → st.turn ≡ Variable n → step_answer st s (length out) ≡ Err Settings
   unfolding steps.step_answer
   step-at-variable n e =
-      ap (λ (u : Turn). cond (eqb (key_length st.method) 0) (Unopened Settings) (turn_answer (framing_of st.method) u st s (length out))) e
-      ∙ either_way (eqb (key_length st.method) 0) (Unopened Settings)
+      ap (λ (u : Turn). cond (eqb (key_length st.method) 0) (Err Settings) (turn_answer (framing_of st.method) u st s (length out))) e
+      ∙ either_way (eqb (key_length st.method) 0) (Err Settings)
 
-  step-at-end : (key_length st.method ≡ 0 → ⊥) → st.turn ≡ Ended → step_answer st s (length out) ≡ Unopened NotAuthentic
+  step-at-end : (key_length st.method ≡ 0 → ⊥) → st.turn ≡ Ended → step_answer st s (length out) ≡ Err NotAuthentic
   unfolding steps.step_answer
   step-at-end known e =
-      λ i. cond (ne_eqb (key_length st.method) 0 known i) (Unopened Settings) (turn_answer (framing_of st.method) (e i) st s (length out))
+      λ i. cond (ne_eqb (key_length st.method) 0 known i) (Err Settings) (turn_answer (framing_of st.method) (e i) st s (length out))
 
   turns : Turns st s out
   unfolding steps.step_out
@@ -236,13 +233,13 @@ module _ (st : Receiver) (s out : List ℕ) where
               a,
               (
                 ap (step_next st) a,
-                ap (λ (x : Stepped). written_by x st.turn (open_at (stream_key st) st.counter (payload_piece st.turn s)) out) a,
+                ap (λ (x : Result Chunk Refusal). written_by x st.turn (open_at (stream_key st) st.counter (payload_piece st.turn s)) out) a,
               ),
             );
         variable-at-length = λ e. variable-settings (answer-by st s out (eqb (key_length st.method) 0) Length refl e
-            ∙ either_way (eqb (key_length st.method) 0) (Refused Settings));
+            ∙ either_way (eqb (key_length st.method) 0) (Err Settings));
         variable-at-payload = λ n e. variable-settings (answer-by st s out (eqb (key_length st.method) 0) (Payload n) refl e
-            ∙ either_way (eqb (key_length st.method) 0) (Refused Settings));
+            ∙ either_way (eqb (key_length st.method) 0) (Err Settings));
         variable-at-other-counter = λ h g. variable-settings (other-counter h g st.turn refl);
         step-ended = step-at-end;
         variable-ended = λ known e. answer-by st s out false Ended (ne_eqb (key_length st.method) 0 known) e;
@@ -331,19 +328,19 @@ seal-keeps =
 
 -- ---- an empty payload is not sealed
 
-abbrev is_emptied : Sealed → ℕ
-is_emptied (Bytes n next) = 0
-is_emptied (Unsealed r) = cond (eqb (refusal_number r) 14) 1 0
+abbrev is_emptied : Result (ℕ × Sender) Refusal → ℕ
+is_emptied (Ok (n, next)) = 0
+is_emptied (Err r) = cond (eqb (refusal_number r) 14) 1 0
 
 -- 14 is given by its own test alone
-by_itself : (n : ℕ) (x : Sealed) → is_emptied x ≡ 0 → cond (is_empty n) (Unsealed Empty) x ≡ Unsealed Empty → n ≡ 0
+by_itself : (n : ℕ) (x : Result (ℕ × Sender) Refusal) → is_emptied x ≡ 0 → cond (is_empty n) (Err Empty) x ≡ Err Empty → n ≡ 0
 by_itself n x o e = go (is_empty n) refl e
   where
-    go : (b : Bool) → is_empty n ≡ b → cond b (Unsealed Empty) x ≡ Unsealed Empty → n ≡ 0
+    go : (b : Bool) → is_empty n ≡ b → cond b (Err Empty) x ≡ Err Empty → n ≡ 0
     go true h f = empty-zero n h
     go false h f = absurd (let z : ◌≡◌ {A = ℕ} 0 1 = sym o ∙ ap is_emptied f in omega arith)
 
-others : (b : Bool) (x : Sealed) (r : Refusal) → is_emptied x ≡ 0 → is_emptied (Unsealed r) ≡ 0 → is_emptied (cond b x (Unsealed r)) ≡ 0
+others : (b : Bool) (x : Result (ℕ × Sender) Refusal) (r : Refusal) → is_emptied x ≡ 0 → is_emptied (Err r) ≡ 0 → is_emptied (cond b x (Err r)) ≡ 0
 others true x r e g = e
 others false x r e g = g
 
@@ -352,31 +349,31 @@ unfolding size_answer
 sizes-others greatest n before room s = others (leb n greatest) _ TooLong (others (leb (before + n + 16) room) _ Room refl refl) refl
 
 -- behind a test whose refusal is another
-behind : (b : Bool) (x : Sealed) (r : Refusal) → is_emptied (Unsealed r) ≡ 0 → cond b x (Unsealed r) ≡ Unsealed Empty → x ≡ Unsealed Empty
+behind : (b : Bool) (x : Result (ℕ × Sender) Refusal) (r : Refusal) → is_emptied (Err r) ≡ 0 → cond b x (Err r) ≡ Err Empty → x ≡ Err Empty
 behind true x r o e = e
 behind false x r o e = absurd (let z : ◌≡◌ {A = ℕ} 0 1 = sym o ∙ ap is_emptied e in omega arith)
 
-past : (b : Bool) (x : Sealed) (r : Refusal) → is_emptied (Unsealed r) ≡ 0 → cond b (Unsealed r) x ≡ Unsealed Empty → x ≡ Unsealed Empty
+past : (b : Bool) (x : Result (ℕ × Sender) Refusal) (r : Refusal) → is_emptied (Err r) ≡ 0 → cond b (Err r) x ≡ Err Empty → x ≡ Err Empty
 past true x r o e = absurd (let z : ◌≡◌ {A = ℕ} 0 1 = sym o ∙ ap is_emptied e in omega arith)
 past false x r o e = e
 
-empty-chunk : (s : Sender) (room : ℕ) → (key_length s.method ≡ 0 → ⊥) → chunk_answer s 0 room ≡ Unsealed Empty
+empty-chunk : (s : Sender) (room : ℕ) → (key_length s.method ≡ 0 → ⊥) → chunk_answer s 0 room ≡ Err Empty
 empty-chunk s room known = sym (chunk-under (framing_of s.method) s 0 room known (omega arith))
 
-empty-chunk-only : (s : Sender) (payload room : ℕ) → chunk_answer s payload room ≡ Unsealed Empty → payload ≡ 0
+empty-chunk-only : (s : Sender) (payload room : ℕ) → chunk_answer s payload room ≡ Err Empty → payload ≡ 0
 unfolding framed_answer
 empty-chunk-only s payload room e =
     by_itself payload _ (others (ltb s.counter (last_counter - 1)) _ Counter (sizes-others max_chunk payload 18 room (moved s)) refl)
     (past (eqb (key_length s.method) 0) _ Settings refl e)
 
 empty-response : (method : ℕ) (key salt binding : List ℕ) (room : ℕ) → key_fits method (length key) ≡ true → length salt ≡ salt_length method
-    → length binding ≡ salt_length method → response_answer method key salt binding 0 room ≡ Unsealed Empty
+    → length binding ≡ salt_length method → response_answer method key salt binding 0 room ≡ Err Empty
 unfolding sizes_fit
 empty-response method key salt binding room fits same bound =
     sym (response-empty method key salt binding 0 room (ap₂ ◌&&◌ fits (eq-eqb (length salt) (salt_length method) same)) (bound ∙ sym same) refl)
 
 empty-response-only : (method : ℕ) (key salt binding : List ℕ) (payload room : ℕ)
-    → response_answer method key salt binding payload room ≡ Unsealed Empty → payload ≡ 0
+    → response_answer method key salt binding payload room ≡ Err Empty → payload ≡ 0
 unfolding response_answer
 empty-response-only method key salt binding payload room e =
     by_itself payload _ (sizes-others max_chunk payload (length salt + 27 + length binding) room (begun method key salt))

@@ -1,5 +1,6 @@
 -- The front of a head is read back from what was sealed, and the key of a stream from its words. For every key length of AES.
 -- Assumes nothing.
+use Rattle.std.specs.Prelude.{Err, Ok}
 use mathlib.Core.Path.{◌≡◌, refl, sym, ap, ◌∙◌}
 use mathlib.Core.Bool.{true, cond}
 use mathlib.Core.List.{List, ◌++◌, append_assoc}
@@ -20,7 +21,6 @@ use Rattle.protocol.proofs.MethodLaws.{fits-sizes}
 use Rattle.protocol.specs.declared.Refusal.TheVariants.{NotAuthentic, WrongType, WrongTime}
 use Rattle.stream_pieces.specs.Pieces.{seal_at, authentic_at, open_at, subkey_words, key_of, max_chunk, Keyed, keyed, salted_key}
 use Rattle.stream_seal_heads.specs.HeadSealing.{fixed_part, front}
-use Rattle.stream_heads.specs.declared.FixedRead.TheVariants.{Read, Refused as Unread}
 use Rattle.stream_heads.specs.Heads.{front_length, fixed_of, fields_of, read_fixed, open_fixed}
 use Rattle.stream_open_response.specs.Responses.{binding_of}
 use Rattle.stream_pieces.proofs.LengthLaws.{length-seal_at}
@@ -93,19 +93,19 @@ module _ (k : Keyed) (salt : List ℕ) (kind time : ℕ) (binding : List ℕ) (s
         ap (λ (x : List ℕ). binding_of b (open_at k 0 x)) sealed-back ∙ ap (binding_of b) (piece_back k 0 fixed).1 ∙ ap (take b) from-binding
         ∙ take_at binding (to_be 2 size) b binding-long
 
-    fixed_reads : (clock : ℕ) → time_valid time clock ≡ true → read_fixed kind clock fixed ≡ Read (record { time = time; length = size })
+    fixed_reads : (clock : ℕ) → time_valid time clock ≡ true → read_fixed kind clock fixed ≡ Ok (record { time = time; length = size })
     unfolding read_fixed fixed_part
     fixed_reads clock valid =
         let valid-there = ap (λ (t : ℕ). time_valid t clock) time-back ∙ valid in
-        (λ i. cond (eq-eqb kind kind refl i) (cond (valid-there i) (Read (fields_of fixed)) (Unread WrongTime)) (Unread WrongType))
-        ∙ ap Read fields_back
+        (λ i. cond (eq-eqb kind kind refl i) (cond (valid-there i) (Ok (fields_of fixed)) (Err WrongTime)) (Err WrongType))
+        ∙ ap Ok fields_back
 
     pub fixed_back : (clock : ℕ) → time_valid time clock ≡ true
-        → open_fixed k kind clock (fixed_of n b head) ≡ Read (record { time = time; length = size })
+        → open_fixed k kind clock (fixed_of n b head) ≡ Ok (record { time = time; length = size })
     unfolding open_fixed
     fixed_back clock valid =
-        (λ i. cond (authentic_at k 0 (sealed-back i)) (read_fixed kind clock (open_at k 0 (sealed-back i))) (Unread NotAuthentic))
-        ∙ (λ i. cond ((piece_back k 0 fixed).0 i) (read_fixed kind clock ((piece_back k 0 fixed).1 i)) (Unread NotAuthentic))
+        (λ i. cond (authentic_at k 0 (sealed-back i)) (read_fixed kind clock (open_at k 0 (sealed-back i))) (Err NotAuthentic))
+        ∙ (λ i. cond ((piece_back k 0 fixed).0 i) (read_fixed kind clock ((piece_back k 0 fixed).1 i)) (Err NotAuthentic))
         ∙ fixed_reads clock valid
 
 -- ---- the key of a stream, from the words that its state has

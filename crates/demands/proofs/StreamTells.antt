@@ -1,5 +1,6 @@
 -- What is so of a step of SIP022 alone: when exactly a length is refused as empty, and that no payload is empty.
 -- Assumes nothing.
+use Rattle.std.specs.Prelude.{Err, Ok, Result}
 use mathlib.Core.Path.{◌≡◌, refl, sym, ap, ◌∙◌, subst}
 use mathlib.Core.List.{List}
 use Prim.Native.Nat.{ℕ, zero, suc, ◌+◌, ◌<◌, ◌≤◌}
@@ -15,14 +16,13 @@ use Rattle.stream_open.specs.declared.Turn.{Turn}
 use Rattle.stream_open.specs.declared.Turn.TheVariants.{Variable, Length, Payload, Ended}
 use Rattle.stream_open.specs.declared.Receiver.{Receiver}
 use Rattle.stream_open.specs.declared.Chunk.{Chunk}
-use Rattle.stream_open.specs.declared.Stepped.{Stepped}
-use Rattle.stream_open.specs.declared.Stepped.TheVariants.{Opened, Refused}
 use Rattle.stream_open.specs.Chunks.{stream_key, step_answer, step_out}
 use Rattle.stream_chunks.specs.Opens.{TurnOpens, turn_text}
 use Rattle.stream_chunks.specs.Flows.{Flow, answer_to, written_in, stepped, gives, received}
 use Rattle.stream_chunks.proofs.StepLaws.{step-tells, step-text, under-exactly-when}
 use Rattle.demands.specs.StreamsOpen.{StepEmptyExactlyWhen}
 use Rattle.demands.specs.StreamsBack.{NoneEmpty, NoEmptyChunk}
+use Rattle.protocol.specs.declared.Refusal.{Refusal}
 
 -- ---- 14 exactly when
 
@@ -49,12 +49,12 @@ turn-some (Payload n) st key counter s room c d = subst (λ (x : Chunk). 0 < x.l
 turn-some Ended st key counter s room c d = absurd d
 turn-some (Variable n) st key counter s room c d = absurd d
 
-step-some : (st : Receiver) (s : List ℕ) (room : ℕ) (c : Chunk) → step_answer st s room ≡ Opened c → 0 < c.length
+step-some : (st : Receiver) (s : List ℕ) (room : ℕ) (c : Chunk) → step_answer st s room ≡ Ok c → 0 < c.length
 step-some st s room c e =
     turn-some st.turn st (stream_key st) st.counter s room c (step-tells (framing_of st.method) st s room c e).opens
 
 -- a payload of n bytes is n bytes of the buffer
-handed_out : (f : Flow) (n : ℕ) (c : Chunk) → f.stream.turn ≡ Payload n → answer_to framing_of f ≡ Opened c → 0 < length (take n (written_in framing_of f))
+handed_out : (f : Flow) (n : ℕ) (c : Chunk) → f.stream.turn ≡ Payload n → answer_to framing_of f ≡ Ok c → 0 < length (take n (written_in framing_of f))
 unfolding answer_to written_in
 handed_out f n c et e =
     let st = f.stream in
@@ -76,13 +76,13 @@ steps-some : (k : ℕ) (f : Flow) → NoneEmpty (received framing_of k f)
 steps-some zero f = tt
 steps-some (suc k) f = go (answer_to framing_of f) f.stream.turn refl refl (steps-some k (stepped framing_of f))
   where
-    go : (a : Stepped) (t : Turn) → answer_to framing_of f ≡ a → f.stream.turn ≡ t → NoneEmpty (received framing_of k (stepped framing_of f))
+    go : (a : Result Chunk Refusal) (t : Turn) → answer_to framing_of f ≡ a → f.stream.turn ≡ t → NoneEmpty (received framing_of k (stepped framing_of f))
         → NoneEmpty (gives a t (written_in framing_of f) (received framing_of k (stepped framing_of f)))
-    go (Opened c) (Payload n) ea et later = (handed_out f n c et ea, later)
-    go (Opened c) Length ea et later = later
-    go (Opened c) Ended ea et later = later
-    go (Opened c) (Variable n) ea et later = later
-    go (Refused r) t ea et later = later
+    go (Ok c) (Payload n) ea et later = (handed_out f n c et ea, later)
+    go (Ok c) Length ea et later = later
+    go (Ok c) Ended ea et later = later
+    go (Ok c) (Variable n) ea et later = later
+    go (Err r) t ea et later = later
 
 pub no-empty-chunk : NoEmptyChunk
 no-empty-chunk = record { step = step-some; steps = steps-some }

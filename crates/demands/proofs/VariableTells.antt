@@ -1,5 +1,6 @@
 -- When exactly a request's variable header is opened, and what each way out of its call leaves.
 -- Assumes nothing.
+use Rattle.std.specs.Prelude.{Err, None, Ok, Option, Result, Some}
 use mathlib.Core.Path.{◌≡◌, refl, sym, ap, ◌∙◌, subst}
 use mathlib.Core.Bool.{Bool, true, false, cond, not, ◌&&◌, ◌||◌, and-eq-true_iff, or-true}
 use mathlib.Core.List.{List}
@@ -16,8 +17,6 @@ use Rattle.protocol.specs.declared.Refusal.TheVariants.{Settings, Room, NotAuthe
 use Rattle.protocol.specs.Refusal.{refusal_number, added}
 use Rattle.protocol.specs.Method.{key_length}
 use Rattle.socks5.specs.declared.Address.{Address}
-use Rattle.socks5.specs.declared.Parsed.{Parsed}
-use Rattle.socks5.specs.declared.Parsed.TheVariants.{Found, Malformed as NoAddress}
 use Rattle.socks5.specs.Address.{parse_at}
 use Rattle.stream_pieces.specs.Pieces.{authentic_at, open_at}
 use Rattle.stream_pieces.proofs.LengthLaws.{length-open_at}
@@ -27,39 +26,37 @@ use Rattle.stream_open.specs.declared.Turn.TheVariants.{Variable, Length, Payloa
 use Rattle.stream_open.specs.declared.Receiver.{Receiver}
 use Rattle.stream_open.specs.Chunks.{stream_key}
 use Rattle.stream_open_variable.specs.declared.VariableHeader.{VariableHeader}
-use Rattle.stream_open_variable.specs.declared.VariableOpened.{VariableOpened}
-use Rattle.stream_open_variable.specs.declared.VariableOpened.TheVariants.{Header, Refused}
 use Rattle.stream_open_variable.specs.Variable.{padding_at, padding_fits, header_with, read_variable, header_answer, settled, header_out, turn_variable, turn_out, variable_answer, variable_out, variable_next}
 use Rattle.demands.specs.StreamsKeep.{of_variable}
 use Rattle.demands.specs.StreamsOpen.{ValidVariable, variable_at, VariableOpens, VariableExactlyWhen}
 
-abbrev is_header : VariableOpened → ℕ
-is_header (Header h) = 1
-is_header (Refused r) = 0
+abbrev is_header : Result VariableHeader Refusal → ℕ
+is_header (Ok h) = 1
+is_header (Err r) = 0
 
-abbrev header_in : VariableOpened → VariableHeader → VariableHeader
-header_in (Header h) other = h
-header_in (Refused r) other = other
+abbrev header_in : Result VariableHeader Refusal → VariableHeader → VariableHeader
+header_in (Ok h) other = h
+header_in (Err r) other = other
 
-abbrev refusal_in : VariableOpened → Refusal → Refusal
-refusal_in (Header h) other = other
-refusal_in (Refused r) other = r
+abbrev refusal_in : Result VariableHeader Refusal → Refusal → Refusal
+refusal_in (Ok h) other = other
+refusal_in (Err r) other = r
 
-pub not-header : (a : VariableOpened) (r : Refusal) (h : VariableHeader) → a ≡ Refused r → a ≡ Header h → ⊥
+pub not-header : (a : Result VariableHeader Refusal) (r : Refusal) (h : VariableHeader) → a ≡ Err r → a ≡ Ok h → ⊥
 not-header a r h e g = let z : ◌≡◌ {A = ℕ} 0 1 = ap is_header (sym e ∙ g) in omega arith
 
-pub same-refusal : (a : VariableOpened) (r t : Refusal) → a ≡ Refused r → a ≡ Refused t → r ≡ t
-same-refusal a r t e f = ap (λ (x : VariableOpened). refusal_in x r) (sym e ∙ f)
+pub same-refusal : (a : Result VariableHeader Refusal) (r t : Refusal) → a ≡ Err r → a ≡ Err t → r ≡ t
+same-refusal a r t e f = ap (λ (x : Result VariableHeader Refusal). refusal_in x r) (sym e ∙ f)
 
 -- ---- what the plaintext says
 
-record Passed (b : Bool) (x : VariableOpened) (h : VariableHeader) : Type 0 where
+record Passed (b : Bool) (x : Result VariableHeader Refusal) (h : VariableHeader) : Type 0 where
   test : b ≡ true
-  then : x ≡ Header h
+  then : x ≡ Ok h
 
-passed : (b : Bool) (x : VariableOpened) (r : Refusal) (h : VariableHeader) → cond b x (Refused r) ≡ Header h → Passed b x h
+passed : (b : Bool) (x : Result VariableHeader Refusal) (r : Refusal) (h : VariableHeader) → cond b x (Err r) ≡ Ok h → Passed b x h
 passed true x r h e = record { test = refl; then = e }
-passed false x r h e = absurd (not-header (Refused r) r h refl e)
+passed false x r h e = absurd (not-header (Err r) r h refl e)
 
 module _ (size : ℕ) (plain : List ℕ) where
   abbrev said : Address → VariableHeader
@@ -73,9 +70,9 @@ module _ (size : ℕ) (plain : List ℕ) where
         used = size + 16;
       }
 
-  with-tells : (p : Parsed) (h : VariableHeader) → parse_at plain 0 ≡ p → header_with size plain p ≡ Header h → ValidVariable size plain h
+  with-tells : (p : Option Address) (h : VariableHeader) → parse_at plain 0 ≡ p → header_with size plain p ≡ Ok h → ValidVariable size plain h
   unfolding padding_fits
-  with-tells (Found a) h found e =
+  with-tells (Some a) h found e =
       let e₁ =
       passed
       (leb (a.end + 2) (length plain) && (leb (padding_at a.end plain) max_padding && (leb (a.end + 2 + padding_at a.end plain) (length plain) && ltb (a.end + 2) (length plain)))) _ _ h e in
@@ -89,15 +86,15 @@ module _ (size : ℕ) (plain : List ℕ) where
         padding-short = leb-true (padding_at a.end plain) max_padding b₂.0;
         padding-there = leb-true (a.end + 2 + padding_at a.end plain) (length plain) b₃.0;
         not-bare = ltb-true (a.end + 2) (length plain) b₃.1;
-        says = sym (ap (λ (x : VariableOpened). header_in x h) e₁.then);
+        says = sym (ap (λ (x : Result VariableHeader Refusal). header_in x h) e₁.then);
       }
-  with-tells NoAddress h found e = absurd (not-header (Refused Malformed) Malformed h refl e)
+  with-tells None h found e = absurd (not-header (Err Malformed) Malformed h refl e)
 
-  plain-tells : (h : VariableHeader) → read_variable size plain ≡ Header h → ValidVariable size plain h
+  plain-tells : (h : VariableHeader) → read_variable size plain ≡ Ok h → ValidVariable size plain h
   unfolding read_variable
   plain-tells h e = with-tells (parse_at plain 0) h refl e
 
-  plain-given : (h : VariableHeader) → ValidVariable size plain h → read_variable size plain ≡ Header h
+  plain-given : (h : VariableHeader) → ValidVariable size plain h → read_variable size plain ≡ Ok h
   unfolding read_variable padding_fits
   plain-given h d =
       let a = d.address in
@@ -106,18 +103,18 @@ module _ (size : ℕ) (plain : List ℕ) where
       let e₃ = le-leb (a.end + 2 + padding_at a.end plain) (length plain) d.padding-there in
       let e₄ = lt-ltb (a.end + 2) (length plain) d.not-bare in
       ap (header_with size plain) d.address-found
-      ∙ (λ i. cond (e₁ i && (e₂ i && (e₃ i && e₄ i))) (Header (said a)) (Refused Malformed))
-      ∙ ap Header (sym d.says)
+      ∙ (λ i. cond (e₁ i && (e₂ i && (e₃ i && e₄ i))) (Ok (said a)) (Err Malformed))
+      ∙ ap Ok (sym d.says)
 
-  with-malformed : (p : Parsed) (r : Refusal) → header_with size plain p ≡ Refused r → r ≡ Malformed
-  with-malformed (Found a) r e = go (padding_fits a.end plain) e
+  with-malformed : (p : Option Address) (r : Refusal) → header_with size plain p ≡ Err r → r ≡ Malformed
+  with-malformed (Some a) r e = go (padding_fits a.end plain) e
     where
-      go : (b : Bool) → cond b (Header (said a)) (Refused Malformed) ≡ Refused r → r ≡ Malformed
-      go true g = absurd (not-header (Header (said a)) r (said a) g refl)
-      go false g = sym (ap (λ (x : VariableOpened). refusal_in x r) g)
-  with-malformed NoAddress r e = sym (ap (λ (x : VariableOpened). refusal_in x r) e)
+      go : (b : Bool) → cond b (Ok (said a)) (Err Malformed) ≡ Err r → r ≡ Malformed
+      go true g = absurd (not-header (Ok (said a)) r (said a) g refl)
+      go false g = sym (ap (λ (x : Result VariableHeader Refusal). refusal_in x r) g)
+  with-malformed None r e = sym (ap (λ (x : Result VariableHeader Refusal). refusal_in x r) e)
 
-  plain-malformed : (r : Refusal) → read_variable size plain ≡ Refused r → r ≡ Malformed
+  plain-malformed : (r : Refusal) → read_variable size plain ≡ Err r → r ≡ Malformed
   unfolding read_variable
   plain-malformed r e = with-malformed (parse_at plain 0) r e
 
@@ -145,9 +142,9 @@ module _ (st : Receiver) (s out : List ℕ) where
 
   -- by the test for the method and the turn
   module _ (a : Bool) (u : Turn) (ea : eqb (key_length st.method) 0 ≡ a) (eu : st.turn ≡ u) where
-    pub answer-by : variable_answer st s (length out) ≡ cond a (Refused Settings) (turn_variable u st s (length out))
+    pub answer-by : variable_answer st s (length out) ≡ cond a (Err Settings) (turn_variable u st s (length out))
     unfolding variable_answer
-    answer-by = λ i. cond (ea i) (Refused Settings) (turn_variable (eu i) st s (length out))
+    answer-by = λ i. cond (ea i) (Err Settings) (turn_variable (eu i) st s (length out))
 
     pub out-by : variable_out st s out ≡ cond a out (turn_out u st s out)
     unfolding variable_out
@@ -158,14 +155,14 @@ module _ (st : Receiver) (s out : List ℕ) where
       (ea : leb (n + 16) (length s) ≡ a) (eb : leb n (length out) ≡ b) (ec : authentic_at (stream_key st) 1 (variable_at n s) ≡ c) where
     pub header-by : variable_answer st s (length out)
         ≡ cond e
-        (cond a (cond b (cond c (read_variable n (plain n)) (Refused NotAuthentic)) (Refused Room)) (Refused (More (n + 16))))
-        (Refused Settings)
+        (cond a (cond b (cond c (read_variable n (plain n)) (Err NotAuthentic)) (Err Room)) (Err (More (n + 16))))
+        (Err Settings)
     unfolding header_answer
     header-by =
         answer-by false (Variable n) ek eu
         ∙ (λ i. cond (ee i)
-        (cond (ea i) (cond (eb i) (cond (ec i) (read_variable n (plain n)) (Refused NotAuthentic)) (Refused Room)) (Refused (More (n + 16))))
-        (Refused Settings))
+        (cond (ea i) (cond (eb i) (cond (ec i) (read_variable n (plain n)) (Err NotAuthentic)) (Err Room)) (Err (More (n + 16))))
+        (Err Settings))
 
     pub text-by : variable_out st s out
         ≡ cond e (cond (a && (b && c)) (settled (read_variable n (plain n)) n (put out 0 (plain n))) out) out
@@ -179,7 +176,7 @@ module _ (st : Receiver) (s out : List ℕ) where
   length-plain n h = omega (arith, length-open_at (stream_key st) 1 (variable_at n s), length-take-le (n + 16) s h)
 
   pub record VariableGiven (h : VariableHeader) (d : VariableOpens st s (length out) h) : Type 0 where
-    pub answers : variable_answer st s (length out) ≡ Header h
+    pub answers : variable_answer st s (length out) ≡ Ok h
     pub writes : variable_out st s out ≡ put out 0 (open_at (stream_key st) 1 (variable_at d.size s))
 
   pub variable-given : (h : VariableHeader) (d : VariableOpens st s (length out) h) → VariableGiven h d
@@ -193,21 +190,21 @@ module _ (st : Receiver) (s out : List ℕ) where
       record {
         answers = header-by m true true true true ek d.at_turn ee ea eb d.authentic ∙ ev;
         writes = text-by m true true true true ek d.at_turn ee ea eb d.authentic
-            ∙ ap (λ (x : VariableOpened). settled x m (put out 0 (plain m))) ev;
+            ∙ ap (λ (x : Result VariableHeader Refusal). settled x m (put out 0 (plain m))) ev;
       }
 
   pub data Way : Type 0 where
-    refused : (r : Refusal) → of_variable r ≡ true → neither r ≡ true → variable_answer st s (length out) ≡ Refused r → variable_out st s out ≡ out → Way
-    missing : (n : ℕ) → st.turn ≡ Variable n → length s < n + 16 → variable_answer st s (length out) ≡ Refused (More (n + 16))
+    refused : (r : Refusal) → of_variable r ≡ true → neither r ≡ true → variable_answer st s (length out) ≡ Err r → variable_out st s out ≡ out → Way
+    missing : (n : ℕ) → st.turn ≡ Variable n → length s < n + 16 → variable_answer st s (length out) ≡ Err (More (n + 16))
         → variable_out st s out ≡ out → Way
-    zeroed : (n : ℕ) → st.turn ≡ Variable n → n ≤ length out → variable_answer st s (length out) ≡ Refused Malformed
+    zeroed : (n : ℕ) → st.turn ≡ Variable n → n ≤ length out → variable_answer st s (length out) ≡ Err Malformed
         → variable_out st s out ≡ put out 0 (replicate n 0) → Way
     opened : (h : VariableHeader) (d : VariableOpens st s (length out) h) → VariableGiven h d → Way
 
   module _ (n : ℕ) (ek : eqb (key_length st.method) 0 ≡ false) (eu : st.turn ≡ Variable n) where
     by-header : eqb st.counter 1 ≡ true → leb (n + 16) (length s) ≡ true → leb n (length out) ≡ true
-        → authentic_at (stream_key st) 1 (variable_at n s) ≡ true → (x : VariableOpened) → read_variable n (plain n) ≡ x → Way
-    by-header ee ea eb ec (Header h) ex =
+        → authentic_at (stream_key st) 1 (variable_at n s) ≡ true → (x : Result VariableHeader Refusal) → read_variable n (plain n) ≡ x → Way
+    by-header ee ea eb ec (Ok h) ex =
         let d : VariableOpens st s (length out) h =
         record {
           known = eqb-false (key_length st.method) 0 ek;
@@ -220,13 +217,13 @@ module _ (st : Receiver) (s out : List ℕ) where
           valid = plain-tells n (plain n) h ex;
         } in
         opened h d (variable-given h d)
-    by-header ee ea eb ec (Refused r) ex =
+    by-header ee ea eb ec (Err r) ex =
         let er = plain-malformed n (plain n) r ex in
         let room = leb-true n (length out) eb in
         let lp = length-plain n (leb-true (n + 16) (length s) ea) in
         let lz : length (replicate {A = ℕ} n 0) ≡ n = length-replicate n 0 in
-        zeroed n eu room (header-by n true true true true ek eu ee ea eb ec ∙ ex ∙ ap Refused er)
-        (text-by n true true true true ek eu ee ea eb ec ∙ ap (λ (x : VariableOpened). settled x n (put out 0 (plain n))) ex
+        zeroed n eu room (header-by n true true true true ek eu ee ea eb ec ∙ ex ∙ ap Err er)
+        (text-by n true true true true ek eu ee ea eb ec ∙ ap (λ (x : Result VariableHeader Refusal). settled x n (put out 0 (plain n))) ex
         ∙ put-again out (plain n) (replicate n 0) (omega (arith, lp, room)) (lz ∙ sym lp))
 
     by_tests : (e a b c : Bool) → eqb st.counter 1 ≡ e → leb (n + 16) (length s) ≡ a → leb n (length out) ≡ b
@@ -253,7 +250,7 @@ module _ (st : Receiver) (s out : List ℕ) where
   pub way : Way
   way = by_turn (eqb (key_length st.method) 0) st.turn refl refl
 
-  pub variable-tells : (h : VariableHeader) → variable_answer st s (length out) ≡ Header h → VariableOpens st s (length out) h
+  pub variable-tells : (h : VariableHeader) → variable_answer st s (length out) ≡ Ok h → VariableOpens st s (length out) h
   variable-tells h e = go way
     where
       go : Way → VariableOpens st s (length out) h
@@ -261,7 +258,7 @@ module _ (st : Receiver) (s out : List ℕ) where
       go (missing n eu short er eo) = absurd (not-header _ (More (n + 16)) h er e)
       go (zeroed n eu room er eo) = absurd (not-header _ Malformed h er e)
       go (opened g d q) =
-          subst (VariableOpens st s (length out)) (ap (λ (x : VariableOpened). header_in x g) (sym q.answers ∙ e)) d
+          subst (VariableOpens st s (length out)) (ap (λ (x : Result VariableHeader Refusal). header_in x g) (sym q.answers ∙ e)) d
 
 -- what an answer of 10 tells
 pub record Missing (st : Receiver) (s : List ℕ) (wanted : ℕ) : Type 0 where
@@ -270,10 +267,10 @@ pub record Missing (st : Receiver) (s : List ℕ) (wanted : ℕ) : Type 0 where
   pub asks : wanted ≡ size + 16
   pub short : length s < size + 16
 
-pub more-tells : (st : Receiver) (s out : List ℕ) (wanted : ℕ) → variable_answer st s (length out) ≡ Refused (More wanted) → Missing st s wanted
+pub more-tells : (st : Receiver) (s out : List ℕ) (wanted : ℕ) → variable_answer st s (length out) ≡ Err (More wanted) → Missing st s wanted
 more-tells st s out wanted e = go (way st s out)
   where
-    same : (r : Refusal) → variable_answer st s (length out) ≡ Refused r → r ≡ More wanted
+    same : (r : Refusal) → variable_answer st s (length out) ≡ Err r → r ≡ More wanted
     same r er = same-refusal _ r (More wanted) er e
 
     go : Way st s out → Missing st s wanted

@@ -1,8 +1,7 @@
 -- Demands 1 and 2 for opened datagrams: what a refusal leaves, when exactly a datagram is accepted, and what is given back of a
 -- datagram that was sealed here. For all five methods and both sides; a server's call has no client session ID.
 -- Assumes nothing.
-use Rattle.std.specs.Prelude.{◌≡◌, ◌≢◌, Bool, true, false, List, ℕ, ◌+◌, ◌-◌, ◌*◌, ◌^◌, ◌≤◌, ◌<◌, min, length, get_or, set, drop, replicate}
-use Rattle.std.proofs.Math.Option.{Option, none, some}
+use Rattle.std.specs.Prelude.{◌≡◌, ◌≢◌, Bool, true, false, List, ℕ, ◌+◌, ◌-◌, ◌*◌, ◌^◌, ◌≤◌, ◌<◌, min, length, get_or, set, drop, replicate, Ok, Some, None, Option}
 use Rattle.octets.specs.Buffers.{Octets, put}
 use Rattle.octets.specs.Numbers.{be}
 use Rattle.session_record.specs.declared.Peer.{Peer}
@@ -14,12 +13,10 @@ use Rattle.protocol.specs.declared.Refusal.TheVariants.{Settings, Length, Room, 
 use Rattle.protocol.specs.Refusal.{refusal_number}
 use Rattle.protocol.specs.Time.{time_valid}
 use Rattle.socks5.specs.declared.Address.{Address}
-use Rattle.socks5.specs.declared.Parsed.TheVariants.{Found}
 use Rattle.socks5.specs.Address.{parse_at, moved}
 use Rattle.datagram_parts.specs.declared.Side.{Side}
 use Rattle.datagram_parts.specs.declared.Side.TheVariants.{Client, Server}
 use Rattle.datagram_seal.specs.declared.Sender.{Sender}
-use Rattle.datagram_seal.specs.declared.Sealed.TheVariants.{Datagram as Written}
 use Rattle.datagram_parts.specs.Headers.{type_of, fixed_length, main_start, sealed_text}
 use Rattle.datagram_parts.specs.Parts.{overhead, max_datagram}
 use Rattle.datagram_seal.specs.Sealing.{seal_answer, datagram}
@@ -90,7 +87,7 @@ pub data Stage (method : ℕ) (key s t out : List ℕ) : Type 0 where
 -- of the whole table only its last word becomes another, one more than it was, up to 2^64 - 1.
 pub record RepeatCounted (clock id : ℕ) (t t' : List ℕ) : Type 0 where
   pub place : ℕ
-  pub its_own : session_place t clock id ≡ some place
+  pub its_own : session_place t clock id ≡ Some place
   pub one_word : t' ≡ set t (1 + 13 * place + 12) (min (get_or t (1 + 13 * place + 12) 0 + 1) (2 ^ 64 - 1))
 
 pub record Keeps (method : ℕ) (key : List ℕ) (client : Option ℕ) (clock : ℕ) (peer : Peer) (s t out : List ℕ) : Type 0 where
@@ -125,7 +122,7 @@ pub record ValidHeader (start : ℕ) (side : Side) (id packet : ℕ) (plain : Li
   pub long-enough : start + fixed_length side ≤ length plain
   pub right-type : get_or plain start 0 ≡ type_of side
   pub address : Address
-  pub address-found : parse_at plain (start + fixed_length side + padding_of start side plain) ≡ Found address
+  pub address-found : parse_at plain (start + fixed_length side + padding_of start side plain) ≡ Some address
   pub says : h
       ≡ record {
         target = address.target;
@@ -139,13 +136,13 @@ pub record ValidHeader (start : ℕ) (side : Side) (id packet : ℕ) (plain : Li
 
 -- the packet ID is fresh in its session, which is alive; or no session of that ID is alive, and there is room for one
 pub data Enters (t : List ℕ) (clock id packet : ℕ) : Type 0 where
-  fresh : (i : ℕ) → session_place t clock id ≡ some i → fresh_in (record_at t i) packet ≡ true → Enters t clock id packet
-  begins : (i : ℕ) → session_place t clock id ≡ none → free_place t clock ≡ some i → Enters t clock id packet
+  fresh : (i : ℕ) → session_place t clock id ≡ Some i → fresh_in (record_at t i) packet ≡ true → Enters t clock id packet
+  begins : (i : ℕ) → session_place t clock id ≡ None → free_place t clock ≡ Some i → Enters t clock id packet
 
 -- a server's call takes any client's datagrams, a client's those whose eight bytes at place 9 of the main header are its own session ID
 abbrev pub ForUs : ℕ → Option ℕ → List ℕ → Type 0
-ForUs start none plain = Unit {0}
-ForUs start (some client) plain = be 8 (drop (start + 9) plain) ≡ client
+ForUs start None plain = Unit {0}
+ForUs start (Some client) plain = be 8 (drop (start + 9) plain) ≡ client
 
 pub record Acceptable (method : ℕ) (key : List ℕ) (client : Option ℕ) (clock : ℕ) (s t : List ℕ) (h : Header) : Type 0 where
   pub authentic : tag_good method key s ≡ true
@@ -209,7 +206,7 @@ module _ (method : ℕ) (key nonce : List ℕ) (sender : Sender) (time : ℕ) (a
 
   pub record GivenBack (later : ℕ) (peer : Peer) (t out : List ℕ) : Type 0 where
     pub target : Address
-    pub target-sealed : parse_at address 0 ≡ Found target
+    pub target-sealed : parse_at address 0 ≡ Some target
     pub fields : open_answer method key (opener_of sender.side) later peer sent t out ≡ opened (header target)
     pub text : open_out method key (opener_of sender.side) later peer sent t out ≡ put out 0 sealed
     pub payload-there : drop (header target).payload sealed ≡ payload
@@ -218,7 +215,7 @@ module _ (method : ℕ) (key nonce : List ℕ) (sender : Sender) (time : ℕ) (a
 abbrev pub SealedAccepted : Type 0
 SealedAccepted =
     (method : ℕ) (key nonce : List ℕ) (sender : Sender) (time : ℕ) (address : List ℕ) (padding : ℕ) (payload : List ℕ) (space n : ℕ)
-    → seal_answer method (length key) (length nonce) sender address padding (length payload) space ≡ Written n → Fitting key sender time
+    → seal_answer method (length key) (length nonce) sender address padding (length payload) space ≡ Ok n → Fitting key sender time
     → (later : ℕ) → time_valid time later ≡ true → (peer : Peer) (t out : List ℕ) → lawful t ≡ true
     → Enters t later sender.id sender.packet
     → length (sealed_text (cipher_of method) sender.id sender.packet sender.side time padding address payload) ≤ length out

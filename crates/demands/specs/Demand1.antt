@@ -1,7 +1,7 @@
 -- Demand 1, of every call: it ends with an answer or a refusal of its own list, and what a refusal leaves. Opened datagrams are
 -- in `Datagrams` and streams in `StreamsKeep`; here are the rest, and all of them joined.
 -- Assumes nothing.
-use Rattle.std.specs.Prelude.{◌≡◌, true, false, List, [], ◌∷◌, ℕ, ◌+◌, ◌≤◌, ◌<◌, length, drop}
+use Rattle.std.specs.Prelude.{◌≡◌, true, false, List, [], ◌∷◌, ℕ, ◌+◌, ◌≤◌, ◌<◌, length, drop, Err, Ok, Result}
 use Rattle.protocol.specs.declared.Refusal.{Refusal}
 use Rattle.protocol.specs.declared.Refusal.TheVariants.{Settings, Argument}
 use Rattle.protocol.specs.Method.{cipher_of}
@@ -10,10 +10,6 @@ use Rattle.session_table.specs.Table.{table_words, new_table, make_lawful, made}
 use Rattle.salt_pool.specs.Pool.{make_lawful as make_lawful_pool, made as made_pool}
 use Rattle.datagram_parts.specs.declared.Side.TheVariants.{Client, Server}
 use Rattle.datagram_seal.specs.declared.Sender.{Sender}
-use Rattle.datagram_seal.specs.declared.Begun.{Begun}
-use Rattle.datagram_seal.specs.declared.Begun.TheVariants.{Ready, Refused as NotBegun}
-use Rattle.datagram_seal.specs.declared.Sealed.{Sealed}
-use Rattle.datagram_seal.specs.declared.Sealed.TheVariants.{Datagram, Refused}
 use Rattle.reply_session.specs.Beginning.{reply_begun}
 use Rattle.reply_session.specs.Exactly.{ReplyBeginsExactly}
 use Rattle.datagram_seal.specs.Sealing.{client_sender, seal_answer, seal_next, datagram, seal_out}
@@ -23,20 +19,20 @@ use Rattle.protocol.specs.Orders.{among}
 
 -- ---- sealing a datagram
 
-pub data SealAnswered (a : Sealed) : Type 0 where
-  sealed : (n : ℕ) → a ≡ Datagram n → SealAnswered a
-  refused : (r : Refusal) → among (1 ∷ 12 ∷ 11 ∷ 2 ∷ 3 ∷ []) (refusal_number r) ≡ true → a ≡ Refused r → SealAnswered a
+pub data SealAnswered (a : Result ℕ Refusal) : Type 0 where
+  sealed : (n : ℕ) → a ≡ Ok n → SealAnswered a
+  refused : (r : Refusal) → among (1 ∷ 12 ∷ 11 ∷ 2 ∷ 3 ∷ []) (refusal_number r) ≡ true → a ≡ Err r → SealAnswered a
 
 -- a is what is answered to a sending session that is to seal the text
-pub record SealKeeps (sender : Sender) (a : Sealed) (text out : List ℕ) : Type 0 where
+pub record SealKeeps (sender : Sender) (a : Result ℕ Refusal) (text out : List ℕ) : Type 0 where
   pub answered : SealAnswered a
   -- refused sealing writes nothing and moves no counter
-  pub refused-writes-nothing : (r : Refusal) → a ≡ Refused r → seal_out a text out ≡ out
-  pub refused-keeps-session : (r : Refusal) → a ≡ Refused r → seal_next sender a ≡ sender
+  pub refused-writes-nothing : (r : Refusal) → a ≡ Err r → seal_out a text out ≡ out
+  pub refused-keeps-session : (r : Refusal) → a ≡ Err r → seal_next sender a ≡ sender
   -- a datagram has the length answered, takes one packet ID, and nothing behind it is written
-  pub sealed-length : (n : ℕ) → a ≡ Datagram n → (length text ≡ n) × (n ≤ length out)
-  pub sealed-counts : (n : ℕ) → a ≡ Datagram n → seal_next sender a ≡ record { side = sender.side; id = sender.id; packet = sender.packet + 1 }
-  pub past-length-kept : (n : ℕ) → a ≡ Datagram n → drop n (seal_out a text out) ≡ drop n out
+  pub sealed-length : (n : ℕ) → a ≡ Ok n → (length text ≡ n) × (n ≤ length out)
+  pub sealed-counts : (n : ℕ) → a ≡ Ok n → seal_next sender a ≡ record { side = sender.side; id = sender.id; packet = sender.packet + 1 }
+  pub past-length-kept : (n : ℕ) → a ≡ Ok n → drop n (seal_out a text out) ≡ drop n out
   pub length-kept : length (seal_out a text out) ≡ length out
 
 abbrev pub DatagramsSealed : Type 0
@@ -48,10 +44,10 @@ DatagramsSealed =
 -- ---- beginning a sending session: a client's always begins; a server's begins, or is refused with 1 or 12, each exactly where
 -- `ReplyBeginsExactly` says
 
-pub data BeginAnswered (id client : ℕ) (b : Begun) : Type 0 where
-  begins : b ≡ Ready (record { side = Server client; id = id; packet = 0 }) → BeginAnswered id client b
-  refused-1 : b ≡ NotBegun Settings → BeginAnswered id client b
-  refused-12 : b ≡ NotBegun Argument → BeginAnswered id client b
+pub data BeginAnswered (id client : ℕ) (b : Result Sender Refusal) : Type 0 where
+  begins : b ≡ Ok (record { side = Server client; id = id; packet = 0 }) → BeginAnswered id client b
+  refused-1 : b ≡ Err Settings → BeginAnswered id client b
+  refused-12 : b ≡ Err Argument → BeginAnswered id client b
 
 pub record SessionsBegun : Type 0 where
   pub clients : (id : ℕ) → client_sender id ≡ record { side = Client; id = id; packet = 0 }

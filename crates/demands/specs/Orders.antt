@@ -2,8 +2,7 @@
 -- with the condition under which it is given. What a call answers is the first refusal of its list whose condition holds, and
 -- its value where none does. Numbers, sizes and places are written out, as the scope has them.
 -- Assumes nothing.
-use Rattle.std.specs.Prelude.{◌≡◌, Bool, true, false, cond, not, ◌&&◌, ◌||◌, List, [], ◌∷◌, ℕ, ◌+◌, ◌-◌, ◌^◌, eqb, ltb, length, get_or, take, drop}
-use Rattle.std.proofs.Math.Option.{Option, none, some}
+use Rattle.std.specs.Prelude.{◌≡◌, Bool, true, false, cond, not, ◌&&◌, ◌||◌, List, [], ◌∷◌, ℕ, ◌+◌, ◌-◌, ◌^◌, eqb, ltb, length, get_or, take, drop, Err, None, Ok, Option, Result, Some}
 use Rattle.octets.specs.Buffers.{same}
 use Rattle.octets.specs.Numbers.{be}
 use Rattle.session_record.specs.declared.Peer.{Peer}
@@ -15,23 +14,18 @@ use Rattle.protocol.specs.Subkey.{subkey}
 use Rattle.protocol.specs.Time.{time_valid}
 use Rattle.socks5.specs.declared.Address.{Address}
 use Rattle.socks5.specs.declared.Target.TheVariants.{V4}
-use Rattle.socks5.specs.declared.Parsed.{Parsed}
-use Rattle.socks5.specs.declared.Parsed.TheVariants.{Found, Malformed}
 use Rattle.socks5.specs.Address.{parse_at, is_address}
 use Rattle.datagram_parts.specs.declared.Side.{Side}
 use Rattle.datagram_parts.specs.declared.Side.TheVariants.{Client, Server}
 use Rattle.datagram_seal.specs.declared.Sender.{Sender as Session}
-use Rattle.datagram_seal.specs.declared.Begun.{Begun}
-use Rattle.datagram_seal.specs.declared.Begun.TheVariants.{Ready, Refused as NotBegun}
-use Rattle.datagram_seal.specs.declared.Sealed.{Sealed as SealedDatagram}
-use Rattle.datagram_seal.specs.declared.Sealed.TheVariants.{Datagram, Refused as NoDatagram}
 use Rattle.datagram_seal.specs.Sealing.{seal_answer}
 use Rattle.reply_session.specs.Beginning.{reply_begun}
 use Rattle.datagram_read.specs.declared.Header.{Header}
 use Rattle.datagram_read.specs.Opening.{plain_of, session_of, packet_of}
 use Rattle.datagram_open.specs.Deciding.{open_answer}
-use Rattle.salt_pool.specs.declared.Met.{Met}
-use Rattle.salt_pool.specs.declared.Met.TheVariants.{Room, Replay, Full}
+use Rattle.salt_pool.specs.Pool.{Met}
+use Rattle.std.specs.Prelude.{Ok, Err}
+use Rattle.salt_pool.specs.Pool.{Replay, Full}
 use Rattle.salt_pool.specs.Pool.{meet, lawful as lawful_pool}
 use Rattle.stream_seal.specs.declared.Sender.{Sender}
 use Rattle.stream_chunks.specs.Orders.{is_ended, text_bytes, due_bytes, length_told, said_step, said_piece}
@@ -44,18 +38,13 @@ use Rattle.stream_open.specs.declared.Receiver.{Receiver}
 use Rattle.stream_open.specs.declared.Chunk.{Chunk}
 use Rattle.stream_open.specs.Chunks.{stream_key, step_answer}
 use Rattle.stream_open_response.specs.declared.Response.{Response}
-use Rattle.stream_open_response.specs.declared.ResponseOpened.{ResponseOpened}
-use Rattle.stream_open_response.specs.declared.ResponseOpened.TheVariants.{Accepted as Answered, Refused as Unanswered}
 use Rattle.stream_open_response.specs.Responses.{opened_response}
 use Rattle.stream_open_request.specs.declared.Request.{Request}
-use Rattle.stream_open_request.specs.declared.RequestOpened.{RequestOpened}
-use Rattle.stream_open_request.specs.declared.RequestOpened.TheVariants.{Accepted, Refused as Unaccepted}
 use Rattle.stream_open_request.specs.Requests.{opened_request}
 use Rattle.stream_open_variable.specs.declared.VariableHeader.{VariableHeader}
-use Rattle.stream_open_variable.specs.declared.VariableOpened.{VariableOpened}
-use Rattle.stream_open_variable.specs.declared.VariableOpened.TheVariants.{Header as Headed, Refused as Unheaded}
 use Rattle.stream_open_variable.specs.Variable.{variable_answer}
 use Rattle.demands.specs.Datagrams.{tag_good}
+use Rattle.protocol.specs.declared.Refusal.{Refusal}
 
 -- ---- settings
 
@@ -72,14 +61,14 @@ other_key method k = not (eqb method 1 && eqb k 16 || (eqb method 2 || with_cha_
 
 -- ---- addresses
 
-abbrev pub no_address : Parsed → Bool
-no_address (Found a) = false
-no_address Malformed = true
+abbrev pub no_address : Option Address → Bool
+no_address (Some a) = false
+no_address None = true
 
 -- the address that was found; where there is none, a refusal is given and nothing depends on it
-abbrev pub address_in : Parsed → Address
-address_in (Found a) = a
-address_in Malformed = record { target = V4 0; port = 0; end = 0 }
+abbrev pub address_in : Option Address → Address
+address_in (Some a) = a
+address_in None = record { target = V4 0; port = 0; end = 0 }
 
 -- ---- opening a datagram: 1, 2, 3, 4, 5 (under 11 bytes, or 19 from a server; by methods 3 to 5 under 27 or 35), 6, 7, 13, 5 (padding,
 -- address), 8, 9
@@ -94,28 +83,28 @@ main_at method = cond (with_cha_cha method) 16 0
 
 -- a server's call opens clients' datagrams, a client's those of its server
 abbrev pub header_bytes : Option ℕ → ℕ
-header_bytes none = 11
-header_bytes (some client) = 19
+header_bytes None = 11
+header_bytes (Some client) = 19
 
 abbrev pub type_byte : Option ℕ → ℕ
-type_byte none = 0
-type_byte (some client) = 1
+type_byte None = 0
+type_byte (Some client) = 1
 
 -- a server's datagram for another client
 abbrev pub others_datagram : Option ℕ → ℕ → Bool
-others_datagram none id = false
-others_datagram (some client) id = not (eqb id client)
+others_datagram None id = false
+others_datagram (Some client) id = not (eqb id client)
 
 -- the session is alive, and the packet ID not fresh in it
 abbrev pub not_fresh : Option ℕ → List ℕ → ℕ → Bool
-not_fresh (some i) t packet = not (fresh_in (record_at t i) packet)
-not_fresh none t packet = false
+not_fresh (Some i) t packet = not (fresh_in (record_at t i) packet)
+not_fresh None t packet = false
 
 -- no session of the ID is alive, and no record is free
 abbrev pub no_room : (session free : Option ℕ) → Bool
-no_room (some i) free = false
-no_room none (some i) = false
-no_room none none = true
+no_room (Some i) free = false
+no_room None (Some i) = false
+no_room None None = true
 
 abbrev pub said_opened : Answer Header → Said Header
 said_opened (opened h) = gives h
@@ -134,7 +123,7 @@ module _ (method : ℕ) (key : List ℕ) (client : Option ℕ) (clock : ℕ) (s 
   abbrev padding : ℕ
   padding = be 2 (drop (main_at method + header_bytes client - 2) plain)
 
-  abbrev address : Parsed
+  abbrev address : Option Address
   address = parse_at plain (main_at method + header_bytes client + padding)
 
   abbrev pub open_order : List Rule
@@ -167,18 +156,18 @@ module _ (method : ℕ) (key : List ℕ) (client : Option ℕ) (clock : ℕ) (s 
 -- ---- opening a request's head, first the front: 1, 10, 4, 6, 7, 8, 9
 
 abbrev pub is_replay : Met → Bool
-is_replay Replay = true
-is_replay (Room i) = false
-is_replay Full = false
+is_replay (Err Replay) = true
+is_replay (Ok i) = false
+is_replay (Err Full) = false
 
 abbrev pub is_full : Met → Bool
-is_full Full = true
-is_full (Room i) = false
-is_full Replay = false
+is_full (Err Full) = true
+is_full (Ok i) = false
+is_full (Err Replay) = false
 
-abbrev pub said_request : RequestOpened → Said (Request × Receiver)
-said_request (Accepted h st) = gives (h, st)
-said_request (Unaccepted r) = refuses_with r
+abbrev pub said_request : Result (Request × Receiver) Refusal → Said (Request × Receiver)
+said_request (Ok (h, st)) = gives (h, st)
+said_request (Err r) = refuses_with r
 
 module _ (method : ℕ) (key : List ℕ) (clock : ℕ) (s pool : List ℕ) where
   abbrev n : ℕ
@@ -226,11 +215,11 @@ other_turn (Payload m) counter = true
 other_turn Ended counter = false
 
 -- no address, no padding length behind it, padding over 900, padding past the chunk, or padding 0 with no payload
-abbrev pub bad_variable : Parsed → List ℕ → Bool
-bad_variable (Found a) v =
+abbrev pub bad_variable : Option Address → List ℕ → Bool
+bad_variable (Some a) v =
     let n = be 2 (drop a.end v) in
     ltb (length v) (a.end + 2) || (ltb 900 n || (ltb (length v) (a.end + 2 + n) || eqb n 0 && eqb (length v) (a.end + 2)))
-bad_variable Malformed v = true
+bad_variable None v = true
 
 abbrev pub header_size : Turn → ℕ
 header_size (Variable m) = m
@@ -238,9 +227,9 @@ header_size Length = 0
 header_size (Payload m) = 0
 header_size Ended = 0
 
-abbrev pub said_variable : VariableOpened → Said VariableHeader
-said_variable (Headed h) = gives h
-said_variable (Unheaded r) = refuses_with r
+abbrev pub said_variable : Result VariableHeader Refusal → Said VariableHeader
+said_variable (Ok h) = gives h
+said_variable (Err r) = refuses_with r
 
 module _ (st : Receiver) (s : List ℕ) (room : ℕ) where
   abbrev bytes : ℕ
@@ -275,9 +264,9 @@ module _ (st : Receiver) (s : List ℕ) (room : ℕ) where
 
 -- ---- opening a response's head: 1, 10, 4, 6, 7, 13, 14
 
-abbrev pub said_response : ResponseOpened → Said (Response × Receiver)
-said_response (Answered h st) = gives (h, st)
-said_response (Unanswered r) = refuses_with r
+abbrev pub said_response : Result (Response × Receiver) Refusal → Said (Response × Receiver)
+said_response (Ok (h, st)) = gives (h, st)
+said_response (Err r) = refuses_with r
 
 module _ (method : ℕ) (key : List ℕ) (clock : ℕ) (request_salt s : List ℕ) where
   abbrev salt_bytes : ℕ
@@ -361,9 +350,9 @@ abbrev pub own_header : Side → ℕ
 own_header Client = 11
 own_header (Server client) = 19
 
-abbrev pub said_sealed : SealedDatagram → Said ℕ
-said_sealed (Datagram n) = gives n
-said_sealed (NoDatagram r) = refuses_with r
+abbrev pub said_sealed : Result ℕ Refusal → Said ℕ
+said_sealed (Ok n) = gives n
+said_sealed (Err r) = refuses_with r
 
 module _ (method k nonce : ℕ) (sender : Session) (address : List ℕ) (padding payload room : ℕ) where
   -- separate header or nonce, and tag; the IDs that stand in the plaintext; main header, padding, address, payload
@@ -440,14 +429,14 @@ module _ (s : Sender) (size room : ℕ) where
 
 -- ---- beginning a server's sending session: 1, 12
 
-abbrev pub said_begun : Begun → Said Session
-said_begun (Ready s) = gives s
-said_begun (NotBegun r) = refuses_with r
+abbrev pub said_begun : Result Session Refusal → Said Session
+said_begun (Ok s) = gives s
+said_begun (Err r) = refuses_with r
 
 -- a session is alive
 abbrev pub is_alive : Option ℕ → Bool
-is_alive (some i) = true
-is_alive none = false
+is_alive (Some i) = true
+is_alive None = false
 
 abbrev pub begin_order : List ℕ → (clock id client : ℕ) → List Rule
 begin_order t clock id client = rule 1 (not (lawful t)) ∷ rule 12 (eqb id client || is_alive (session_place t clock id)) ∷ []

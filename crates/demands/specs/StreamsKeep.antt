@@ -1,6 +1,6 @@
 -- Demand 1 for streams: every call ends with an answer or a refusal, and what a refusal leaves.
 -- Assumes nothing.
-use Rattle.std.specs.Prelude.{◌≡◌, Bool, true, false, List, [], ◌∷◌, ◌++◌, ℕ, ◌-◌, ◌≤◌, length, take, drop, replicate}
+use Rattle.std.specs.Prelude.{◌≡◌, Bool, true, false, List, [], ◌∷◌, ◌++◌, ℕ, ◌-◌, ◌≤◌, length, take, drop, replicate, Err, Ok, Result}
 use Rattle.octets.specs.Buffers.{put}
 use Rattle.octets.specs.Numbers.{be}
 use Rattle.protocol.specs.declared.Refusal.{Refusal}
@@ -15,18 +15,11 @@ use Rattle.stream_seal_heads.specs.HeadSealing.{request, response, request_answe
 use Rattle.stream_open.specs.declared.Turn.{Turn}
 use Rattle.stream_open.specs.declared.Turn.TheVariants.{Variable, Length, Payload, Ended}
 use Rattle.stream_open.specs.declared.Receiver.{Receiver}
-use Rattle.stream_open.specs.declared.Stepped.TheVariants.{Refused as Unopened}
 use Rattle.stream_open_response.specs.declared.Response.{Response}
-use Rattle.stream_open_response.specs.declared.ResponseOpened.{ResponseOpened}
-use Rattle.stream_open_response.specs.declared.ResponseOpened.TheVariants.{Accepted as Answered, Refused as Unanswered}
 use Rattle.stream_open_request.specs.declared.Request.{Request}
-use Rattle.stream_open_request.specs.declared.RequestOpened.{RequestOpened}
-use Rattle.stream_open_request.specs.declared.RequestOpened.TheVariants.{Accepted, Refused as Unaccepted}
 use Rattle.stream_open_response.specs.Responses.{opened_response}
 use Rattle.stream_open_request.specs.Requests.{opened_request, request_pool}
 use Rattle.stream_open_variable.specs.declared.VariableHeader.{VariableHeader}
-use Rattle.stream_open_variable.specs.declared.VariableOpened.{VariableOpened}
-use Rattle.stream_open_variable.specs.declared.VariableOpened.TheVariants.{Header, Refused as Unheaded}
 use Rattle.stream_open_variable.specs.Variable.{variable_answer, variable_out, variable_next}
 use Rattle.stream_open.specs.Chunks.{step_answer, step_out, ended, step_next}
 use Rattle.stream_chunks.specs.Keeps.{StepKeeps, SealKeeps}
@@ -83,20 +76,20 @@ time_in plain = be 8 (drop 1 plain)
 abbrev pub length_in : List ℕ → ℕ
 length_in plain = be 2 (drop (length plain - 2) plain)
 
-pub data RequestAnswered (a : RequestOpened) : Type 0 where
-  accepted-request : (h : Request) (st : Receiver) → a ≡ Accepted h st → RequestAnswered a
-  refused-request : (r : Refusal) → of_request r ≡ true → a ≡ Unaccepted r → RequestAnswered a
+pub data RequestAnswered (a : Result (Request × Receiver) Refusal) : Type 0 where
+  accepted-request : (h : Request) (st : Receiver) → a ≡ Ok (h, st) → RequestAnswered a
+  refused-request : (r : Refusal) → of_request r ≡ true → a ≡ Err r → RequestAnswered a
 
 -- there is no buffer to write to, and no refusal changes the pool
 pub record RequestKeeps (method : ℕ) (key : List ℕ) (clock : ℕ) (s pool : List ℕ) : Type 0 where
   pub answered : RequestAnswered (opened_request method key clock s pool)
-  pub refused-keeps-pool : (r : Refusal) → opened_request method key clock s pool ≡ Unaccepted r → request_pool method key clock s pool ≡ pool
+  pub refused-keeps-pool : (r : Refusal) → opened_request method key clock s pool ≡ Err r → request_pool method key clock s pool ≡ pool
 
 -- ---- its variable header, which has no pool
 
-pub data VariableAnswered (a : VariableOpened) : Type 0 where
-  opened-variable : (h : VariableHeader) → a ≡ Header h → VariableAnswered a
-  refused-variable : (r : Refusal) → of_variable r ≡ true → a ≡ Unheaded r → VariableAnswered a
+pub data VariableAnswered (a : Result VariableHeader Refusal) : Type 0 where
+  opened-variable : (h : VariableHeader) → a ≡ Ok h → VariableAnswered a
+  refused-variable : (r : Refusal) → of_variable r ≡ true → a ≡ Err r → VariableAnswered a
 
 -- the bytes due: the variable header's
 abbrev pub due_variable : Turn → ℕ
@@ -108,20 +101,20 @@ due_variable Ended = 0
 pub record VariableKeeps (st : Receiver) (s out : List ℕ) : Type 0 where
   pub answered : VariableAnswered (variable_answer st s (length out))
   -- none but 5 touches the buffer
-  pub untouched : (r : Refusal) → variable_answer st s (length out) ≡ Unheaded r → (refusal_number r ≡ 5 → ⊥) → variable_out st s out ≡ out
+  pub untouched : (r : Refusal) → variable_answer st s (length out) ≡ Err r → (refusal_number r ≡ 5 → ⊥) → variable_out st s out ≡ out
   -- and 5 sets the bytes due to zero
-  pub cleared : variable_answer st s (length out) ≡ Unheaded Malformed
+  pub cleared : variable_answer st s (length out) ≡ Err Malformed
       → (due_variable st.turn ≤ length out) × (variable_out st s out ≡ put out 0 (replicate (due_variable st.turn) 0))
   -- the bytes past them never change, whatever is answered
   pub past-due-kept : drop (due_variable st.turn) (variable_out st s out) ≡ drop (due_variable st.turn) out
   pub length-kept : length (variable_out st s out) ≡ length out
   -- 4 and 5 end the stream, and no other refusal moves it
-  pub ends : (r : Refusal) → variable_answer st s (length out) ≡ Unheaded r → ends_variable r ≡ true
+  pub ends : (r : Refusal) → variable_answer st s (length out) ≡ Err r → ends_variable r ≡ true
       → variable_next st (variable_answer st s (length out)) ≡ ended st
-  pub refused-keeps-state : (r : Refusal) → variable_answer st s (length out) ≡ Unheaded r → ends_variable r ≡ false
+  pub refused-keeps-state : (r : Refusal) → variable_answer st s (length out) ≡ Err r → ends_variable r ≡ false
       → variable_next st (variable_answer st s (length out)) ≡ st
   -- a stream that has ended opens nothing any more
-  pub ended-refuses : (key_length st.method ≡ 0 → ⊥) → (bytes : List ℕ) (room : ℕ) → variable_answer (ended st) bytes room ≡ Unheaded NotAuthentic
+  pub ended-refuses : (key_length st.method ≡ 0 → ⊥) → (bytes : List ℕ) (room : ℕ) → variable_answer (ended st) bytes room ≡ Err NotAuthentic
 
 -- Where bytes are missing the same call is made again, with t behind them: it goes on from a state and a buffer that are as they
 -- were, so it is one call on all bytes. With as many as were wanted none is missing any more.
@@ -134,37 +127,37 @@ pub record MoreAgain (st : Receiver) (s out : List ℕ) (wanted : ℕ) (t : List
       ≡ variable_out st (s ++ t) out
   pub same-stream : variable_next (variable_next st (variable_answer st s (length out))) (variable_answer st (s ++ t) (length out))
       ≡ variable_next st (variable_answer st (s ++ t) (length out))
-  pub enough : wanted ≤ length (s ++ t) → (more : ℕ) → variable_answer st (s ++ t) (length out) ≡ Unheaded (More more) → ⊥
+  pub enough : wanted ≤ length (s ++ t) → (more : ℕ) → variable_answer st (s ++ t) (length out) ≡ Err (More more) → ⊥
 
 abbrev pub MoreAsksAgain : Type 0
 MoreAsksAgain =
-    (st : Receiver) (s out : List ℕ) (wanted : ℕ) → variable_answer st s (length out) ≡ Unheaded (More wanted)
+    (st : Receiver) (s out : List ℕ) (wanted : ℕ) → variable_answer st s (length out) ≡ Err (More wanted)
     → (t : List ℕ) → MoreAgain st s out wanted t
 
 -- ---- turns: a call on a stream at another turn is 1 and leaves it; one that has ended is at no turn, and is 4
 
 pub record Turns (st : Receiver) (s out : List ℕ) : Type 0 where
   pub step-at-variable : (n : ℕ) → st.turn ≡ Variable n
-      → (step_answer st s (length out) ≡ Unopened Settings)
+      → (step_answer st s (length out) ≡ Err Settings)
       × ((step_next st (step_answer st s (length out)) ≡ st) × (step_out st s out ≡ out))
   pub variable-at-length : st.turn ≡ Length
-      → (variable_answer st s (length out) ≡ Unheaded Settings)
+      → (variable_answer st s (length out) ≡ Err Settings)
       × ((variable_next st (variable_answer st s (length out)) ≡ st) × (variable_out st s out ≡ out))
   pub variable-at-payload : (n : ℕ) → st.turn ≡ Payload n
-      → (variable_answer st s (length out) ≡ Unheaded Settings)
+      → (variable_answer st s (length out) ≡ Err Settings)
       × ((variable_next st (variable_answer st s (length out)) ≡ st) × (variable_out st s out ≡ out))
   -- the call for the front hands on counter 1
   pub variable-at-other-counter : (st.counter ≡ 1 → ⊥) → (st.turn ≡ Ended → ⊥)
-      → (variable_answer st s (length out) ≡ Unheaded Settings)
+      → (variable_answer st s (length out) ≡ Err Settings)
       × ((variable_next st (variable_answer st s (length out)) ≡ st) × (variable_out st s out ≡ out))
-  pub step-ended : (key_length st.method ≡ 0 → ⊥) → st.turn ≡ Ended → step_answer st s (length out) ≡ Unopened NotAuthentic
-  pub variable-ended : (key_length st.method ≡ 0 → ⊥) → st.turn ≡ Ended → variable_answer st s (length out) ≡ Unheaded NotAuthentic
+  pub step-ended : (key_length st.method ≡ 0 → ⊥) → st.turn ≡ Ended → step_answer st s (length out) ≡ Err NotAuthentic
+  pub variable-ended : (key_length st.method ≡ 0 → ⊥) → st.turn ≡ Ended → variable_answer st s (length out) ≡ Err NotAuthentic
 
 -- ---- a response's head, which writes nothing
 
-pub data ResponseAnswered (a : ResponseOpened) : Type 0 where
-  accepted-response : (h : Response) (st : Receiver) → a ≡ Answered h st → ResponseAnswered a
-  refused-response : (r : Refusal) → of_response r ≡ true → a ≡ Unanswered r → ResponseAnswered a
+pub data ResponseAnswered (a : Result (Response × Receiver) Refusal) : Type 0 where
+  accepted-response : (h : Response) (st : Receiver) → a ≡ Ok (h, st) → ResponseAnswered a
+  refused-response : (r : Refusal) → of_response r ≡ true → a ≡ Err r → ResponseAnswered a
 
 -- ---- sealing
 

@@ -1,6 +1,6 @@
 -- Demand 2 for streams: when exactly a head is accepted, and a piece opened.
 -- Assumes nothing.
-use Rattle.std.specs.Prelude.{◌≡◌, true, List, ◌↔◌, ℕ, ◌+◌, ◌≤◌, ◌<◌, length, get_or, take}
+use Rattle.std.specs.Prelude.{◌≡◌, true, List, ◌↔◌, ℕ, ◌+◌, ◌≤◌, ◌<◌, length, get_or, take, Err, Ok, Some}
 use Rattle.octets.specs.Buffers.{put}
 use Rattle.octets.specs.Numbers.{be}
 use Rattle.protocol.specs.declared.Refusal.TheVariants.{Empty}
@@ -8,7 +8,6 @@ use Rattle.protocol.specs.Subkey.{subkey}
 use Rattle.protocol.specs.Method.{key_fits, key_length, salt_length}
 use Rattle.protocol.specs.Time.{time_valid}
 use Rattle.socks5.specs.declared.Address.{Address}
-use Rattle.socks5.specs.declared.Parsed.TheVariants.{Found}
 use Rattle.socks5.specs.Address.{parse_at}
 use Rattle.salt_pool.specs.Pool.{store}
 use Rattle.salt_pool.specs.Runs.{Unkept, LowestFree}
@@ -20,16 +19,12 @@ use Rattle.stream_heads.specs.Heads.{max_padding, front_length, fixed_of}
 use Rattle.stream_open.specs.declared.Turn.TheVariants.{Variable, Length, Payload}
 use Rattle.stream_open.specs.declared.Receiver.{Receiver}
 use Rattle.stream_open.specs.declared.Chunk.{Chunk}
-use Rattle.stream_open.specs.declared.Stepped.TheVariants.{Opened, Refused as Unopened}
 use Rattle.stream_open_response.specs.declared.Response.{Response}
-use Rattle.stream_open_response.specs.declared.ResponseOpened.TheVariants.{Accepted as Answered, Refused as Unanswered}
 use Rattle.stream_open_request.specs.declared.Request.{Request}
-use Rattle.stream_open_request.specs.declared.RequestOpened.TheVariants.{Accepted}
 use Rattle.stream_open.specs.Chunks.{receiver, stream_key, step_answer, step_out}
 use Rattle.stream_open_response.specs.Responses.{binding_of, opened_response}
 use Rattle.stream_open_request.specs.Requests.{settings, opened_request, request_pool}
 use Rattle.stream_open_variable.specs.declared.VariableHeader.{VariableHeader}
-use Rattle.stream_open_variable.specs.declared.VariableOpened.TheVariants.{Header}
 use Rattle.stream_open_variable.specs.Variable.{padding_at, variable_answer, variable_out, variable_next}
 use Rattle.demands.specs.StreamsKeep.{salt_of, time_in, length_in}
 
@@ -59,8 +54,8 @@ pub record RequestOpens (method : ℕ) (key : List ℕ) (clock : ℕ) (s pool : 
   pub stream : st ≡ receiver method (Variable size) 1 (subkey_words (subkey key (salt_of method s)))
 
 pub record RequestExactly (method : ℕ) (key : List ℕ) (clock : ℕ) (s pool : List ℕ) (h : Request) (st : Receiver) : Type 0 where
-  pub only-when : opened_request method key clock s pool ≡ Accepted h st → RequestOpens method key clock s pool h st
-  pub always-when : RequestOpens method key clock s pool h st → opened_request method key clock s pool ≡ Accepted h st
+  pub only-when : opened_request method key clock s pool ≡ Ok (h, st) → RequestOpens method key clock s pool h st
+  pub always-when : RequestOpens method key clock s pool h st → opened_request method key clock s pool ≡ Ok (h, st)
   -- the salt is in that record, with the clock
   pub salt-stored : (d : RequestOpens method key clock s pool h st)
       → request_pool method key clock s pool ≡ store pool d.place clock (salt_of method s)
@@ -73,7 +68,7 @@ RequestExactlyWhen =
 -- both; h is what it says
 pub record ValidVariable (size : ℕ) (plain : List ℕ) (h : VariableHeader) : Type 0 where
   pub address : Address
-  pub address-found : parse_at plain 0 ≡ Found address
+  pub address-found : parse_at plain 0 ≡ Some address
   pub length-there : address.end + 2 ≤ length plain
   pub padding-short : padding_at address.end plain ≤ max_padding
   pub padding-there : address.end + 2 + padding_at address.end plain ≤ length plain
@@ -103,11 +98,11 @@ pub record VariableOpens (st : Receiver) (s : List ℕ) (room : ℕ) (h : Variab
   pub valid : ValidVariable size (open_at (stream_key st) 1 (variable_at size s)) h
 
 pub record VariableExactly (st : Receiver) (s out : List ℕ) (h : VariableHeader) : Type 0 where
-  pub only-when : variable_answer st s (length out) ≡ Header h → VariableOpens st s (length out) h
-  pub always-when : VariableOpens st s (length out) h → variable_answer st s (length out) ≡ Header h
+  pub only-when : variable_answer st s (length out) ≡ Ok h → VariableOpens st s (length out) h
+  pub always-when : VariableOpens st s (length out) h → variable_answer st s (length out) ≡ Ok h
   -- its plaintext is in the buffer, and a length is next, with counter 2
   pub opened-text : (d : VariableOpens st s (length out) h) → variable_out st s out ≡ put out 0 (open_at (stream_key st) 1 (variable_at d.size s))
-  pub length-next : variable_answer st s (length out) ≡ Header h
+  pub length-next : variable_answer st s (length out) ≡ Ok h
       → variable_next st (variable_answer st s (length out)) ≡ receiver st.method Length 2 st.subkey
 
 abbrev pub VariableExactlyWhen : Type 0
@@ -127,8 +122,8 @@ pub record ResponseOpens (method : ℕ) (key : List ℕ) (clock : ℕ) (request_
   pub stream : st ≡ receiver method (Payload size) 1 (subkey_words (subkey key (salt_of method s)))
 
 pub record ResponseExactly (method : ℕ) (key : List ℕ) (clock : ℕ) (request_salt s : List ℕ) (h : Response) (st : Receiver) : Type 0 where
-  pub only-when : opened_response method key clock request_salt s ≡ Answered h st → ResponseOpens method key clock request_salt s h st
-  pub always-when : ResponseOpens method key clock request_salt s h st → opened_response method key clock request_salt s ≡ Answered h st
+  pub only-when : opened_response method key clock request_salt s ≡ Ok (h, st) → ResponseOpens method key clock request_salt s h st
+  pub always-when : ResponseOpens method key clock request_salt s h st → opened_response method key clock request_salt s ≡ Ok (h, st)
 
 abbrev pub ResponseExactlyWhen : Type 0
 ResponseExactlyWhen =
@@ -148,7 +143,7 @@ abbrev pub ResponseEmptyExactlyWhen : Type 0
 ResponseEmptyExactlyWhen =
     (method : ℕ) (key : List ℕ) (clock : ℕ) (request_salt s : List ℕ) → key_fits method (length key) ≡ true
     → length request_salt ≡ salt_length method
-    → (opened_response method key clock request_salt s ≡ Unanswered Empty) ↔ ResponseEmpty method key clock request_salt s
+    → (opened_response method key clock request_salt s ≡ Err Empty) ↔ ResponseEmpty method key clock request_salt s
 
 -- ---- a step is accepted exactly when
 
@@ -163,7 +158,7 @@ pub record StepEmpty (st : Receiver) (s : List ℕ) (room : ℕ) : Type 0 where
   pub says-0 : be 2 (open_at (stream_key st) st.counter (take 18 s)) ≡ 0
 
 abbrev pub StepEmptyExactlyWhen : Type 0
-StepEmptyExactlyWhen = (st : Receiver) (s : List ℕ) (room : ℕ) → (step_answer st s room ≡ Unopened Empty) ↔ StepEmpty st s room
+StepEmptyExactlyWhen = (st : Receiver) (s : List ℕ) (room : ℕ) → (step_answer st s room ≡ Err Empty) ↔ StepEmpty st s room
 
 -- ---- the bytes behind those used are not read
 
@@ -174,12 +169,12 @@ Begins n s t = take n t ≡ take n s
 -- what an accepted call answers and leaves, it answers and leaves for every string that begins with the bytes used
 pub record BeyondUnread : Type 0 where
   pub requests : (method : ℕ) (key : List ℕ) (clock : ℕ) (s t pool : List ℕ) (h : Request) (st : Receiver)
-      → opened_request method key clock s pool ≡ Accepted h st → Begins h.used s t
-      → (opened_request method key clock t pool ≡ Accepted h st) × (request_pool method key clock t pool ≡ request_pool method key clock s pool)
-  pub variable-headers : (st : Receiver) (s t out : List ℕ) (h : VariableHeader) → variable_answer st s (length out) ≡ Header h
-      → Begins h.used s t → (variable_answer st t (length out) ≡ Header h) × (variable_out st t out ≡ variable_out st s out)
+      → opened_request method key clock s pool ≡ Ok (h, st) → Begins h.used s t
+      → (opened_request method key clock t pool ≡ Ok (h, st)) × (request_pool method key clock t pool ≡ request_pool method key clock s pool)
+  pub variable-headers : (st : Receiver) (s t out : List ℕ) (h : VariableHeader) → variable_answer st s (length out) ≡ Ok h
+      → Begins h.used s t → (variable_answer st t (length out) ≡ Ok h) × (variable_out st t out ≡ variable_out st s out)
   pub responses : (method : ℕ) (key : List ℕ) (clock : ℕ) (request_salt s t : List ℕ) (h : Response) (st : Receiver) → key_fits method (length key) ≡ true
-      → length request_salt ≡ salt_length method → opened_response method key clock request_salt s ≡ Answered h st → Begins h.used s t
-      → opened_response method key clock request_salt t ≡ Answered h st
-  pub steps : (st : Receiver) (s t out : List ℕ) (c : Chunk) → step_answer st s (length out) ≡ Opened c → Begins c.used s t
-      → (step_answer st t (length out) ≡ Opened c) × (step_out st t out ≡ step_out st s out)
+      → length request_salt ≡ salt_length method → opened_response method key clock request_salt s ≡ Ok (h, st) → Begins h.used s t
+      → opened_response method key clock request_salt t ≡ Ok (h, st)
+  pub steps : (st : Receiver) (s t out : List ℕ) (c : Chunk) → step_answer st s (length out) ≡ Ok c → Begins c.used s t
+      → (step_answer st t (length out) ≡ Ok c) × (step_out st t out ≡ step_out st s out)

@@ -1,3 +1,4 @@
+pub mod CurrentLaws
 pub mod Edges
 pub mod Numbers
 pub mod PlanNumbers

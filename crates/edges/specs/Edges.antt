@@ -6,15 +6,12 @@
 --   P10, P11    a name of one byte is an address, an empty name is 5;
 --   P12         entry 53 (hex) of the substitution is ed.
 -- Assumes nothing.
-use Rattle.std.specs.Prelude.{Bool, true, false, cond, not, ◌&&◌, List, [], ◌∷◌, ℕ, ◌-◌, ◌^◌, T, eqb, get_or}
-use Rattle.std.proofs.Math.Option.{none}
+use Rattle.std.specs.Prelude.{Bool, true, false, cond, not, ◌&&◌, List, [], ◌∷◌, ℕ, ◌-◌, ◌^◌, T, eqb, get_or, Err, None, Ok, Option, Result, Some}
 use Rattle.aes_tables.specs.SBox.{s_box}
 use Rattle.protocol.specs.Time.{time_valid}
 use Rattle.protocol.specs.Refusal.{refusal_number}
 use Rattle.socks5.specs.declared.Target.{Target}
 use Rattle.socks5.specs.declared.Target.TheVariants.{V4, V6, Name}
-use Rattle.socks5.specs.declared.Parsed.{Parsed}
-use Rattle.socks5.specs.declared.Parsed.TheVariants.{Found, Malformed}
 use Rattle.socks5.specs.Address.{parse_at}
 use Rattle.session_record.specs.declared.Peer.{Peer}
 use Rattle.records.specs.Records.{current}
@@ -25,9 +22,10 @@ use Rattle.session_book.specs.Runs.{table_outcome_by}
 use Rattle.session_book.specs.Demand3.{view_of_page, view_of_record}
 use Rattle.datagram_parts.specs.declared.Side.TheVariants.{Client}
 use Rattle.datagram_parts.specs.Headers.{plaintext}
-use Rattle.datagram_read.specs.declared.Opened.{Opened}
-use Rattle.datagram_read.specs.declared.Opened.TheVariants.{Datagram, Refused}
 use Rattle.datagram_read.specs.Opening.{read_main}
+use Rattle.socks5.specs.declared.Address.{Address}
+use Rattle.datagram_read.specs.declared.Header.{Header}
+use Rattle.protocol.specs.declared.Refusal.{Refusal}
 
 pub record Row : Type 0 where
   pub edge : ℕ
@@ -54,23 +52,23 @@ abbrev pub no_name : List ℕ
 no_name = 3 ∷ 0 ∷ 0 ∷ 0x50 ∷ []
 
 -- the address is a name with this place, length and port, and ends here
-abbrev pub is_name : Parsed → (place n port end : ℕ) → Bool
-is_name (Found a) place n port end = named a.target && eqb a.port port && eqb a.end end
+abbrev pub is_name : Option Address → (place n port end : ℕ) → Bool
+is_name (Some a) place n port end = named a.target && eqb a.port port && eqb a.end end
   where
     named : Target → Bool
     named (V4 x) = false
     named (V6 x y) = false
     named (Name q m) = eqb q place && eqb m n
-is_name Malformed place n port end = false
+is_name None place n port end = false
 
-abbrev pub is_malformed : Parsed → Bool
-is_malformed (Found a) = false
-is_malformed Malformed = true
+abbrev pub is_malformed : Option Address → Bool
+is_malformed (Some a) = false
+is_malformed None = true
 
 -- the refusal's number, 0 for a header
-abbrev pub number_of : Opened → ℕ
-number_of (Datagram h) = 0
-number_of (Refused r) = refusal_number r
+abbrev pub number_of : Result Header Refusal → ℕ
+number_of (Ok h) = 0
+number_of (Err r) = refusal_number r
 
 -- what a client's datagram of a time with an address is answered at a clock
 abbrev pub read_at : (clock time : ℕ) → List ℕ → ℕ
@@ -106,7 +104,7 @@ answer_number (refused n) = n
 answer_number (opened h) = 0
 
 abbrev pub ask : Call
-ask = record { clock = 1000; peer = home; datagram = []; output = []; client = none }
+ask = record { clock = 1000; peer = home; datagram = []; output = []; client = None }
 
 -- what a packet ID is answered by the book of a page, and by the table of a record
 abbrev pub by_page : Page → ℕ → ℕ

@@ -2,16 +2,13 @@
 -- what it should be, written out as the scope has it. A size, a layout or a byte order that is changed alike in a definition and
 -- in the code still meets the contract; it does not meet this table.
 -- Assumes nothing.
-use Rattle.std.specs.Prelude.{◌≡◌, Bool, true, false, cond, ◌&&◌, List, [], ◌∷◌, ◌++◌, map, ℕ, zero, suc, ◌+◌, ◌-◌, ◌*◌, ◌^◌, T, length, get_or, take, drop, replicate}
-use Rattle.std.proofs.Math.Option.{Option, none, some}
+use Rattle.std.specs.Prelude.{◌≡◌, Bool, true, false, cond, ◌&&◌, List, [], ◌∷◌, ◌++◌, map, ℕ, zero, suc, ◌+◌, ◌-◌, ◌*◌, ◌^◌, T, length, get_or, take, drop, replicate, Err, None, Ok, Option, Result, Some}
 use Rattle.octets.specs.Buffers.{same}
 use Rattle.aes.specs.Keyed.{nk_of}
 use Rattle.blake3.specs.Tree.{derive_key}
 use Rattle.protocol.specs.declared.Cipher.{Cipher}
 use Rattle.protocol.specs.declared.Cipher.TheVariants.{AesGcm, ChaChaPoly}
 use Rattle.protocol.specs.declared.Method.{Method}
-use Rattle.protocol.specs.declared.Numbered.{Numbered}
-use Rattle.protocol.specs.declared.Numbered.TheVariants.{Known, Unknown}
 use Rattle.protocol.specs.Method.{method_of, key_fits, key_length, salt_length}
 use Rattle.protocol.specs.declared.Refusal.{Refusal}
 use Rattle.protocol.specs.declared.Refusal.TheVariants.{Settings, Length, Room, NotAuthentic, Malformed, WrongType, WrongTime, Replay, Full, More, Counter, Argument, Binding, Empty, UnknownSetting}
@@ -20,8 +17,6 @@ use Rattle.protocol.specs.Subkey.{subkey, session_subkey}
 use Rattle.protocol.specs.Time.{tolerance}
 use Rattle.socks5.specs.declared.Target.{Target}
 use Rattle.socks5.specs.declared.Target.TheVariants.{V4, V6, Name}
-use Rattle.socks5.specs.declared.Parsed.{Parsed}
-use Rattle.socks5.specs.declared.Parsed.TheVariants.{Found, Malformed as NoAddress}
 use Rattle.socks5.specs.Address.{parse_at, is_address}
 use Rattle.session_window.specs.Window.{window, join4}
 use Rattle.session_table.specs.Sizes.{capacity}
@@ -33,12 +28,8 @@ use Rattle.datagram_parts.specs.declared.Side.{Side}
 use Rattle.datagram_parts.specs.declared.Side.TheVariants.{Client, Server}
 use Rattle.datagram_parts.specs.Headers.{separate_header, nonce, type_of, fixed_part, fixed_length, plaintext, main_start, sealed_text}
 use Rattle.datagram_parts.specs.Parts.{max_datagram, overhead, nonce_fits}
-use Rattle.datagram_seal.specs.declared.Begun.TheVariants.{Ready, Refused as NotBegun}
-use Rattle.datagram_seal.specs.declared.Sealed.TheVariants.{Datagram, Refused as NoDatagram}
 use Rattle.datagram_seal.specs.Sealing.{sealed_length}
 use Rattle.reply_session.specs.Beginning.{reply_begun}
-use Rattle.datagram_read.specs.declared.Opened.{Opened}
-use Rattle.datagram_read.specs.declared.Opened.TheVariants.{Datagram, Refused}
 use Rattle.datagram_read.specs.Opening.{read_main}
 use Rattle.datagram_open.specs.Deciding.{belongs}
 use Rattle.stream_pieces.specs.Pieces.{nonce as counter_nonce, max_chunk, last_counter}
@@ -50,8 +41,6 @@ use Rattle.stream_open.specs.declared.Receiver.{Receiver}
 use Rattle.stream_pieces.specs.Framing.{framing_of}
 use Rattle.stream_open.specs.Chunks.{step_answer}
 use Rattle.stream_open.specs.Steps.{length_answer}
-use Rattle.stream_open.specs.declared.Stepped.TheVariants.{Opened as StepOpened, Refused as StepRefused}
-use Rattle.stream_open_variable.specs.declared.VariableOpened.TheVariants.{Refused as Unheaded}
 use Rattle.stream_open_variable.specs.Variable.{variable_answer, variable_next}
 use Rattle.words.specs.Answers.{answer_words, kind_of, header_words, variable_words, head_words, chunk_words, refused_answer}
 use Rattle.words.specs.States.{session_size, session_words, stream_size, sender_words, receiver_words, receiver_lawful}
@@ -59,6 +48,8 @@ use Rattle.stream_answers.specs.Told.{variable_number, variable_told, variable_s
 use Rattle.relay.specs.Streams.{not_sealing}
 use Rattle.relay.specs.Datagrams.{settings_number, begun_words, sealed, opened_number, opened_words, caller_of}
 use Rattle.edges.specs.Edges.{home, name_a, number_of}
+use Rattle.socks5.specs.declared.Address.{Address}
+use Rattle.datagram_read.specs.declared.Header.{Header}
 
 pub record Fact : Type 0 where
   pub says : List ℕ
@@ -88,9 +79,9 @@ double_rounds AesGcm = 0
 double_rounds (ChaChaPoly n) = n
 
 -- number, key, salt, rounds and double rounds
-abbrev pub sizes_of : Numbered → List ℕ
-sizes_of (Known m) = m.number ∷ m.key ∷ m.salt ∷ m.rounds ∷ double_rounds m.cipher ∷ []
-sizes_of Unknown = []
+abbrev pub sizes_of : Option Method → List ℕ
+sizes_of (Some m) = m.number ∷ m.key ∷ m.salt ∷ m.rounds ∷ double_rounds m.cipher ∷ []
+sizes_of None = []
 
 abbrev pub refusals : List Refusal
 refusals =
@@ -241,9 +232,9 @@ target_words (V4 a) = 1 ∷ a ∷ []
 target_words (V6 a b) = 4 ∷ a ∷ b ∷ []
 target_words (Name place n) = 3 ∷ place ∷ n ∷ []
 
-abbrev pub parsed_words : Parsed → List ℕ
-parsed_words (Found a) = target_words a.target ++ (a.port ∷ a.end ∷ [])
-parsed_words NoAddress = []
+abbrev pub parsed_words : Option Address → List ℕ
+parsed_words (Some a) = target_words a.target ++ (a.port ∷ a.end ∷ [])
+parsed_words None = []
 
 -- the kind bytes below n that an address may have
 abbrev pub kinds_below : ℕ → List ℕ
@@ -286,20 +277,20 @@ abbrev pub answered_inner : Side → List ℕ → ℕ
 answered_inner side plain = number_of (read_main (main_start (ChaChaPoly 10)) side 1000 0 0 plain)
 
 -- the place of the payload
-abbrev pub payload_at : Opened → ℕ
-payload_at (Datagram h) = h.payload
-payload_at (Refused r) = 0
+abbrev pub payload_at : Result Header Refusal → ℕ
+payload_at (Ok h) = h.payload
+payload_at (Err r) = 0
 
 abbrev pub inner : Side → List ℕ
 inner side = sealed_text (ChaChaPoly 10) id18 5 side 1000 0 name_a []
 
 abbrev pub is_some : Option ℕ → Bool
-is_some (some id) = true
-is_some none = false
+is_some (Some id) = true
+is_some None = false
 
 -- whether a datagram of n bytes names a session under a method and a key of k bytes
 abbrev pub named : (method k n : ℕ) → Bool
-named method k n = is_some (belongs method (replicate k 0) (record { clock = 0; peer = home; datagram = replicate n 0; output = []; client = none }))
+named method k n = is_some (belongs method (replicate k 0) (record { clock = 0; peer = home; datagram = replicate n 0; output = []; client = None }))
 
 unfoldable pub datagram_facts : List Fact
 datagram_facts =
@@ -446,7 +437,7 @@ lent_stream = 1 ∷ 1 ∷ 2 ∷ 0 ∷ 4 ∷ 5 ∷ 6 ∷ 7 ∷ []
 
 -- its turn behind a step that was refused
 abbrev pub turn_behind : Refusal → ℕ
-turn_behind r = get_or (step_stream (StepRefused r) (stream_at LengthTurn) lent_stream) 0 0
+turn_behind r = get_or (step_stream (Err r) (stream_at LengthTurn) lent_stream) 0 0
 
 -- session 7 in the last record, and what beginning a reply session answers
 abbrev pub known63 : List ℕ
@@ -458,29 +449,29 @@ reply t clock id client = (begun_words (reply_begun t clock id client) []).numbe
 -- and behind a variable header's call that was refused
 abbrev pub turn_after_header : Refusal → ℕ
 turn_after_header r =
-    get_or (variable_stream (Unheaded r) (variable_next (between 3) (Unheaded r)) (4 ∷ 1 ∷ 1 ∷ 3 ∷ 4 ∷ 5 ∷ 6 ∷ 7 ∷ [])) 0 0
+    get_or (variable_stream (Err r) (variable_next (between 3) (Err r)) (4 ∷ 1 ∷ 1 ∷ 3 ∷ 4 ∷ 5 ∷ 6 ∷ 7 ∷ [])) 0 0
 
 unfoldable pub host_facts : List Fact
 host_facts =
     fact (settings_number true ∷ settings_number false ∷ []) (0 ∷ 1 ∷ [])
     -- beginning
-    ∷ number (begun_words (Ready (record { side = Client; id = 2; packet = 0 })) []).number 0
-    ∷ fact ((begun_words (NotBegun Argument) (7 ∷ [])).number ∷ (begun_words (NotBegun Argument) (7 ∷ [])).session) (12 ∷ 7 ∷ [])
+    ∷ number (begun_words (Ok (record { side = Client; id = 2; packet = 0 })) []).number 0
+    ∷ fact ((begun_words (Err Argument) (7 ∷ [])).number ∷ (begun_words (Err Argument) (7 ∷ [])).session) (12 ∷ 7 ∷ [])
     -- a reply session, where session 7 is in record 63 with the last time 1,000 and R is 60: its ID is taken up to 1,060 and free at
     -- 1,061; the client's own never is; another is; a table that is not lawful comes first
     ∷ fact (reply known63 1060 7 1 ∷ reply known63 1061 7 1 ∷ reply known63 1061 7 7 ∷ reply known63 1000 8 1 ∷ []) (12 ∷ 0 ∷ 12 ∷ 0 ∷ [])
     ∷ fact (reply (lent 705 60) 1000 7 7 ∷ reply (lent 833 59) 1000 7 7 ∷ reply (lent 833 60) 1000 7 7 ∷ []) (1 ∷ 1 ∷ 12 ∷ [])
     -- a sealed datagram: one packet ID further, and its length; refused, nothing
-    ∷ fact (sealed (Datagram 48) [] (1 ∷ 2 ∷ 3 ∷ 4 ∷ []) [] sevens).session (1 ∷ 2 ∷ 3 ∷ 5 ∷ [])
-    ∷ fact (sealed (Datagram 48) [] (1 ∷ 2 ∷ 3 ∷ 4 ∷ []) [] sevens).answer (48 ∷ replicate 8 7)
-    ∷ fact (sealed (NoDatagram Counter) [] (1 ∷ 2 ∷ 3 ∷ 4 ∷ []) [] sevens).session (1 ∷ 2 ∷ 3 ∷ 4 ∷ [])
-    ∷ fact ((sealed (NoDatagram Counter) [] [] [] sevens).number ∷ (sealed (NoDatagram Counter) [] [] [] sevens).answer) (11 ∷ sevens)
+    ∷ fact (sealed (Ok 48) [] (1 ∷ 2 ∷ 3 ∷ 4 ∷ []) [] sevens).session (1 ∷ 2 ∷ 3 ∷ 5 ∷ [])
+    ∷ fact (sealed (Ok 48) [] (1 ∷ 2 ∷ 3 ∷ 4 ∷ []) [] sevens).answer (48 ∷ replicate 8 7)
+    ∷ fact (sealed (Err Counter) [] (1 ∷ 2 ∷ 3 ∷ 4 ∷ []) [] sevens).session (1 ∷ 2 ∷ 3 ∷ 4 ∷ [])
+    ∷ fact ((sealed (Err Counter) [] [] [] sevens).number ∷ (sealed (Err Counter) [] [] [] sevens).answer) (11 ∷ sevens)
     -- an opened one: the refusal's number, and no word of the answer
     ∷ fact (opened_number (refused 8) ∷ opened_words (refused 8) sevens) (8 ∷ sevens)
     -- only 10 writes a word: how many bytes are wanted
     ∷ fact (refused_answer (More 43) sevens) (43 ∷ replicate 8 7)
     ∷ fact (refused_answer Room sevens) sevens
-    ∷ fact (stepped_answer (StepOpened (record { used = 18; length = 5 })) sevens) (18 ∷ 5 ∷ replicate 7 7)
+    ∷ fact (stepped_answer (Ok (record { used = 18; length = 5 })) sevens) (18 ∷ 5 ∷ replicate 7 7)
     -- of all refusals 4, 5 and 14 end a stream
     ∷ fact (map turn_behind refusals) (1 ∷ 1 ∷ 1 ∷ 0 ∷ 0 ∷ 1 ∷ 1 ∷ 1 ∷ 1 ∷ 1 ∷ 1 ∷ 1 ∷ 1 ∷ 0 ∷ 1 ∷ [])
     ∷ fact (map turn_after_header (Settings ∷ NotAuthentic ∷ More 19 ∷ Room ∷ Malformed ∷ [])) (4 ∷ 0 ∷ 4 ∷ 4 ∷ 0 ∷ [])
@@ -502,7 +493,7 @@ RoundsFit AesGcm rounds key = rounds ≡ nk_of key + 6
 RoundsFit (ChaChaPoly d) rounds key = (rounds ≡ 2 * d) × (key ≡ 32)
 
 abbrev pub MethodsFit : Type 0
-MethodsFit = (n : ℕ) (m : Method) → method_of n ≡ Known m → RoundsFit m.cipher m.rounds m.key × (m.salt ≡ m.key)
+MethodsFit = (n : ℕ) (m : Method) → method_of n ≡ Some m → RoundsFit m.cipher m.rounds m.key × (m.salt ≡ m.key)
 
 -- "shadowsocks 2022 session subkey"
 abbrev pub context : List ℕ

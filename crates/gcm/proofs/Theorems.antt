@@ -1,12 +1,12 @@
 -- AES-GCM under a key, on lent buffers: opening gives a text exactly for authentic messages, and what is sealed opens to the
 -- same text. For every key length of AES.
 -- Assumes nothing.
+use Rattle.std.specs.Prelude.{Ok}
 use mathlib.Core.Path.{◌≡◌, sym, ap, ap₂, ◌∙◌}
 use mathlib.Core.Bool.{Bool, true, cond, ◌&&◌}
 use mathlib.Core.List.{List}
 use Prim.Native.Nat.{ℕ}
 use Rattle.octets.specs.Buffers.{put}
-use Rattle.gcm.specs.declared.Opened.TheVariants.{Text}
 use Rattle.gcm.specs.Gcm.{seal, Authentic, opened}
 use Rattle.gcm.specs.Keyed.{ciph_of, open_lawful, authentic, answer, open_answer, open_out}
 use Rattle.gcm.proofs.GcmLaws.{seal-authentic, open-seal, authentic-exactly}
@@ -17,8 +17,8 @@ module _ (key nonce s out : List ℕ) (lawful : open_lawful key nonce s out ≡ 
   unfolding open_answer
   answered = ap (λ (b : Bool). answer b (authentic (ciph_of key) nonce s)) lawful
 
-  pub opens-exactly : (open_answer key nonce s out ≡ Text → Authentic (ciph_of key) nonce s)
-      × (Authentic (ciph_of key) nonce s → open_answer key nonce s out ≡ Text)
+  pub opens-exactly : (open_answer key nonce s out ≡ (Ok tt) → Authentic (ciph_of key) nonce s)
+      × (Authentic (ciph_of key) nonce s → open_answer key nonce s out ≡ (Ok tt))
   opens-exactly = (
     λ e. (authentic-exactly (ciph_of key) nonce s).0 (answer-text (authentic (ciph_of key) nonce s) (sym answered ∙ e)),
     λ a. answered ∙ ap (answer true) ((authentic-exactly (ciph_of key) nonce s).1 a),
@@ -31,7 +31,7 @@ module _ (key nonce s out : List ℕ) (lawful : open_lawful key nonce s out ≡ 
       ((authentic-exactly (ciph_of key) nonce s).1 a)
 
 pub sealed-opens : (key nonce text out : List ℕ) → let s = seal (ciph_of key) nonce text in
-    open_lawful key nonce s out ≡ true → (open_answer key nonce s out ≡ Text) × (open_out key nonce s out ≡ put out 0 text)
+    open_lawful key nonce s out ≡ true → (open_answer key nonce s out ≡ (Ok tt)) × (open_out key nonce s out ≡ put out 0 text)
 sealed-opens key nonce text out lawful =
     let s = seal (ciph_of key) nonce text in
     let a = seal-authentic (ciph_of key) nonce text in

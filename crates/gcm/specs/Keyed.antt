@@ -1,11 +1,11 @@
 -- AES-GCM under a key of bytes, on lent buffers: what is lawful, what is answered and what is written.
-use Rattle.std.specs.Prelude.{Bool, true, false, cond, ◌&&◌, List, ℕ, ◌+◌, ◌-◌, eqb, leb, ltb, length}
+use Rattle.std.specs.Prelude.{◌≡◌, Bool, true, false, cond, ◌&&◌, List, ℕ, ◌+◌, ◌-◌, ◌≤◌, eqb, leb, ltb, length, Err, Ok, Result}
 use Rattle.octets.specs.Buffers.{put, same}
-use Rattle.aes.specs.Keyed.{nk_of}
+use Rattle.aes.specs.Keyed.{nk_of, KeyLength}
 use Rattle.ctr.specs.Gctr.{aes_block}
 use Rattle.gcm.specs.Gcm.{tag_length, tag, seal, text_of, tag_of, opened}
-use Rattle.gcm.specs.declared.Opened.{Opened}
-use Rattle.gcm.specs.declared.Opened.TheVariants.{Text, Forged, Unlawful}
+use Rattle.gcm.specs.declared.OpenError.{OpenError}
+use Rattle.gcm.specs.declared.OpenError.TheVariants.{Forged, Unlawful}
 
 -- the longest text, 2^36 - 32 bytes (5.2.1.1)
 abbrev pub max_text : ℕ
@@ -19,9 +19,14 @@ ciph_of key = aes_block (nk_of (length key)) key
 unfoldable pub fits : ℕ → ℕ → ℕ → ℕ → ℕ → Bool
 fits k n len due room = ltb 0 (nk_of k) && (eqb n 12 && (leb len max_text && leb due room))
 
--- Nk where all that fits, and 0
-unfoldable pub words : ℕ → ℕ → ℕ → ℕ → ℕ → ℕ
-words k n len due room = cond (fits k n len due room) (nk_of k) 0
+-- the same as facts, and Nk
+pub record Fits (k n len due room nk : ℕ) : Type 0 where
+  pub lawful : fits k n len due room ≡ true
+  pub words_are : nk ≡ nk_of k
+  pub key : KeyLength k nk
+  pub nonce : n ≡ 12
+  pub text : len ≤ max_text
+  pub space : due ≤ room
 
 -- sealing asks for room for the text and its tag, and fills that
 unfoldable pub seal_lawful : List ℕ → List ℕ → List ℕ → List ℕ → Bool
@@ -45,12 +50,12 @@ sealed_in_place key nonce s = cond (in_place_lawful key nonce s) (seal (ciph_of 
 unfoldable pub authentic : (ℕ → List ℕ) → List ℕ → List ℕ → Bool
 authentic ciph nonce s = same (tag ciph nonce (text_of s)) (tag_of s)
 
-abbrev pub answer : Bool → Bool → Opened
-answer true true = Text
-answer true false = Forged
-answer false b = Unlawful
+abbrev pub answer : Bool → Bool → Result Unit OpenError
+answer true true = (Ok tt)
+answer true false = (Err Forged)
+answer false b = (Err Unlawful)
 
-unfoldable pub open_answer : List ℕ → List ℕ → List ℕ → List ℕ → Opened
+unfoldable pub open_answer : List ℕ → List ℕ → List ℕ → List ℕ → Result Unit OpenError
 open_answer key nonce s out = answer (open_lawful key nonce s out) (authentic (ciph_of key) nonce s)
 
 unfoldable pub open_out : List ℕ → List ℕ → List ℕ → List ℕ → List ℕ

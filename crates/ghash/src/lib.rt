@@ -2,7 +2,7 @@
 // is the coefficient of x^i.
 #![tactic(auto)]
 
-ghost use Rattle.std.specs.Prelude.{◌≡◌, ◌≤◌, length, drop};
+ghost use Rattle.std.specs.Prelude.{◌≡◌, ◌≤◌, length};
 ghost use Rattle.std.specs.Int.Bits.{bit_xor};
 ghost use Rattle.octets.specs.Buffers.{put};
 ghost use Rattle.octets.specs.Numbers.{be, to_be};
@@ -28,14 +28,13 @@ pub fn add(a: Element, b: Element) -> Element
     }
 }
 
-// The block at a place, with zeros for what is past the end.
-fn block_at(s: &[u8], at: usize) -> Element
-    requires { at ≤ length s.now }
-    ensures { block_of result ≡ be 16 (drop at s.now) }
+// A block that may be short, with zeros for what is past its end.
+fn read_block(s: &[u8]) -> Element
+    ensures { block_of result ≡ be 16 s.now }
 {
     Element {
-        hi: octets::read_u64_be(s, at),
-        lo: octets::read_u64_be(s, at + 8),
+        hi: octets::read_u64_be(s, 0),
+        lo: octets::read_u64_be(s, 8),
     }
 }
 
@@ -53,10 +52,9 @@ pub fn ghash_from(t: &[u64; 128], y: Element, s: &[u8]) -> Element
     requires { TableFor t.now (key_in t.now) }
     ensures { block_of result ≡ ghash_from (key_in t.now) (block_of y) (blocks s.now) }
 {
-    let n = (s.len() + 15) / 16;
     let mut z = y;
-    for i in 0..n {
-        z = product::mul(t, add(z, block_at(s, 16 * i)));
+    for block in s.chunks(16) {
+        z = product::mul(t, add(z, read_block(block)));
     }
     z
 }

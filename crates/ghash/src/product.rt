@@ -66,6 +66,7 @@ fn double(t: &mut [u64; 128], at: usize, m: usize, v: Element)
     requires m_bound { m ≤ 8 }
     ensures { Doubled t.old t.new at m (block_of v) }
 {
+    // An index: entries of one array are read and written.
     for n in 0..m {
         let from = at + n;
         let e = add(

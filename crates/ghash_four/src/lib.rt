@@ -15,43 +15,33 @@ ghost use Rattle.ghash_four.specs.Four.{sum4, Four, power, gathers, word_of};
 use ghash::Element;
 use ghash::product::Long;
 
+// The tables for the hash key and its next three powers.
+#[derive(Clone, Copy)]
+struct Powers<'a> {
+    t4: &'a [u64; 128],
+    t3: &'a [u64; 128],
+    t2: &'a [u64; 128],
+    t1: &'a [u64; 128],
+    ghost four: { Four t4.now t3.now t2.now t1.now },
+}
+
 // The lookups for the last sixteen bits of four words, each in its own table.
-fn lookups_of_four(
-    t4: &[u64; 128],
-    t3: &[u64; 128],
-    t2: &[u64; 128],
-    t1: &[u64; 128],
-    a: u64,
-    b: u64,
-    c: u64,
-    d: u64,
-) -> Element
-    requires { Four t4.now t3.now t2.now t1.now }
+fn lookups_of_four(p: &Powers<'_>, a: u64, b: u64, c: u64, d: u64) -> Element
     ensures { block_of result
-        ≡ sum4 (lookups (key_in t4.now) a 4) (lookups (key_in t3.now) b 4)
-        (lookups (key_in t2.now) c 4) (lookups (key_in t1.now) d 4) }
+        ≡ sum4 (lookups (key_in p.now.t4.now) a 4) (lookups (key_in p.now.t3.now) b 4)
+        (lookups (key_in p.now.t2.now) c 4) (lookups (key_in p.now.t1.now) d 4) }
 {
-    let w = ghash::product::four_lookups(t4, a);
-    let x = ghash::product::four_lookups(t3, b);
-    let y = ghash::product::four_lookups(t2, c);
-    let z = ghash::product::four_lookups(t1, d);
+    let w = ghash::product::four_lookups(p.t4, a);
+    let x = ghash::product::four_lookups(p.t3, b);
+    let y = ghash::product::four_lookups(p.t2, c);
+    let z = ghash::product::four_lookups(p.t1, d);
     ghash::add(ghash::add(w, x), ghash::add(y, z))
 }
 
 // All lookups for four words, from their last bits on.
-fn gather(
-    t4: &[u64; 128],
-    t3: &[u64; 128],
-    t2: &[u64; 128],
-    t1: &[u64; 128],
-    a: u64,
-    b: u64,
-    c: u64,
-    d: u64,
-) -> Long
-    requires { Four t4.now t3.now t2.now t1.now }
+fn gather(p: &Powers<'_>, a: u64, b: u64, c: u64, d: u64) -> Long
     ensures { long_of result
-        ≡ gathers (key_in t4.now) (key_in t3.now) (key_in t2.now) (key_in t1.now) a b c d 4 }
+        ≡ gathers (key_in p.now.t4.now) (key_in p.now.t3.now) (key_in p.now.t2.now) (key_in p.now.t1.now) a b c d 4 }
 {
     let mut z = Long {
         hi: 0,
@@ -60,7 +50,7 @@ fn gather(
     };
     for k in 0..4u64 {
         let m = 16 * k;
-        let e = lookups_of_four(t4, t3, t2, t1, a >> m, b >> m, c >> m, d >> m);
+        let e = lookups_of_four(p, a >> m, b >> m, c >> m, d >> m);
         z = ghash::product::shifted(z, e);
     }
     z
@@ -75,33 +65,14 @@ fn word(x: Element, i: u64) -> u64
 
 // The sum of four products, each with the key of its table: the low words first, and what is made of them 64 steps behind the
 // high ones. One loop for both, so that the lookups stand in one place and in line.
-fn products(
-    t4: &[u64; 128],
-    t3: &[u64; 128],
-    t2: &[u64; 128],
-    t1: &[u64; 128],
-    a: Element,
-    b: Element,
-    c: Element,
-    d: Element,
-) -> Element
-    requires { Four t4.now t3.now t2.now t1.now }
+fn products(p: &Powers<'_>, a: Element, b: Element, c: Element, d: Element) -> Element
     ensures { block_of result
-        ≡ sum4 (mul (block_of a) (key_in t4.now)) (mul (block_of b) (key_in t3.now))
-        (mul (block_of c) (key_in t2.now)) (mul (block_of d) (key_in t1.now)) }
+        ≡ sum4 (mul (block_of a) (key_in p.now.t4.now)) (mul (block_of b) (key_in p.now.t3.now))
+        (mul (block_of c) (key_in p.now.t2.now)) (mul (block_of d) (key_in p.now.t1.now)) }
 {
     let mut z = Element { hi: 0, lo: 0 };
     for i in 0..2u64 {
-        let s = gather(
-            t4,
-            t3,
-            t2,
-            t1,
-            word(a, i),
-            word(b, i),
-            word(c, i),
-            word(d, i),
-        );
+        let s = gather(p, word(a, i), word(b, i), word(c, i), word(d, i));
         z = ghash::product::reduce(ghash::product::add_behind(s, z));
     }
     z
@@ -119,28 +90,19 @@ fn block_at(s: &[u8], at: usize) -> Element
 }
 
 // Four steps of GHASH from y on, over the blocks at a place.
-fn step(
-    t4: &[u64; 128],
-    t3: &[u64; 128],
-    t2: &[u64; 128],
-    t1: &[u64; 128],
-    y: Element,
-    s: &[u8],
-    at: usize,
-) -> Element
-    requires four { Four t4.now t3.now t2.now t1.now }
-    requires at_in_bounds { at + 64 ≤ length s.now }
+fn step(p: &Powers<'_>, y: Element, s: &[u8], at: usize) -> Element
+    requires { at + 64 ≤ length s.now }
     ensures { block_of result
-        ≡ sum4 (mul (bit_xor (block_of y) (be 16 (drop at s.now))) (key_in t4.now))
-        (mul (be 16 (drop (at + 16) s.now)) (key_in t3.now))
-        (mul (be 16 (drop (at + 32) s.now)) (key_in t2.now))
-        (mul (be 16 (drop (at + 48) s.now)) (key_in t1.now)) }
+        ≡ sum4 (mul (bit_xor (block_of y) (be 16 (drop at s.now))) (key_in p.now.t4.now))
+        (mul (be 16 (drop (at + 16) s.now)) (key_in p.now.t3.now))
+        (mul (be 16 (drop (at + 32) s.now)) (key_in p.now.t2.now))
+        (mul (be 16 (drop (at + 48) s.now)) (key_in p.now.t1.now)) }
 {
     let a = ghash::add(y, block_at(s, at));
     let b = block_at(s, at + 16);
     let c = block_at(s, at + 32);
     let d = block_at(s, at + 48);
-    products(t4, t3, t2, t1, a, b, c, d)
+    products(p, a, b, c, d)
 }
 
 // The hash key that a table is for.
@@ -192,10 +154,17 @@ fn by_four(t: &[u64; 128], y: Element, s: &[u8]) -> Element
     let mut t3 = [0u64; 128];
     let mut t4 = [0u64; 128];
     write_powers(&mut t4, &mut t3, &mut t2, t);
+    let p = Powers {
+        t4: &t4,
+        t3: &t3,
+        t2: &t2,
+        t1: t,
+    };
     let n = s.len() / 64;
     let mut z = y;
+    // An index: of chunks_exact the remainder would have to be taken first, which is no plainer.
     for i in 0..n {
-        z = step(&t4, &t3, &t2, t, z, s, 64 * i);
+        z = step(&p, z, s, 64 * i);
     }
     ghash::ghash_from(t, z, &s[64 * n..])
 }

@@ -1,10 +1,10 @@
 -- Demand 3, K11, K12 and K13 of datagrams, over mixed runs.
 -- Assumes nothing.
+use Rattle.std.specs.Prelude.{Err, Ok, Result, None, Some}
 use mathlib.Core.Path.{◌≡◌, refl, sym, ap, ap₂, ◌∙◌, subst}
 use mathlib.Core.Logic.{◌≢◌, ◌↔◌}
 use mathlib.Core.Bool.{Bool, true, false, cond}
 use mathlib.Core.List.{List, [], ◌∷◌, map}
-use mathlib.Core.Option.{none, some}
 use Prim.Native.Nat.{ℕ, ◌≤◌}
 use native.Mathlib.Omega.{arith}
 use lib.Dec.{eqb}
@@ -24,8 +24,6 @@ use Rattle.guarantees.specs.Calls.{Call as HostCall}
 use Rattle.relay.specs.Datagrams as datagrams
 use Rattle.protocol.specs.declared.Refusal.TheVariants.{Argument}
 use Rattle.protocol.specs.Refusal.{refusal_number}
-use Rattle.datagram_seal.specs.declared.Begun.{Begun}
-use Rattle.datagram_seal.specs.declared.Begun.TheVariants.{Ready, Refused as NotBegun}
 use Rattle.reply_session.specs.Beginning.{reply_begun}
 use Rattle.demands.specs.Demand1.{BeginAnswered, begins, refused-1, refused-12}
 use Rattle.demands.specs.Replies.{Clashes, RefusedByBook}
@@ -38,6 +36,8 @@ use Rattle.guarantees.specs.Calls.{relay_session_begin_server, step, lend, Memor
 use Rattle.guarantees.specs.Guarantees.{Replies, Run, LikeBook, Demand3, Rearranged}
 use Rattle.guarantees.proofs.Deciding.{in_words, answer_in_words, outcome_in_words, decides-so}
 use Rattle.guarantees.proofs.Runs.{same_next, same_outcome, table-run, outcome-run, ports, begun}
+use Rattle.datagram_seal.specs.declared.Sender.{Sender}
+use Rattle.protocol.specs.declared.Refusal.{Refusal}
 
 module _ (method : ℕ) (key : List ℕ) where
   abbrev D : Call → Decision (List ℕ)
@@ -56,8 +56,8 @@ module _ (method : ℕ) (key : List ℕ) where
       is_reach (reaches i q x y) = 1
 
       go : (b : Bool) (i q : ℕ) (a y : List ℕ) (n : ℕ) (o : List ℕ) → cond b (reaches i q a y) (early n o) ≡ reaches id p h plain
-          → cond b (some i) none ≡ some id
-      go true i q a y n o f = ap some (ap id_in f)
+          → cond b (Some i) None ≡ Some id
+      go true i q a y n o f = ap Some (ap id_in f)
       go false i q a y n o f = absurd (let z : ◌≡◌ {A = ℕ} 0 1 = ap is_reach f in omega arith)
 
   no-eight : NoEarlyEight D
@@ -137,7 +137,7 @@ module _ (k method : ℕ) (key : List ℕ) (m : Memory) (R : ℕ) (us : List Use
       let b = begun k method key m R us run in
       (theory.demand3 (D method key) (session_of_call method key)).0 R b.least b.greatest cs (ports k method key us run.serves) run.forward
 
-  counted : (id : ℕ) (v : View) → table_session t (last_reading cs) id ≡ some v → CountsCalls (D method key) (session_of_call method key) R cs id v.accepted v.repeats
+  counted : (id : ℕ) (v : View) → table_session t (last_reading cs) id ≡ Some v → CountsCalls (D method key) (session_of_call method key) R cs id v.accepted v.repeats
   counted =
       let b = begun k method key m R us run in
       (theory.demand3 (D method key) (session_of_call method key)).1.1 (named method key) (no-eight method key) R b.least b.greatest cs
@@ -189,12 +189,12 @@ rearranged k method key m R us vs run again order r e room =
 module _ (k method : ℕ) (key : List ℕ) (m : Memory) (R : ℕ) (us : List Use) (run : Run k method key m R us) (id client clock : ℕ)
     (later : last_reading (calls k us) ≤ clock) (u : Use) (c : u.call ≡ relay_session_begin_server id client clock) (there : u.table ≡ k)
     (sized : length ((after m us).sessions u.session) ≡ 4) where
-  abbrev begun_here : Begun
+  abbrev begun_here : Result Sender Refusal
   begun_here = reply_begun ((after m us).tables u.table) clock id client
 
-  abbrev number : Begun → ℕ
-  number (Ready s) = 0
-  number (NotBegun r) = refusal_number r
+  abbrev number : Result Sender Refusal → ℕ
+  number (Ok s) = 0
+  number (Err r) = refusal_number r
 
   returns : (does (after m us) u).number ≡ number begun_here
   unfolding step datagrams.begins
@@ -204,14 +204,14 @@ module _ (k method : ℕ) (key : List ℕ) (m : Memory) (R : ℕ) (us : List Use
       (eq-eqb (length ((after m us).sessions u.session)) 4 sized)
       ∙ go begun_here
     where
-      go : (x : Begun) → (datagrams.begun_words x ((after m us).sessions u.session)).number ≡ number x
-      go (Ready s) = refl
-      go (NotBegun r) = refl
+      go : (x : Result Sender Refusal) → (datagrams.begun_words x ((after m us).sessions u.session)).number ≡ number x
+      go (Ok s) = refl
+      go (Err r) = refl
 
-  refused-12-so : number begun_here ≡ 12 → begun_here ≡ NotBegun Argument
+  refused-12-so : number begun_here ≡ 12 → begun_here ≡ Err Argument
   refused-12-so e = go ((demands.demand1).sessions-begun.servers-answered ((after m us).tables u.table) clock id client)
     where
-      go : BeginAnswered id client begun_here → begun_here ≡ NotBegun Argument
+      go : BeginAnswered id client begun_here → begun_here ≡ Err Argument
       go (begins f) = absurd (let z = sym (ap number f) ∙ e in omega (arith, z))
       go (refused-1 f) = absurd (let z = sym (ap number f) ∙ e in omega (arith, z))
       go (refused-12 f) = f

@@ -1,5 +1,6 @@
 -- What is sealed as a chunk opens to the same payload, of both editions.
 -- Assumes nothing.
+use Rattle.std.specs.Prelude.{Err, Ok, Result}
 use mathlib.Core.Path.{◌≡◌, refl, sym, ap, ap₂, ◌∙◌}
 use mathlib.Core.Logic.{◌≢◌}
 use mathlib.Core.Bool.{Bool, true, false, cond, ◌&&◌, true≢false, and-eq-true_iff}
@@ -15,15 +16,11 @@ use Rattle.octets.proofs.BufferLaws.{take_put}
 use Rattle.protocol.specs.Refusal.{refusal_number}
 use Rattle.stream_pieces.specs.declared.Framing.{Framing}
 use Rattle.stream_pieces.specs.Pieces.{max_chunk, last_counter, length_piece, tag_length}
-use Rattle.stream_seal.specs.declared.Sealed.{Sealed}
-use Rattle.stream_seal.specs.declared.Sealed.TheVariants.{Bytes, Refused as NotSealed}
 use Rattle.stream_seal.specs.declared.Sender.{Sender}
 use Rattle.stream_seal.specs.Sealing.{framed_answer, size_answer, moved, chunk, seal_out}
 use Rattle.stream_open.specs.declared.Turn.TheVariants.{Variable, Length, Payload, Ended}
 use Rattle.stream_open.specs.declared.Receiver.{Receiver}
 use Rattle.stream_open.specs.declared.Chunk.{Chunk}
-use Rattle.stream_open.specs.declared.Stepped.{Stepped}
-use Rattle.stream_open.specs.declared.Stepped.TheVariants.{Opened}
 use Rattle.stream_open.specs.Steps.{step_answer, step_out, step_next}
 use Rattle.stream_chunks.specs.Opens.{Edition}
 use Rattle.stream_chunks.specs.Flows.{sealing, key_for}
@@ -42,6 +39,7 @@ use Rattle.sip004_demands.proofs.Sip004.{sip004-keeps, sip004-back}
 use Rattle.guarantees.specs.Calls.{Lent, step, relay_stream_seal_chunk, relay_stream_open_chunk, relay_sip004_stream_seal_chunk, relay_sip004_stream_open_chunk, sent}
 use Rattle.guarantees.specs.Guarantees.{ChunkBack, ChunksBack}
 use Rattle.guarantees.proofs.Deciding.{not-zero}
+use Rattle.protocol.specs.declared.Refusal.{Refusal}
 
 -- ---- words of a stream and back
 
@@ -88,28 +86,28 @@ midway-lawful s n l = le-leb n max_chunk l
 -- ---- what a call about a chunk leaves
 
 module _ (f : Framing) (w s out answer : List ℕ) (lawful : receiver_lawful w ≡ true) (nine : length answer ≡ 9) where
-  pub opened-as : (st : Receiver) → receiver_in w ≡ st → (c : Chunk) → step_answer f st s (length out) ≡ Opened c
-      → chunks.opens_chunk f w s out answer ≡ record { number = 0; out = step_out f st s out; stream = receiver_words (step_next st (Opened c)); answer = sets answer 0 (chunk_words c) }
+  pub opened-as : (st : Receiver) → receiver_in w ≡ st → (c : Chunk) → step_answer f st s (length out) ≡ Ok c
+      → chunks.opens_chunk f w s out answer ≡ record { number = 0; out = step_out f st s out; stream = receiver_words (step_next st (Ok c)); answer = sets answer 0 (chunk_words c) }
   unfolding chunks.opens_chunk
   opened-as st e c g =
       let b : chunks.opens w answer ≡ true = ap₂ ◌&&◌ (eq-eqb (length answer) 9 nine) lawful in
       ap (λ (z : Bool). cond z (chunks.step_told f (step_answer f (receiver_in w) s (length out)) (receiver_in w) s out w answer)
       (record { number = 1; out = out; stream = w; answer = answer })) b
       ∙ ap (λ (y : Receiver). chunks.step_told f (step_answer f y s (length out)) y s out w answer) e
-      ∙ ap (λ (x : Stepped). chunks.step_told f x st s out w answer) g
+      ∙ ap (λ (x : Result Chunk Refusal). chunks.step_told f x st s out w answer) g
 
 -- a chunk that was sealed
 pub record SealTells (E : Edition) (w payload out answer : List ℕ) (x : AfterChunk) : Type 0 where
   pub n : ℕ
   pub next : Sender
-  pub answered : sealing E (sender_in w) (length payload) (length out) ≡ Bytes n next
+  pub answered : sealing E (sender_in w) (length payload) (length out) ≡ Ok (n, next)
   pub eight : length w ≡ 8
   pub nine : length answer ≡ 9
   pub leaves : x ≡ record { number = 0; out = put out 0 (chunk (key_for E (sender_in w)) (sender_in w).counter payload); stream = sender_words next; answer = set answer 0 n }
 
-number_of : Sealed → ℕ
-number_of (Bytes n s) = 0
-number_of (NotSealed r) = refusal_number r
+number_of : Result (ℕ × Sender) Refusal → ℕ
+number_of (Ok (n, s)) = 0
+number_of (Err r) = refusal_number r
 
 module _ (E : Edition) (w payload out answer : List ℕ) where
   abbrev sealed_here : AfterChunk
@@ -118,34 +116,34 @@ module _ (E : Edition) (w payload out answer : List ℕ) where
   abbrev text : List ℕ
   text = chunk (key_for E (sender_in w)) (sender_in w).counter payload
 
-  abbrev after_seal : Sealed → AfterChunk
+  abbrev after_seal : Result (ℕ × Sender) Refusal → AfterChunk
   after_seal x = record { number = Told.sealed_number x; out = seal_out x text out; stream = Told.sealed_stream x w; answer = Told.sealed_words x answer }
 
-  by-fit : (b : Bool) (x : Sealed) → fits (length w) (length answer) ≡ b → chunks.chunk_sealed (E (method_in w)) w (length payload) (length out) ≡ x
+  by-fit : (b : Bool) (x : Result (ℕ × Sender) Refusal) → fits (length w) (length answer) ≡ b → chunks.chunk_sealed (E (method_in w)) w (length payload) (length out) ≡ x
       → sealed_here ≡ cond b (after_seal x) (record { number = 1; out = out; stream = w; answer = answer })
   unfolding chunks.seals_chunk chunks.seals
   by-fit b x eb ex = λ i. cond (eb i) (after_seal (ex i)) (record { number = 1; out = out; stream = w; answer = answer })
 
-  turn_three : (n : ℕ) (next : Sender) → chunks.chunk_sealed (E (method_in w)) w (length payload) (length out) ≡ Bytes n next
-      → sealing E (sender_in w) (length payload) (length out) ≡ Bytes n next
+  turn_three : (n : ℕ) (next : Sender) → chunks.chunk_sealed (E (method_in w)) w (length payload) (length out) ≡ Ok (n, next)
+      → sealing E (sender_in w) (length payload) (length out) ≡ Ok (n, next)
   unfolding chunks.chunk_sealed
   turn_three n next e = go (eqb (turn_of w) 3) e
     where
-      is_bytes : Sealed → ℕ
-      is_bytes (Bytes n s) = 1
-      is_bytes (NotSealed r) = 0
+      is_bytes : Result (ℕ × Sender) Refusal → ℕ
+      is_bytes (Ok (n, s)) = 1
+      is_bytes (Err r) = 0
 
-      go : (b : Bool) → cond b (framed_answer (E (method_in w)) (sender_in w) (length payload) (length out)) (NotSealed (chunks.not_sealing (E (method_in w)) (turn_of w) (length payload))) ≡ Bytes n next
-          → framed_answer (E (method_in w)) (sender_in w) (length payload) (length out) ≡ Bytes n next
+      go : (b : Bool) → cond b (framed_answer (E (method_in w)) (sender_in w) (length payload) (length out)) (Err (chunks.not_sealing (E (method_in w)) (turn_of w) (length payload))) ≡ Ok (n, next)
+          → framed_answer (E (method_in w)) (sender_in w) (length payload) (length out) ≡ Ok (n, next)
       go true f = f
       go false f = absurd (let z : ◌≡◌ {A = ℕ} 0 1 = ap is_bytes f in omega arith)
 
   pub seal-tells : sealed_here.number ≡ 0 → SealTells E w payload out answer sealed_here
   seal-tells e = go (fits (length w) (length answer)) (chunks.chunk_sealed (E (method_in w)) w (length payload) (length out)) refl refl
     where
-      go : (b : Bool) (x : Sealed) → fits (length w) (length answer) ≡ b → chunks.chunk_sealed (E (method_in w)) w (length payload) (length out) ≡ x
+      go : (b : Bool) (x : Result (ℕ × Sender) Refusal) → fits (length w) (length answer) ≡ b → chunks.chunk_sealed (E (method_in w)) w (length payload) (length out) ≡ x
           → SealTells E w payload out answer (chunks.seals_chunk (E (method_in w)) w payload out answer)
-      go true (Bytes n next) eb ex =
+      go true (Ok (n, next)) eb ex =
           let q = (and-eq-true_iff (eqb (length w) 8) _).0 eb in
           record {
             n = n;
@@ -153,18 +151,18 @@ module _ (E : Edition) (w payload out answer : List ℕ) where
             answered = turn_three n next ex;
             eight = eqb-true (length w) 8 q.0;
             nine = eqb-true (length answer) 9 q.1;
-            leaves = by-fit true (Bytes n next) eb ex;
+            leaves = by-fit true (Ok (n, next)) eb ex;
           }
-      go true (NotSealed r) eb ex =
-          absurd (true≢false (sym (ap (λ (k : ℕ). eqb k 0) (sym (ap (λ (y : AfterChunk). y.number) (by-fit true (NotSealed r) eb ex)) ∙ e)) ∙ not-zero r))
+      go true (Err r) eb ex =
+          absurd (true≢false (sym (ap (λ (k : ℕ). eqb k 0) (sym (ap (λ (y : AfterChunk). y.number) (by-fit true (Err r) eb ex)) ∙ e)) ∙ not-zero r))
       go false x eb ex = absurd (let z = sym (ap (λ (y : AfterChunk). y.number) (by-fit false x eb ex)) ∙ e in omega (arith, z))
 
 -- ---- the chunk comes back
 
 module _ (E : Edition) (given_back : ChunksGivenBack E)
-    (small : (s next : Sender) (payload space n : ℕ) → sealing E s payload space ≡ Bytes n next → payload ≤ max_chunk)
+    (small : (s next : Sender) (payload space n : ℕ) → sealing E s payload space ≡ Ok (n, next) → payload ≤ max_chunk)
     (w payload out answer rest room told again : List ℕ)
-    (sized : (n : ℕ) (next : Sender) → sealing E (sender_in w) (length payload) (length out) ≡ Bytes n next
+    (sized : (n : ℕ) (next : Sender) → sealing E (sender_in w) (length payload) (length out) ≡ Ok (n, next)
     → (length (chunk (key_for E (sender_in w)) (sender_in w).counter payload) ≡ n) × (n ≤ length out))
     (good : (chunks.seals_chunk (E (method_in w)) w payload out answer).number ≡ 0)
     (told-nine : length told ≡ 9) (again-nine : length again ≡ 9) (fits_in : length payload ≤ length room) where
@@ -261,17 +259,17 @@ module _ (E : Edition) (given_back : ChunksGivenBack E)
 -- ---- the two editions
 
 -- what is sealed is at most as long as the framing's greatest
-is_bytes : Sealed → ℕ
-is_bytes (Bytes n s) = 1
-is_bytes (NotSealed r) = 0
+is_bytes : Result (ℕ × Sender) Refusal → ℕ
+is_bytes (Ok (n, s)) = 1
+is_bytes (Err r) = 0
 
-short : (f : Framing) (s next : Sender) (payload room n : ℕ) → framed_answer f s payload room ≡ Bytes n next → payload ≤ f.greatest
+short : (f : Framing) (s next : Sender) (payload room n : ℕ) → framed_answer f s payload room ≡ Ok (n, next) → payload ≤ f.greatest
 unfolding framed_answer size_answer is_bytes
 short f s next payload room n e =
     go (eqb f.key 0) (under f payload) (ltb s.counter (last_counter - 1)) (leb payload f.greatest) refl (ap is_bytes e)
   where
     go : (a b c d : Bool) → leb payload f.greatest ≡ d
-        → is_bytes (cond a (NotSealed Settings) (cond b (NotSealed Empty) (cond c (cond d (cond (leb (length_piece + payload + tag_length) room) (Bytes (length_piece + payload + tag_length) (moved s)) (NotSealed Room)) (NotSealed TooLong)) (NotSealed Counter)))) ≡ 1
+        → is_bytes (cond a (Err Settings) (cond b (Err Empty) (cond c (cond d (cond (leb (length_piece + payload + tag_length) room) (Ok (length_piece + payload + tag_length, moved s)) (Err Room)) (Err TooLong)) (Err Counter)))) ≡ 1
         → payload ≤ f.greatest
     go true b c d ed z = absurd (omega (arith, z))
     go false true c d ed z = absurd (omega (arith, z))
@@ -287,7 +285,7 @@ module _ (m : Lent) (payload rest out answer again : List ℕ) where
   chunk_back e a b l =
       let E : Edition = framing_of in
       let sized = (seal-keeps.chunks (sender_in m.stream) payload m.out).sealed-length in
-      let small : (s next : Sender) (p space n : ℕ) → sealing framing_of s p space ≡ Bytes n next → p ≤ max_chunk =
+      let small : (s next : Sender) (p space n : ℕ) → sealing framing_of s p space ≡ Ok (n, next) → p ≤ max_chunk =
       λ s next p space n q. short (framing_of s.method) s next p space n q in
       let one = first_step E streams-demand2.chunks-back small m.stream payload m.out m.answer rest out answer again sized e a b l in
       let second = two E streams-demand2.chunks-back small m.stream payload m.out m.answer rest out answer again sized e a b l in
@@ -309,7 +307,7 @@ module _ (m : Lent) (payload rest out answer again : List ℕ) where
   chunk-back-2017 e a b l =
       let E : Edition = streams2017.framing_of in
       let sized = (sip004-keeps.streams.sealing (sender_in m.stream) payload m.out).sealed-length in
-      let small : (s next : Sender) (p space n : ℕ) → sealing streams2017.framing_of s p space ≡ Bytes n next → p ≤ max_chunk =
+      let small : (s next : Sender) (p space n : ℕ) → sealing streams2017.framing_of s p space ≡ Ok (n, next) → p ≤ max_chunk =
       λ s next p space n q. let z = short (streams2017.framing_of s.method) s next p space n q in omega (arith, z) in
       let given = sip004-back.streams.chunks in
       let one = first_step E given small m.stream payload m.out m.answer rest out answer again sized e a b l in

@@ -1,9 +1,9 @@
 -- The calls that open datagrams.
 -- Assumes nothing.
+use Rattle.std.specs.Prelude.{Err, None, Ok, Option, Result, Some}
 use mathlib.Core.Path.{◌≡◌, refl, sym, ap, ◌∙◌, subst}
 use mathlib.Core.Bool.{Bool, true, false, cond, ◌&&◌, ◌||◌, true≢false}
 use mathlib.Core.List.{List, [], ◌∷◌}
-use mathlib.Core.Option.{Option}
 use Prim.Native.Nat.{ℕ, ◌+◌, ◌-◌, ◌*◌, ◌^◌, ◌≤◌, min}
 use native.Mathlib.Omega.{arith}
 use lib.Dec.{eqb, leb}
@@ -22,15 +22,11 @@ use Rattle.protocol.specs.declared.Refusal.{Refusal}
 use Rattle.protocol.specs.declared.Refusal.TheVariants.{Settings, Length, Room, NotAuthentic, Malformed, WrongType, WrongTime, Binding}
 use Rattle.protocol.specs.Refusal.{refusal_number}
 use Rattle.protocol.specs.Time.{time_valid}
-use Rattle.socks5.specs.declared.Parsed.{Parsed}
-use Rattle.socks5.specs.declared.Parsed.TheVariants.{Found, Malformed as NoAddress}
 use Rattle.socks5.specs.Address.{parse_at}
 use Rattle.datagram_parts.specs.declared.Side.{Side}
 use Rattle.datagram_parts.specs.Headers.{type_of, fixed_length, main_start}
 use Rattle.datagram_parts.specs.Parts.{overhead}
 use Rattle.datagram_read.specs.declared.Header.{Header}
-use Rattle.datagram_read.specs.declared.Opened.{Opened}
-use Rattle.datagram_read.specs.declared.Opened.TheVariants.{Datagram, Refused as Unread}
 use Rattle.datagram_read.specs.Opening.{datagram_authentic, plain_of, session_of, packet_of, time_of, padding_of, meant, header_with, read_address, read_main, length_lawful, read_text, read_answer, settled, text_out, read_out}
 use Rattle.datagram_read.proofs.OpeningLaws.{length-plain}
 use Rattle.datagram_read.proofs.ReadLaws.{answer-given}
@@ -43,6 +39,7 @@ use Rattle.guarantees.specs.Calls.{Lent, Opening, opens, step, relay_datagram_op
 use Rattle.guarantees.specs.DatagramOrder.{record_of}
 use Rattle.guarantees.specs.Guarantees.{RepeatCounted, Ends}
 use Rattle.guarantees.proofs.Base.{either, never}
+use Rattle.socks5.specs.declared.Address.{Address}
 
 abbrev behind : List ℕ
 behind = 5 ∷ 6 ∷ 7 ∷ 13 ∷ 8 ∷ 9 ∷ []
@@ -82,15 +79,15 @@ module _ (method : ℕ) (key s out : List ℕ) where
   }
 
   -- what the arguments decide
-  abbrev Read : Opened → List ℕ → Type 0
-  Read (Datagram h) o = Unit {0}
-  Read (Unread r) o = Left (refusal_number r) o
+  abbrev Read : Result Header Refusal → List ℕ → Type 0
+  Read (Ok h) o = Unit {0}
+  Read (Err r) o = Left (refusal_number r) o
 
   module _ (side : Side) (clock : ℕ) where
     abbrev plain : List ℕ
     plain = plain_of cipher key s
 
-    abbrev main : Opened
+    abbrev main : Result Header Refusal
     main = read_main (main_start cipher) side clock (session_of cipher key s) (packet_of cipher key s) plain
 
     module _ (room : due ≤ length out) (good : datagram_authentic cipher key s ≡ true) where
@@ -100,15 +97,15 @@ module _ (method : ℕ) (key s out : List ℕ) where
           let lz : length zeros ≡ due = length-replicate due 0 in
           put-again out plain zeros (omega (arith, lp, room)) (lz ∙ sym lp)
 
-      abbrev Main : Opened → Type 0
+      abbrev Main : Result Header Refusal → Type 0
       Main x = Read x (settled x due (put out 0 plain))
 
-      gone : (r : Refusal) → among all (refusal_number r) ≡ true → among behind (refusal_number r) ≡ true → Main (Unread r)
+      gone : (r : Refusal) → among all (refusal_number r) ≡ true → among behind (refusal_number r) ≡ true → Main (Err r)
       gone r e f = subst (Left (refusal_number r)) (sym cleared) (after_tag (refusal_number r) e f good room)
 
-      by_address : (time padding : ℕ) (p : Parsed) → Main (header_with (session_of cipher key s) (packet_of cipher key s) time padding p)
-      by_address time padding (Found a) = _
-      by_address time padding NoAddress = gone Malformed refl refl
+      by_address : (time padding : ℕ) (p : Option Address) → Main (header_with (session_of cipher key s) (packet_of cipher key s) time padding p)
+      by_address time padding (Some a) = _
+      by_address time padding None = gone Malformed refl refl
 
       by-main : Main main
       unfolding read_main read_address
@@ -127,7 +124,7 @@ module _ (method : ℕ) (key s out : List ℕ) where
         go (key_fits method (length key)) (length_lawful cipher s) (leb due (length out)) (datagram_authentic cipher key s) refl refl
       where
         go : (a b c d : Bool) → leb due (length out) ≡ c → datagram_authentic cipher key s ≡ d
-            → Read (cond a (cond b (cond c (cond d main (Unread NotAuthentic)) (Unread Room)) (Unread Length)) (Unread Settings))
+            → Read (cond a (cond b (cond c (cond d main (Err NotAuthentic)) (Err Room)) (Err Length)) (Err Settings))
             (cond (a && (b && c)) (cond d (settled main due (put out 0 plain)) out) out)
         go false b c d ec ed = before-tag 1 refl refl
         go true false c d ec ed = before-tag 2 refl refl
@@ -149,7 +146,7 @@ module _ (method : ℕ) (key : List ℕ) (client : Option ℕ) (clock : ℕ) (pe
   met (replay i) h plain n e = sym (ap (among (8 ∷ 9 ∷ [])) (refused-same 8 n e))
   met full h plain n e = sym (ap (among (8 ∷ 9 ∷ [])) (refused-same 9 n e))
 
-  pub late-number : lawful t ≡ true → (h : Header) → read_answer method key (expected client) clock s out ≡ Datagram h
+  pub late-number : lawful t ≡ true → (h : Header) → read_answer method key (expected client) clock s out ≡ Ok h
       → (n : ℕ) → answer ≡ refused n → among (8 ∷ 9 ∷ []) n ≡ true
   unfolding open_answer decide
   late-number l h e n f =

@@ -1,10 +1,10 @@
 -- What is sealed as a datagram opens to what was given.
 -- Assumes nothing.
+use Rattle.std.specs.Prelude.{Err, Ok, Result, Some, None, Option}
 use mathlib.Core.Path.{◌≡◌, refl, sym, ap, ap₂, ◌∙◌, subst}
 use mathlib.Core.Logic.{◌≢◌}
 use mathlib.Core.Bool.{Bool, true, false, cond, ◌&&◌, true≢false, and-eq-true_iff}
 use mathlib.Core.List.{List, [], ◌∷◌, ◌++◌}
-use mathlib.Core.Option.{Option, none, some}
 use Prim.Native.Nat.{ℕ, zero, suc, ◌+◌, ◌-◌, ◌^◌, ◌<◌}
 use native.Mathlib.Omega.{arith}
 use lib.Dec.{eqb, leb}
@@ -23,7 +23,6 @@ use Rattle.protocol.specs.Refusal.{refusal_number}
 use Rattle.session_record.specs.declared.Peer.{Peer}
 use Rattle.session_book.specs.Call.{Answer, refused, opened}
 use Rattle.socks5.specs.declared.Address.{Address}
-use Rattle.socks5.specs.declared.Parsed.TheVariants.{Found}
 use Rattle.socks5.specs.declared.Target.{Target}
 use Rattle.socks5.specs.declared.Target.TheVariants.{V4, V6, Name}
 use Rattle.socks5.specs.Address.{parse_at, moved}
@@ -32,13 +31,9 @@ use Rattle.datagram_parts.specs.declared.Side.TheVariants.{Client, Server}
 use Rattle.datagram_parts.specs.Headers.{fixed_length, main_start, sealed_text}
 use Rattle.datagram_parts.specs.Parts.{overhead}
 use Rattle.datagram_seal.specs.declared.Sender.{Sender}
-use Rattle.datagram_seal.specs.declared.Sealed.{Sealed}
-use Rattle.datagram_seal.specs.declared.Sealed.TheVariants.{Datagram as Written, Refused as NotSealed}
 use Rattle.datagram_seal.specs.Sealing.{seal_answer, datagram}
 use Rattle.datagram_seal.proofs.AnswerLaws.{sealable}
 use Rattle.datagram_read.specs.declared.Header.{Header}
-use Rattle.datagram_read.specs.declared.Opened.{Opened}
-use Rattle.datagram_read.specs.declared.Opened.TheVariants.{Datagram, Refused}
 use Rattle.datagram_read.specs.Opening.{plain_of, time_of, read_main, read_text, read_answer}
 use Rattle.datagram_read.proofs.ReadLaws.{Opens, answer-tells, answer-given}
 use Rattle.datagram_open.specs.Deciding.{expected, open_answer, open_out, open_table}
@@ -79,7 +74,7 @@ module _ (method : ℕ) (key : List ℕ) (side : Side) (clock later : ℕ) (s ou
   abbrev timely : Bool
   timely = time_valid (time_of (main_start (cipher_of method)) (plain_of (cipher_of method) key s)) later
 
-  pub read-later : read_answer method key side later s buffer ≡ cond roomy (cond timely (Datagram h) (Refused WrongTime)) (Refused Room)
+  pub read-later : read_answer method key side later s buffer ≡ cond roomy (cond timely (Ok h) (Err WrongTime)) (Err Room)
   unfolding read_answer read_text read_main
   read-later =
       let m = d.main in
@@ -87,14 +82,14 @@ module _ (method : ℕ) (key : List ℕ) (side : Side) (clock later : ℕ) (s ou
       (cond (d.size i)
       (cond roomy
       (cond (d.authentic i)
-      (cond (m.long i) (cond (m.kind i) (cond timely (cond (m.ours i) (m.address i) (Refused Binding)) (Refused WrongTime)) (Refused WrongType)) (Refused Malformed))
-      (Refused NotAuthentic)) (Refused Room)) (Refused Length)) (Refused Settings))
+      (cond (m.long i) (cond (m.kind i) (cond timely (cond (m.ours i) (m.address i) (Err Binding)) (Err WrongTime)) (Err WrongType)) (Err Malformed))
+      (Err NotAuthentic)) (Err Room)) (Err Length)) (Err Settings))
 
 -- ---- what a call of the sealer that returned 0 tells
 
 pub record SealTells (w : List ℕ) (method : ℕ) (key nonce : List ℕ) (clock : ℕ) (address : List ℕ) (padding : ℕ) (payload out answer : List ℕ) (x : AfterSeal) : Type 0 where
   pub n : ℕ
-  pub answered : seal_answer method (length key) (length nonce) (session_in w) address padding (length payload) (length out) ≡ Written n
+  pub answered : seal_answer method (length key) (length nonce) (session_in w) address padding (length payload) (length out) ≡ Ok n
   pub nine : length answer ≡ 9
   pub leaves-out : x.out ≡ put out 0 (datagram (cipher_of method) key nonce (session_in w) clock address padding payload)
   pub leaves-answer : x.answer ≡ set answer 0 n
@@ -103,13 +98,13 @@ module _ (w : List ℕ) (method : ℕ) (key nonce : List ℕ) (clock : ℕ) (add
   abbrev S : AfterSeal
   S = datagrams.seals_datagram method key nonce w clock address padding payload out answer
 
-  abbrev A : Sealed
+  abbrev A : Result ℕ Refusal
   A = seal_answer method (length key) (length nonce) (session_in w) address padding (length payload) (length out)
 
   abbrev text : List ℕ
   text = datagram (cipher_of method) key nonce (session_in w) clock address padding payload
 
-  by-test : (b : Bool) (x : Sealed) → eqb (length answer) 9 && session_lawful w ≡ b → A ≡ x
+  by-test : (b : Bool) (x : Result ℕ Refusal) → eqb (length answer) 9 && session_lawful w ≡ b → A ≡ x
       → S ≡ cond b (datagrams.sealed x text w out answer) (record { number = 1; session = w; out = out; answer = answer })
   unfolding datagrams.seals_datagram
   by-test b x eb ex = λ i. cond (eb i) (datagrams.sealed (ex i) text w out answer) (record { number = 1; session = w; out = out; answer = answer })
@@ -117,11 +112,11 @@ module _ (w : List ℕ) (method : ℕ) (key nonce : List ℕ) (clock : ℕ) (add
   pub seal-tells : S.number ≡ 0 → SealTells w method key nonce clock address padding payload out answer S
   seal-tells e = go (eqb (length answer) 9 && session_lawful w) A refl refl
     where
-      go : (b : Bool) (x : Sealed) → eqb (length answer) 9 && session_lawful w ≡ b
+      go : (b : Bool) (x : Result ℕ Refusal) → eqb (length answer) 9 && session_lawful w ≡ b
           → seal_answer method (length key) (length nonce) (session_in w) address padding (length payload) (length out) ≡ x
           → SealTells w method key nonce clock address padding payload out answer (datagrams.seals_datagram method key nonce w clock address padding payload out answer)
-      go true (Written n) eb ex =
-          let p = by-test true (Written n) eb ex in
+      go true (Ok n) eb ex =
+          let p = by-test true (Ok n) eb ex in
           record {
             n = n;
             answered = ex;
@@ -129,8 +124,8 @@ module _ (w : List ℕ) (method : ℕ) (key nonce : List ℕ) (clock : ℕ) (add
             leaves-out = ap (λ (y : AfterSeal). y.out) p;
             leaves-answer = ap (λ (y : AfterSeal). y.answer) p;
           }
-      go true (NotSealed r) eb ex =
-          absurd (true≢false (sym (ap (λ (k : ℕ). eqb k 0) (sym (ap (λ (y : AfterSeal). y.number) (by-test true (NotSealed r) eb ex)) ∙ e)) ∙ not-zero r))
+      go true (Err r) eb ex =
+          absurd (true≢false (sym (ap (λ (k : ℕ). eqb k 0) (sym (ap (λ (y : AfterSeal). y.number) (by-test true (Err r) eb ex)) ∙ e)) ∙ not-zero r))
       go false x eb ex = absurd (let z = sym (ap (λ (y : AfterSeal). y.number) (by-test false x eb ex)) ∙ e in omega (arith, z))
 
 -- ---- the other side
@@ -155,7 +150,7 @@ unfolding time_valid
 at-itself clock = ap₂ ◌&&◌ (le-leb clock (clock + 30) (omega arith)) (le-leb clock (clock + 30) (omega arith))
 
 module _ (w : List ℕ) (method : ℕ) (key nonce : List ℕ) (clock : ℕ) (address : List ℕ) (padding : ℕ) (payload space : List ℕ) (n : ℕ)
-    (answered : seal_answer method (length key) (length nonce) (session_in w) address padding (length payload) (length space) ≡ Written n)
+    (answered : seal_answer method (length key) (length nonce) (session_in w) address padding (length payload) (length space) ≡ Ok n)
     (bytes : Octets key) (fits : (i : ℕ) → at w i < 2 ^ 64) (clock-fits : clock < 2 ^ 64) where
   abbrev sender : Sender
   sender = session_in w
@@ -182,7 +177,7 @@ module _ (w : List ℕ) (method : ℕ) (key nonce : List ℕ) (clock : ℕ) (add
   abbrev target : Address
   target = (one-target method key nonce sender clock address padding payload space n answered).address
 
-  found : parse_at address 0 ≡ Found target
+  found : parse_at address 0 ≡ Some target
   found = (one-target method key nonce sender clock address padding payload space n answered).found
 
   abbrev header : Header
@@ -205,9 +200,9 @@ module _ (w : List ℕ) (method : ℕ) (key nonce : List ℕ) (clock : ℕ) (add
     abbrev a : Answer Header
     a = open_answer method key client later peer s t out
 
-    pub data Result : Type 0 where
-      refused-with : (k : ℕ) → among (0 ∷ 1 ∷ 3 ∷ 7 ∷ 8 ∷ 9 ∷ []) k ≡ true → a ≡ refused k → Result
-      given : a ≡ opened header → open_out method key client later peer s t out ≡ put out 0 plain_text → Result
+    pub data Outcome : Type 0 where
+      refused-with : (k : ℕ) → among (0 ∷ 1 ∷ 3 ∷ 7 ∷ 8 ∷ 9 ∷ []) k ≡ true → a ≡ refused k → Outcome
+      given : a ≡ opened header → open_out method key client later peer s t out ≡ put out 0 plain_text → Outcome
 
     abbrev has_room : Bool
     has_room = leb (length s - overhead cipher) (length out)
@@ -215,7 +210,7 @@ module _ (w : List ℕ) (method : ℕ) (key nonce : List ℕ) (clock : ℕ) (add
     abbrev in-time : Bool
     in-time = time_valid (time_of (main_start cipher) (plain_of cipher key s)) later
 
-    read_here : read_answer method key (expected client) later s out ≡ cond has_room (cond in-time (Datagram header) (Refused WrongTime)) (Refused Room)
+    read_here : read_answer method key (expected client) later s out ≡ cond has_room (cond in-time (Ok header) (Err WrongTime)) (Err Room)
     read_here =
         ap (λ (x : Side). read_answer method key x later s out) ours
         ∙ read-later method key side clock later s plain_text out header opens-there
@@ -223,27 +218,27 @@ module _ (w : List ℕ) (method : ℕ) (key nonce : List ℕ) (clock : ℕ) (add
     late-listed : (k : ℕ) → among (8 ∷ 9 ∷ []) k ≡ true → among (0 ∷ 1 ∷ 3 ∷ 7 ∷ 8 ∷ 9 ∷ []) k ≡ true
     late-listed k = list-in (8 ∷ 9 ∷ []) (0 ∷ 1 ∷ 3 ∷ 7 ∷ 8 ∷ 9 ∷ []) k refl
 
-    number : Opened → ℕ
-    number (Datagram h) = 0
-    number (Refused r) = refusal_number r
+    number : Result Header Refusal → ℕ
+    number (Ok h) = 0
+    number (Err r) = refusal_number r
 
     -- by what is read
-    early-listed : (p q : Bool) (r : Refusal) → cond p (cond q (Datagram header) (Refused WrongTime)) (Refused Room) ≡ Refused r
+    early-listed : (p q : Bool) (r : Refusal) → cond p (cond q (Ok header) (Err WrongTime)) (Err Room) ≡ Err r
         → among (0 ∷ 1 ∷ 3 ∷ 7 ∷ 8 ∷ 9 ∷ []) (refusal_number r) ≡ true
     unfolding number
-    early-listed true true r e = absurd (not-read r header (Datagram header) e refl)
+    early-listed true true r e = absurd (not-read r header (Ok header) e refl)
     early-listed true false r e = ap (among (0 ∷ 1 ∷ 3 ∷ 7 ∷ 8 ∷ 9 ∷ [])) (sym (ap number e))
     early-listed false q r e = ap (among (0 ∷ 1 ∷ 3 ∷ 7 ∷ 8 ∷ 9 ∷ [])) (sym (ap number e))
 
-    taken-header : (p q : Bool) (h : Header) → cond p (cond q (Datagram header) (Refused WrongTime)) (Refused Room) ≡ Datagram h → h ≡ header
+    taken-header : (p q : Bool) (h : Header) → cond p (cond q (Ok header) (Err WrongTime)) (Err Room) ≡ Ok h → h ≡ header
     taken-header true true h e = sym (read_same header h e)
-    taken-header true false h e = absurd (not-read WrongTime h (Refused WrongTime) refl e)
-    taken-header false q h e = absurd (not-read Room h (Refused Room) refl e)
+    taken-header true false h e = absurd (not-read WrongTime h (Err WrongTime) refl e)
+    taken-header false q h e = absurd (not-read Room h (Err Room) refl e)
 
-    pub result : Result
+    pub result : Outcome
     result = go (way method key client later peer s t out)
       where
-        go : Way method key client later peer s t out → Result
+        go : Way method key client later peer s t out → Outcome
         go (unlawful l ea eb et) = refused-with 1 refl ea
         go (early l r er ea eb et) = refused-with (refusal_number r) (early-listed has_room in-time r (sym read_here ∙ er)) ea
         go (late l h d x r o ea eb et) =
@@ -322,7 +317,7 @@ module _ (w : List ℕ) (method : ℕ) (key nonce : List ℕ) (clock : ℕ) (add
     answers : Back (told (open_answer method key client later peer s b.table b.out))
     answers = go (result client ours later peer b.table b.out)
       where
-        go : Result client ours later peer b.table b.out → Back (told (open_answer method key client later peer s b.table b.out))
+        go : Outcome client ours later peer b.table b.out → Back (told (open_answer method key client later peer s b.table b.out))
         go (refused-with k e f) =
             subst (λ (x : Answer Header). Back (told x)) (sym f)
             (back-refused (told (refused k)) e
@@ -369,14 +364,14 @@ datagrams-back m method key nonce clock address padding payload e bytes fits clo
     (sym (sent_is m method key nonce clock address padding payload e)) (go (eqb (at m.session 0) 0) refl k.n k.answered)
   where
     go : (c : Bool) → eqb (at m.session 0) 0 ≡ c → (n : ℕ)
-        → seal_answer method (length key) (length nonce) (session_in m.session) address padding (length payload) (length m.out) ≡ Written n
+        → seal_answer method (length key) (length nonce) (session_in m.session) address padding (length payload) (length m.out) ≡ Ok n
         → DatagramBack m.session method clock address padding payload
         (step (cond c (relay_datagram_open_server method key later first second port (datagram (cipher_of method) key nonce (session_in m.session) clock address padding payload))
         (relay_datagram_open_client method key later (at m.session 2) first second port (datagram (cipher_of method) key nonce (session_in m.session) clock address padding payload)))
         b)
     go true f n a =
-        back m.session method key nonce clock address padding payload m.out n a bytes fits clock-fits none
+        back m.session method key nonce clock address padding payload m.out n a bytes fits clock-fits None
         (sym (ap (λ (x : Bool). cond x Client (Server (at m.session 2))) f)) later (caller_of first second port) b
     go false f n a =
-        back m.session method key nonce clock address padding payload m.out n a bytes fits clock-fits (some (at m.session 2))
+        back m.session method key nonce clock address padding payload m.out n a bytes fits clock-fits (Some (at m.session 2))
         (sym (ap (λ (x : Bool). cond x Client (Server (at m.session 2))) f)) later (caller_of first second port) b

@@ -1,10 +1,10 @@
 -- What the arguments of a call decide is what the exported opener answers on a table just made; and what it answers on any table follows
 -- from that.
 -- Assumes nothing.
+use Rattle.std.specs.Prelude.{Err, Ok, Result, None, Option, Some}
 use mathlib.Core.Path.{◌≡◌, refl, ap, ◌∙◌}
 use mathlib.Core.Bool.{Bool, false, cond}
 use mathlib.Core.List.{List}
-use mathlib.Core.Option.{Option, none, some}
 use Prim.Native.Nat.{ℕ, ◌-◌}
 use native.Mathlib.Omega.{arith}
 use lib.Dec.{eqb}
@@ -22,8 +22,6 @@ use Rattle.protocol.specs.declared.Refusal.TheVariants.{Settings, Length, Room, 
 use Rattle.protocol.specs.Refusal.{refusal_number}
 use Rattle.datagram_parts.specs.Parts.{overhead}
 use Rattle.datagram_read.specs.declared.Header.{Header}
-use Rattle.datagram_read.specs.declared.Opened.{Opened}
-use Rattle.datagram_read.specs.declared.Opened.TheVariants.{Datagram, Refused}
 use Rattle.datagram_read.specs.Opening.{plain_of, read_answer, read_out}
 use Rattle.datagram_read.proofs.OpeningLaws.{length-plain}
 use Rattle.datagram_open.specs.Deciding.{expected, decided_by, decide, call_of, open_answer, open_out, open_table}
@@ -157,10 +155,10 @@ module _ (method : ℕ) (key : List ℕ) (c : book.Call) where
   abbrev by_outcome : Outcome Header → Decision (List ℕ)
   by_outcome x = by (opened_number x.answer) (opened_words x.answer nine) x.output
 
-  by-reading : (x : Opened) (o : List ℕ)
+  by-reading : (x : Result Header Refusal) (o : List ℕ)
       → by_outcome (table_outcome_by (decided_by x o plain) (table.new_table 60) c) ≡ in_words (decided_by x o plain)
-  by-reading (Refused r) o = ap (λ (b : Bool). cond b (reaches 0 0 nine (take due o)) (early (refusal_number r) o)) (not-zero r)
-  by-reading (Datagram h) o =
+  by-reading (Err r) o = ap (λ (b : Bool). cond b (reaches 0 0 nine (take due o)) (early (refusal_number r) o)) (not-zero r)
+  by-reading (Ok h) o =
       ap (λ (e : Entry). by_outcome (report e c h plain)) (new_meets c.clock c.peer h.session h.packet)
       ∙ ap (reaches h.session h.packet (header_words h)) (take_at plain (drop (length plain) c.output) due (length-plain (cipher_of method) key c.datagram))
 
@@ -186,8 +184,8 @@ module _ (method : ℕ) (key : List ℕ) (c : book.Call) where
       go : (o : Option ℕ) → c.client ≡ o → step (exported method key o c) lent
           ≡ opens (record { method = method; key = key; client = o; clock = c.clock; peer = c.peer; datagram = c.datagram })
           (opens_datagram method key o c.clock c.peer c.datagram new_table c.output nine) lent
-      go none e = refl
-      go (some id) e = refl
+      go None e = refl
+      go (Some id) e = refl
 
   pub decides-so : decides method key c ≡ in_words (decide method key c)
   unfolding open_answer open_out

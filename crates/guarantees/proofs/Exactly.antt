@@ -1,5 +1,6 @@
 -- Accepted exactly when, of the exported openers.
 -- Assumes nothing.
+use Rattle.std.specs.Prelude.{Err, Ok, Result}
 use mathlib.Core.Path.{◌≡◌, refl, sym, ap, ap₂, ◌∙◌, subst}
 use mathlib.Core.Logic.{◌↔◌}
 use mathlib.Core.Bool.{Bool, true, false, cond, not, ◌&&◌, true≢false, and-eq-true_iff}
@@ -17,27 +18,17 @@ use Rattle.session_book.specs.Call.{Answer, refused, opened}
 use Rattle.datagram_read.specs.declared.Header.{Header}
 use Rattle.datagram_open.specs.Deciding.{open_answer}
 use Rattle.stream_open_request.specs.declared.Request.{Request}
-use Rattle.stream_open_request.specs.declared.RequestOpened.{RequestOpened}
-use Rattle.stream_open_request.specs.declared.RequestOpened.TheVariants.{Accepted, Refused as Unaccepted}
 use Rattle.stream_open_request.specs.Requests.{opened_request}
 use Rattle.stream_open_response.specs.declared.Response.{Response}
-use Rattle.stream_open_response.specs.declared.ResponseOpened.{ResponseOpened}
-use Rattle.stream_open_response.specs.declared.ResponseOpened.TheVariants.{Accepted as Responded, Refused as Unanswered}
 use Rattle.stream_open_response.specs.Responses.{opened_response}
 use Rattle.stream_open_variable.specs.declared.VariableHeader.{VariableHeader}
-use Rattle.stream_open_variable.specs.declared.VariableOpened.{VariableOpened}
-use Rattle.stream_open_variable.specs.declared.VariableOpened.TheVariants.{Header as Headed, Refused as Unheaded}
 use Rattle.stream_open_variable.specs.Variable.{variable_answer}
 use Rattle.stream_open.specs.declared.Receiver.{Receiver}
 use Rattle.stream_open.specs.declared.Chunk.{Chunk}
-use Rattle.stream_open.specs.declared.Stepped.{Stepped}
-use Rattle.stream_open.specs.declared.Stepped.TheVariants.{Opened, Refused as Unopened}
 use Rattle.stream_open.specs.Steps.{step_answer}
 use Rattle.stream_pieces.specs.declared.Framing.{Framing}
 use Rattle.stream_pieces.specs.Framing.{framing_of}
 use Rattle.sip004_stream.specs.Streams as streams2017
-use Rattle.sip004.specs.declared.Opened.{Opened as Opened2017}
-use Rattle.sip004.specs.declared.Opened.TheVariants.{Text, Refused as NotOpened}
 use Rattle.sip004.specs.Datagram as sip004
 use Rattle.stream_chunks.specs.Opens.{StepOpens, StepExactly}
 use Rattle.stream_answers.specs.Chunks as chunks
@@ -70,6 +61,7 @@ use Rattle.guarantees.specs.DatagramOrder.{record_of, free_record, first_refusal
 use Rattle.guarantees.proofs.Base.{length-nine}
 use Rattle.guarantees.proofs.Roles.{on-table, OnTable}
 use Rattle.guarantees.proofs.Deciding.{not-zero}
+use Rattle.protocol.specs.declared.Refusal.{Refusal}
 
 -- a number that is one of a test's two, the other of which is 1
 tested : (b : Bool) (n : ℕ) → cond b n 1 ≡ 0 → (b ≡ true) × (n ≡ 0)
@@ -215,9 +207,9 @@ module _ (f : Framing) (w s out answer : List ℕ) (exactly : (c : Chunk) → St
       go true = refl
       go false = refl
 
-  by-step : (x : Stepped) → step_answer f (receiver_in w) s (length out) ≡ x → chunks.opens w answer ≡ true → stepped_number x ≡ 0 → PieceGood
-  by-step (Opened c) e b z = (c, (b, (exactly c).only-when e))
-  by-step (Unopened r) e b z = absurd (true≢false (sym (ap (λ (k : ℕ). eqb k 0) z) ∙ not-zero r))
+  by-step : (x : Result Chunk Refusal) → step_answer f (receiver_in w) s (length out) ≡ x → chunks.opens w answer ≡ true → stepped_number x ≡ 0 → PieceGood
+  by-step (Ok c) e b z = (c, (b, (exactly c).only-when e))
+  by-step (Err r) e b z = absurd (true≢false (sym (ap (λ (k : ℕ). eqb k 0) z) ∙ not-zero r))
 
   piece-exactly : ((chunks.opens_chunk f w s out answer).number ≡ 0) ↔ PieceGood
   piece-exactly = (
@@ -229,7 +221,7 @@ module _ (f : Framing) (w s out answer : List ℕ) (exactly : (c : Chunk) → St
   )
 
 module _ (method : ℕ) (key : List ℕ) (clock : ℕ) (s : List ℕ) (m : Lent) where
-  abbrev front : RequestOpened
+  abbrev front : Result (Request × Receiver) Refusal
   front = opened_request method key clock s m.pool
 
   abbrev fit : Bool
@@ -248,9 +240,9 @@ module _ (method : ℕ) (key : List ℕ) (clock : ℕ) (s : List ℕ) (m : Lent)
       go true = refl
       go false = refl
 
-  by_front : (x : RequestOpened) → front ≡ x → fit ≡ true → request_number x ≡ 0 → FrontGood
-  by_front (Accepted h st) e b z = let q = fits-tells (length m.stream) (length m.answer) b in (h, (st, (q.0, (q.1, (streams-demand2.requests-exactly method key clock s m.pool h st).only-when e))))
-  by_front (Unaccepted r) e b z = absurd (true≢false (sym (ap (λ (k : ℕ). eqb k 0) z) ∙ not-zero r))
+  by_front : (x : Result (Request × Receiver) Refusal) → front ≡ x → fit ≡ true → request_number x ≡ 0 → FrontGood
+  by_front (Ok (h, st)) e b z = let q = fits-tells (length m.stream) (length m.answer) b in (h, (st, (q.0, (q.1, (streams-demand2.requests-exactly method key clock s m.pool h st).only-when e))))
+  by_front (Err r) e b z = absurd (true≢false (sym (ap (λ (k : ℕ). eqb k 0) z) ∙ not-zero r))
 
   front-exactly : ((heads.opens_request method key clock s m.pool m.stream m.answer).number ≡ 0) ↔ FrontGood
   front-exactly = (
@@ -262,7 +254,7 @@ module _ (method : ℕ) (key : List ℕ) (clock : ℕ) (s : List ℕ) (m : Lent)
 
 module _ (method : ℕ) (key : List ℕ) (clock : ℕ) (request_salt s : List ℕ) (m : Lent) (fitting : key_fits method (length key) ≡ true)
     (sized : length request_salt ≡ salt_length method) where
-  abbrev response : ResponseOpened
+  abbrev response : Result (Response × Receiver) Refusal
   response = opened_response method key clock request_salt s
 
   abbrev suits : Bool
@@ -281,9 +273,9 @@ module _ (method : ℕ) (key : List ℕ) (clock : ℕ) (request_salt s : List �
       go true = refl
       go false = refl
 
-  by-response : (x : ResponseOpened) → response ≡ x → suits ≡ true → response_number x ≡ 0 → ResponseGood
-  by-response (Responded h st) e b z = let q = fits-tells (length m.stream) (length m.answer) b in (h, (st, (q.0, (q.1, (streams-demand2.responses-exactly method key clock request_salt s fitting sized h st).only-when e))))
-  by-response (Unanswered r) e b z = absurd (true≢false (sym (ap (λ (k : ℕ). eqb k 0) z) ∙ not-zero r))
+  by-response : (x : Result (Response × Receiver) Refusal) → response ≡ x → suits ≡ true → response_number x ≡ 0 → ResponseGood
+  by-response (Ok (h, st)) e b z = let q = fits-tells (length m.stream) (length m.answer) b in (h, (st, (q.0, (q.1, (streams-demand2.responses-exactly method key clock request_salt s fitting sized h st).only-when e))))
+  by-response (Err r) e b z = absurd (true≢false (sym (ap (λ (k : ℕ). eqb k 0) z) ∙ not-zero r))
 
   response-exactly : ((heads.opens_response method key clock request_salt s m.stream m.answer).number ≡ 0) ↔ ResponseGood
   response-exactly = (
@@ -307,15 +299,15 @@ responses-exactly method key clock request_salt s m = (
   (λ g. (response-exactly method key clock request_salt s m g.0 g.1.0).1 g.1.1),
 )
   where
-    suited : (p q : Bool) (x : ResponseOpened)
-        → (cond {A = heads.AfterResponse} p (heads.response_left (cond q x (Unanswered Settings)) m.stream m.answer) (record { number = 1; stream = m.stream; answer = m.answer })).number ≡ 0
+    suited : (p q : Bool) (x : Result (Response × Receiver) Refusal)
+        → (cond {A = heads.AfterResponse} p (heads.response_left (cond q x (Err Settings)) m.stream m.answer) (record { number = 1; stream = m.stream; answer = m.answer })).number ≡ 0
         → q ≡ true
     suited true true x e = refl
     suited true false x e = absurd (omega (arith, e))
     suited false q x e = absurd (omega (arith, e))
 
 module _ (s : List ℕ) (m : Lent) where
-  abbrev variable : VariableOpened
+  abbrev variable : Result VariableHeader Refusal
   variable = variable_answer (receiver_in m.stream) s (length m.out)
 
   abbrev lent : Bool
@@ -334,9 +326,9 @@ module _ (s : List ℕ) (m : Lent) where
       go true = refl
       go false = refl
 
-  by-variable : (x : VariableOpened) → variable ≡ x → lent ≡ true → variable_number x ≡ 0 → VariableGood
-  by-variable (Headed h) e b z = (h, (b, (streams-demand2.variable-headers-exactly (receiver_in m.stream) s m.out h).only-when e))
-  by-variable (Unheaded r) e b z = absurd (true≢false (sym (ap (λ (k : ℕ). eqb k 0) z) ∙ not-zero r))
+  by-variable : (x : Result VariableHeader Refusal) → variable ≡ x → lent ≡ true → variable_number x ≡ 0 → VariableGood
+  by-variable (Ok h) e b z = (h, (b, (streams-demand2.variable-headers-exactly (receiver_in m.stream) s m.out h).only-when e))
+  by-variable (Err r) e b z = absurd (true≢false (sym (ap (λ (k : ℕ). eqb k 0) z) ∙ not-zero r))
 
   variable-exactly : ((heads.opens_variable m.stream s m.out m.answer).number ≡ 0) ↔ VariableGood
   variable-exactly = (
@@ -349,27 +341,27 @@ module _ (s : List ℕ) (m : Lent) where
 -- ---- the 2017 edition's datagrams
 
 module _ (method : ℕ) (key s : List ℕ) (m : Lent) (l : sip004_lawful.Lawful method key s m.out) where
-  abbrev text : Opened2017
+  abbrev text : Result ℕ Refusal
   text = sip004.open_answer method key s (length m.out)
 
-  number2017 : Opened2017 → ℕ
-  number2017 (Text n) = 0
-  number2017 (NotOpened r) = refusal_number r
+  number2017 : Result ℕ Refusal → ℕ
+  number2017 (Ok n) = 0
+  number2017 (Err r) = refusal_number r
 
   text-number : (edition2017.opens_datagram method key s m.out m.answer).number ≡ cond (eqb (length m.answer) 9) (number2017 text) 1
   unfolding edition2017.tells number2017
   text-number = go (eqb (length m.answer) 9) (sip004.open_answer method key s (length m.out))
     where
-      go : (b : Bool) (x : Opened2017) → (cond b (edition2017.opened_told x (sip004.payload_of key s) m.out m.answer) (record { number = 1; out = m.out; answer = m.answer })).number
+      go : (b : Bool) (x : Result ℕ Refusal) → (cond b (edition2017.opened_told x (sip004.payload_of key s) m.out m.answer) (record { number = 1; out = m.out; answer = m.answer })).number
           ≡ cond b (number2017 x) 1
-      go true (Text n) = refl
-      go true (NotOpened r) = refl
+      go true (Ok n) = refl
+      go true (Err r) = refl
       go false x = refl
 
-  by-text : (x : Opened2017) → text ≡ x → number2017 x ≡ 0 → sip004_lawful.TagGood key s
+  by-text : (x : Result ℕ Refusal) → text ≡ x → number2017 x ≡ 0 → sip004_lawful.TagGood key s
   unfolding number2017
-  by-text (Text n) e z = (((sip004-exactly.datagrams method key s m.out l).accepted n).0 e).1
-  by-text (NotOpened r) e z = absurd (true≢false (sym (ap (λ (k : ℕ). eqb k 0) z) ∙ not-zero r))
+  by-text (Ok n) e z = (((sip004-exactly.datagrams method key s m.out l).accepted n).0 e).1
+  by-text (Err r) e z = absurd (true≢false (sym (ap (λ (k : ℕ). eqb k 0) z) ∙ not-zero r))
 
   text-exactly : ((edition2017.opens_datagram method key s m.out m.answer).number ≡ 0) ↔ ((length m.answer ≡ 9) × sip004_lawful.TagGood key s)
   unfolding number2017
@@ -395,7 +387,7 @@ lawful-2017 method key s m e =
   where
     go : (p a b c d : Bool)
         → (cond {A = edition2017.AfterDatagram} p
-        (edition2017.opened_told (sip004.judged (cond a (cond b (cond c (Text (length s - (length key + 16))) (NotOpened Room)) (NotOpened TooLong)) (NotOpened Settings)) d) (sip004.payload_of key s) m.out m.answer)
+        (edition2017.opened_told (sip004.judged (cond a (cond b (cond c (Ok (length s - (length key + 16))) (Err Room)) (Err TooLong)) (Err Settings)) d) (sip004.payload_of key s) m.out m.answer)
         (record { number = 1; out = m.out; answer = m.answer })).number ≡ 0
         → (a ≡ true) × ((b ≡ true) × (c ≡ true))
     go true true true true d z = (refl, (refl, refl))

@@ -1,10 +1,10 @@
 -- Plans, recordings and settings files.
 -- Assumes nothing.
+use Rattle.std.specs.Prelude.{Bool, Err, Ok, Result, None, Option, Some}
 use mathlib.Core.Path.{◌≡◌, refl, sym, ap, ◌∙◌}
 use mathlib.Core.Logic.{◌≢◌}
 use mathlib.Core.Bool.{true, true≢false, ◌&&◌, ◌||◌}
 use mathlib.Core.List.{List, [], ◌∷◌}
-use mathlib.Core.Option.{Option, none, some}
 use Prim.Native.Nat.{ℕ, ◌+◌, ◌-◌, ◌*◌, ◌≤◌}
 use native.Mathlib.Omega.{arith}
 use lib.Dec.{eqb, leb, ltb}
@@ -16,10 +16,6 @@ use Rattle.protocol.specs.declared.Refusal.{Refusal}
 use Rattle.protocol.specs.declared.Refusal.TheVariants.{Settings, Argument}
 use Rattle.protocol.specs.Refusal.{refusal_number}
 use Rattle.words.specs.Answers.{refused_answer}
-use Rattle.plan.specs.declared.Capacity.{Capacity}
-use Rattle.plan.specs.declared.Capacity.TheVariants.{Most, Refused as NoCapacity}
-use Rattle.plan.specs.declared.Made.{Made}
-use Rattle.plan.specs.declared.Checked.{Checked}
 use Rattle.plan.specs.Answers as plan
 use Rattle.plan_pieces.specs.Plans.{passes, fewest}
 use Rattle.socks5.specs.Address.{is_address}
@@ -37,10 +33,7 @@ use Rattle.octets.proofs.BufferLaws.{length-put}
 use lib.Seq.{drop-length}
 use Rattle.mending.specs.Report as report
 use Rattle.mending.specs.Report.{words}
-use Rattle.settings_read.specs.declared.FileRead.{FileRead}
 use Rattle.settings_read.specs.Reading as reading
-use Rattle.settings_write.specs.declared.Written.{Written}
-use Rattle.settings_write.specs.declared.Written.TheVariants.{Length}
 use Rattle.settings_write.specs.Writing as writing
 use Rattle.settings_answers.specs.Told as settings
 use Rattle.relay.specs.Plans as plans
@@ -48,6 +41,7 @@ use Rattle.relay.specs.Recordings as recordings
 use Rattle.guarantees.specs.Calls.{Lent, nothing, says, writes, leaves, step, relay_plan_make, relay_plan_check, relay_recording_compare, relay_recording_mend, relay_settings_read, relay_settings_write}
 use Rattle.guarantees.specs.Guarantees.{Ends}
 use Rattle.guarantees.proofs.Base.{listed-so, listed-too, unlisted, either, never, written, first_word, length-nine, keeps, accepts}
+use Rattle.settings_read.specs.declared.Settings.{Settings as Shown}
 
 zero-not : {A : Type 0} → ◌≡◌ {A = ℕ} 0 15 → A
 zero-not e = absurd (omega (arith, e))
@@ -64,22 +58,22 @@ length-mended s l =
 module _ (m : Lent) where
   -- ---- plans: 1 and 12 by the capacity, and planning 3
 
-  by-limit : (P : Capacity → Type 0) (most limit n : ℕ) → P (Most most) → P (NoCapacity Argument) → P (plan.limit_answer most limit n)
+  by-limit : (P : Result ℕ Refusal → Type 0) (most limit n : ℕ) → P (Ok most) → P (Err Argument) → P (plan.limit_answer most limit n)
   unfolding plan.limit_answer
-  by-limit P most limit n good bad = either P (leb limit max_datagram && (eqb n 0 || ltb 0 most)) (Most most) (NoCapacity Argument) (λ e. good) (λ e. bad)
+  by-limit P most limit n good bad = either P (leb limit max_datagram && (eqb n 0 || ltb 0 most)) (Ok most) (Err Argument) (λ e. good) (λ e. bad)
 
-  by-argument : (P : Capacity → Type 0) (overhead : ℕ) (address : List ℕ) (limit n : ℕ)
-      → ((k : ℕ) → P (Most k)) → P (NoCapacity Argument) → P (plan.argument_answer overhead address limit n)
+  by-argument : (P : Result ℕ Refusal → Type 0) (overhead : ℕ) (address : List ℕ) (limit n : ℕ)
+      → ((k : ℕ) → P (Ok k)) → P (Err Argument) → P (plan.argument_answer overhead address limit n)
   unfolding plan.argument_answer
   by-argument P overhead address limit n good bad =
       let k = limit - plan.head_with overhead (length address) in
-      either P (is_address address) (plan.limit_answer k limit n) (NoCapacity Argument) (λ e. by-limit P k limit n (good k) bad) (λ e. bad)
+      either P (is_address address) (plan.limit_answer k limit n) (Err Argument) (λ e. by-limit P k limit n (good k) bad) (λ e. bad)
 
-  capacity : (P : Capacity → Type 0) (method : ℕ) (address : List ℕ) (limit n : ℕ)
-      → ((k : ℕ) → P (Most k)) → ((r : Refusal) → among (1 ∷ 12 ∷ []) (refusal_number r) ≡ true → P (NoCapacity r)) → P (plan.capacity_answer method address limit n)
+  capacity : (P : Result ℕ Refusal → Type 0) (method : ℕ) (address : List ℕ) (limit n : ℕ)
+      → ((k : ℕ) → P (Ok k)) → ((r : Refusal) → among (1 ∷ 12 ∷ []) (refusal_number r) ≡ true → P (Err r)) → P (plan.capacity_answer method address limit n)
   unfolding plan.capacity_answer
   capacity P method address limit n good bad =
-      either P (eqb (overhead_of method) 0) (NoCapacity Settings) (plan.argument_answer (overhead_of method) address limit n) (λ e. bad Settings refl)
+      either P (eqb (overhead_of method) 0) (Err Settings) (plan.argument_answer (overhead_of method) address limit n) (λ e. bad Settings refl)
       (λ e. by-argument P (overhead_of method) address limit n good (bad Argument refl))
 
   module _ (method : ℕ) (address : List ℕ) (limit n : ℕ) where
@@ -89,15 +83,15 @@ module _ (m : Lent) where
     abbrev Makes : plans.AfterMake → Type 0
     Makes y = Ends m (says makes nothing y.number (leaves m m.table m.session m.out y.plan y.answer) 0)
 
-    abbrev after : Made → plans.AfterMake
+    abbrev after : Result ℕ Refusal → plans.AfterMake
     after x = plans.made_told x (plan.most_of method address limit) n m.words m.answer
 
     pub plan-make : Ends m (step (relay_plan_make method address limit n) m)
     unfolding step plans.makes_plan plan.make_answer plan.room_answer
     plan-make =
         either Makes (eqb (length m.answer) 9) _ _
-        (λ e. capacity (λ (x : Capacity). Makes (after (plan.made_by x n (length m.words)))) method address limit n
-        (λ k. either (λ (x : Made). Makes (after x)) (leb (2 * fewest n k) (length m.words)) _ _
+        (λ e. capacity (λ (x : Result ℕ Refusal). Makes (after (plan.made_by x n (length m.words)))) method address limit n
+        (λ k. either (λ (x : Result ℕ Refusal). Makes (after x)) (leb (2 * fewest n k) (length m.words)) _ _
         (λ f. accepts makes nothing _ 0 m refl refl _ refl refl) (λ f. keeps makes nothing _ 0 m refl refl 3 refl))
         (λ r g. keeps makes nothing _ 0 m refl refl (refusal_number r) (listed-so (1 ∷ 12 ∷ []) makes (refusal_number r) refl g)))
         (λ e. keeps makes nothing _ 0 m refl refl 1 refl)
@@ -112,8 +106,8 @@ module _ (m : Lent) where
     unfolding step plans.checks_plan plan.check_answer
     plan-check w =
         either Checks (eqb (length m.answer) 9) _ _
-        (λ e. capacity (λ (x : Capacity). Checks (plans.checked_told (plan.checked_by x n w) m.answer)) method address limit n
-        (λ k. either (λ (x : Checked). Checks (plans.checked_told x m.answer)) (passes k n w) _ _
+        (λ e. capacity (λ (x : Result ℕ Refusal). Checks (plans.checked_told (plan.checked_by x n w) m.answer)) method address limit n
+        (λ k. either (λ (x : Result Bool Refusal). Checks (plans.checked_told x m.answer)) (passes k n w) _ _
         (λ f. accepts checks nothing _ 0 m refl refl _ refl refl) (λ f. accepts checks nothing _ 0 m refl refl _ refl refl))
         (λ r g. keeps checks nothing _ 0 m refl refl (refusal_number r) (listed-too checks (refusal_number r) g)))
         (λ e. keeps checks nothing _ 0 m refl refl 1 refl)
@@ -190,13 +184,13 @@ module _ (m : Lent) where
     refused-write : (n : ℕ) → among (0 ∷ writes_list) n ≡ true → Writes (record { number = n; out = m.out; answer = m.answer })
     refused-write n e = keeps writes_list nothing _ (get_or m.answer 0 0) m refl refl n e
 
-    abbrev wrote : Written → settings.AfterWrite
+    abbrev wrote : Result ℕ Refusal → settings.AfterWrite
     wrote x = settings.written_told x (writing.file_of edition ws bodies) m.out m.answer
 
     pub settings-write : Ends m (step (relay_settings_write edition ws bodies) m)
     unfolding step settings.writes_settings writing.write_answer writing.length_answer
     settings-write =
-        let P : Written → Type 0 = λ x. Writes (wrote x) in
+        let P : Result ℕ Refusal → Type 0 = λ x. Writes (wrote x) in
         either Writes (eqb (length m.answer) 9) _ _
         (λ e. either P (writing.describes ws (length bodies)) _ _
         (λ f. either P (writing.all_writable (writing.given ws bodies)) _ _
@@ -207,7 +201,7 @@ module _ (m : Lent) where
         (λ e. refused-write 1 refl)
       where
         wrote-file : length m.answer ≡ 9 → writing.file_length ws (length bodies) ≤ length m.out
-            → Writes (wrote (Length (writing.file_length ws (length bodies))))
+            → Writes (wrote (Ok (writing.file_length ws (length bodies))))
         wrote-file l r =
             let n = writing.file_length ws (length bodies) in
             let w = written m.out (writing.file_of edition ws bodies) n (length-file edition ws bodies) r in
@@ -249,13 +243,13 @@ module _ (m : Lent) where
 
     by-known : (o : Option ℕ) → Reads (settings.read_told (reading.known_answer file o) m.answer)
     unfolding refused_answer
-    by-known (some i) = reads-told 15 _ refl (λ z g. never g) (λ g. (_, refl))
-    by-known none = reads-told 0 _ refl (λ z g. never z) (λ g. absurd (zero-not g))
+    by-known (Some i) = reads-told 15 _ refl (λ z g. never g) (λ g. (_, refl))
+    by-known None = reads-told 0 _ refl (λ z g. never z) (λ g. absurd (zero-not g))
 
     pub settings-read : Ends m (step (relay_settings_read file) m)
     unfolding step settings.reads_settings reading.read_answer reading.made_answer refused_answer
     settings-read =
-        let P : FileRead → Type 0 = λ x. Reads (settings.read_told x m.answer) in
+        let P : Result Shown Refusal → Type 0 = λ x. Reads (settings.read_told x m.answer) in
         either Reads (eqb (length m.answer) 9) _ _
         (λ e. either P (leb 36 (length file) && leb (length file) 65535) _ _
         (λ f. either P (reading.is_hashed file) _ _

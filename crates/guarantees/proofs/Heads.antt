@@ -19,20 +19,15 @@ use Rattle.protocol.specs.Time.{time_valid}
 use Rattle.protocol.specs.declared.Refusal.{Refusal}
 use Rattle.protocol.specs.declared.Refusal.TheVariants.{Settings, NotAuthentic, WrongType, WrongTime, More, Empty}
 use Rattle.protocol.specs.Refusal.{refusal_number, added, ends_stream}
-use Rattle.salt_pool.specs.declared.Met.{Met}
-use Rattle.salt_pool.specs.declared.Met.TheVariants.{Room as Free, Replay as Known, Full as NoRoom}
+use Rattle.salt_pool.specs.Pool.{Met}
+use Rattle.std.specs.Prelude.{Ok, Err, Result}
+use Rattle.salt_pool.specs.Pool.{Replay as Known, Full as NoRoom}
 use Rattle.salt_pool.specs.Pool.{meet}
 use Rattle.stream_pieces.specs.Pieces.{authentic_at, open_at, keyed, subkey_words, Keyed}
 use Rattle.stream_pieces.specs.declared.Subkey.{Subkey}
 use Rattle.stream_pieces.specs.Framing.{is_empty}
-use Rattle.stream_heads.specs.declared.FixedRead.{FixedRead}
-use Rattle.stream_heads.specs.declared.FixedRead.TheVariants.{Read, Refused as Unread}
 use Rattle.stream_heads.specs.Heads.{front_length, fixed_of, fields_of, read_fixed, open_fixed}
-use Rattle.stream_open_request.specs.declared.RequestOpened.{RequestOpened}
-use Rattle.stream_open_request.specs.declared.RequestOpened.TheVariants.{Accepted, Refused as Unaccepted}
 use Rattle.stream_open_request.specs.Requests.{settings, fixed_as, read_front, opened_as, opened_request, request_pool}
-use Rattle.stream_open_response.specs.declared.ResponseOpened.{ResponseOpened}
-use Rattle.stream_open_response.specs.declared.ResponseOpened.TheVariants.{Accepted as Answered, Refused as Unanswered}
 use Rattle.stream_open_response.specs.Responses.{binding_of, bound_as, bound_of, response_at, opened_response}
 use Rattle.words.specs.Answers.{refused_answer}
 use Rattle.stream_answers.specs.Chunks.{fits}
@@ -41,6 +36,10 @@ use Rattle.demands.proofs.StreamDemands.{streams-demand1}
 use Rattle.guarantees.specs.Calls.{Lent, Role, nothing, opens-front, Front, head, leaves_stream, step, relay_stream_open_request, relay_stream_open_response}
 use Rattle.guarantees.specs.Guarantees.{Ends}
 use Rattle.guarantees.proofs.Base.{either, never, unlisted, Quiet, table_same}
+use Rattle.stream_heads.specs.declared.Fixed.{Fixed}
+use Rattle.stream_open_request.specs.declared.Request.{Request}
+use Rattle.stream_open.specs.declared.Receiver.{Receiver}
+use Rattle.stream_open_response.specs.declared.Response.{Response}
 
 -- ---- what is known of a refusal
 
@@ -101,20 +100,20 @@ tag_of method key s b = authentic_at (keyed (cipher_of method) (subkey key (take
 module _ (ns behind : List ℕ) (tag : Bool) (wanted : ℕ)
     (has-4 : among (0 ∷ ns) 4 ≡ true) (has-6 : among (0 ∷ ns) 6 ≡ true) (has-7 : among (0 ∷ ns) 7 ≡ true) (early-4 : among behind 4 ≡ false) where
   -- 4 does not end what no stream was handed on of, so ends are not looked at
-  abbrev Fixes : FixedRead → Type 0
-  Fixes (Read f) = tag ≡ true
-  Fixes (Unread r) = (among (0 ∷ ns) (refusal_number r) ≡ true) × ((among behind (refusal_number r) ≡ true → tag ≡ true) × (refusal_number r ≢ 10))
+  abbrev Fixes : Result Fixed Refusal → Type 0
+  Fixes (Ok f) = tag ≡ true
+  Fixes (Err r) = (among (0 ∷ ns) (refusal_number r) ≡ true) × ((among behind (refusal_number r) ≡ true → tag ≡ true) × (refusal_number r ≢ 10))
 
   opens-fixed : (key : Keyed) (kind clock : ℕ) (s : List ℕ) → authentic_at key 0 s ≡ tag → Fixes (open_fixed key kind clock s)
   unfolding open_fixed read_fixed
   opens-fixed key kind clock s e =
       let plain = open_at key 0 s in
       either Fixes (authentic_at key 0 s)
-      (cond (eqb (get_or plain 0 0) kind) (cond (time_valid (be 8 (drop 1 plain)) clock) (Read (fields_of plain)) (Unread WrongTime)) (Unread WrongType))
-      (Unread NotAuthentic)
+      (cond (eqb (get_or plain 0 0) kind) (cond (time_valid (be 8 (drop 1 plain)) clock) (Ok (fields_of plain)) (Err WrongTime)) (Err WrongType))
+      (Err NotAuthentic)
       (λ g. let t : tag ≡ true = sym e ∙ g in
-      either Fixes (eqb (get_or plain 0 0) kind) (cond (time_valid (be 8 (drop 1 plain)) clock) (Read (fields_of plain)) (Unread WrongTime)) (Unread WrongType)
-      (λ h. either Fixes (time_valid (be 8 (drop 1 plain)) clock) (Read (fields_of plain)) (Unread WrongTime) (λ i. t)
+      either Fixes (eqb (get_or plain 0 0) kind) (cond (time_valid (be 8 (drop 1 plain)) clock) (Ok (fields_of plain)) (Err WrongTime)) (Err WrongType)
+      (λ h. either Fixes (time_valid (be 8 (drop 1 plain)) clock) (Ok (fields_of plain)) (Err WrongTime) (λ i. t)
       (λ i. (has-7, ((λ j. t), (λ j. omega (arith, j))))))
       (λ h. (has-6, ((λ j. t), (λ j. omega (arith, j))))))
       (λ g. (has-4, ((λ j. absurd (true≢false (sym j ∙ early-4))), (λ j. omega (arith, j)))))
@@ -137,16 +136,16 @@ module _ (method : ℕ) (key : List ℕ) (clock : ℕ) (s pool : List ℕ) where
   abbrev tag : Bool
   tag = tag_of method key s 0
 
-  abbrev FrontFacts : RequestOpened → Type 0
-  FrontFacts (Accepted h st) = Unit {0}
-  FrontFacts (Unaccepted r) = HeadFact request_ns request_behind tag (salt_length method + 27 + 0) r
+  abbrev FrontFacts : Result (Request × Receiver) Refusal → Type 0
+  FrontFacts (Ok (h, st)) = Unit {0}
+  FrontFacts (Err r) = HeadFact request_ns request_behind tag (salt_length method + 27 + 0) r
 
-  by-met : (w : Subkey) (used : ℕ) (x : Met) (r : FixedRead) → Fixes request_ns request_behind tag (salt_length method + 27 + 0) refl refl refl refl r
+  by-met : (w : Subkey) (used : ℕ) (x : Met) (r : Result Fixed Refusal) → Fixes request_ns request_behind tag (salt_length method + 27 + 0) refl refl refl refl r
       → FrontFacts (opened_as method w used (fixed_as x r))
-  by-met w used (Free i) (Read f) t = _
-  by-met w used Known (Read f) t = record { listed = refl; behind-tag = λ e. t; wanted-so = λ e. absurd (omega (arith, e)) }
-  by-met w used NoRoom (Read f) t = record { listed = refl; behind-tag = λ e. t; wanted-so = λ e. absurd (omega (arith, e)) }
-  by-met w used x (Unread r) t = record { listed = t.0; behind-tag = t.1.0; wanted-so = λ e. absurd (t.1.1 e) }
+  by-met w used (Ok i) (Ok f) t = _
+  by-met w used (Err Known) (Ok f) t = record { listed = refl; behind-tag = λ e. t; wanted-so = λ e. absurd (omega (arith, e)) }
+  by-met w used (Err NoRoom) (Ok f) t = record { listed = refl; behind-tag = λ e. t; wanted-so = λ e. absurd (omega (arith, e)) }
+  by-met w used x (Err r) t = record { listed = t.0; behind-tag = t.1.0; wanted-so = λ e. absurd (t.1.1 e) }
 
   pub request-known : FrontFacts (opened_request method key clock s pool)
   unfolding opened_request read_front
@@ -154,8 +153,8 @@ module _ (method : ℕ) (key : List ℕ) (clock : ℕ) (s pool : List ℕ) where
       let n = salt_length method in
       let k = subkey key (take n s) in
       let x = opened_as method (subkey_words k) (front_length n 0) (read_front (keyed (cipher_of method) k) clock n s pool) in
-      either FrontFacts (settings method (length key) pool) (cond (leb (front_length n 0) (length s)) x (Unaccepted (More (front_length n 0)))) (Unaccepted Settings)
-      (λ e. either FrontFacts (leb (front_length n 0) (length s)) x (Unaccepted (More (front_length n 0)))
+      either FrontFacts (settings method (length key) pool) (cond (leb (front_length n 0) (length s)) x (Err (More (front_length n 0)))) (Err Settings)
+      (λ e. either FrontFacts (leb (front_length n 0) (length s)) x (Err (More (front_length n 0)))
       (λ f. by-met (subkey_words k) (front_length n 0) (meet pool clock (take n s)) (open_fixed (keyed (cipher_of method) k) 0 clock (fixed_of n 0 s))
       (opens-fixed request_ns request_behind tag (salt_length method + 27 + 0) refl refl refl refl (keyed (cipher_of method) k) 0 clock (fixed_of n 0 s) refl))
       (λ f. record { listed = refl; behind-tag = λ g. absurd (true≢false (sym g)); wanted-so = λ g. refl }))
@@ -176,17 +175,17 @@ module _ (method : ℕ) (key : List ℕ) (clock : ℕ) (request_salt s : List �
   abbrev verdict : Bool
   verdict = tag_of method key s n
 
-  abbrev Bound : ResponseOpened → Type 0
-  Bound (Answered h st) = Unit {0}
-  Bound (Unanswered r) = HeadFact response_ns response_behind verdict (n + 27 + n) r
+  abbrev Bound : Result (Response × Receiver) Refusal → Type 0
+  Bound (Ok (h, st)) = Unit {0}
+  Bound (Err r) = HeadFact response_ns response_behind verdict (n + 27 + n) r
 
-  by-binding : (w : Subkey) (used : ℕ) (ours : Bool) (r : FixedRead) → Fixes response_ns response_behind verdict (n + 27 + n) refl refl refl refl r
+  by-binding : (w : Subkey) (used : ℕ) (ours : Bool) (r : Result Fixed Refusal) → Fixes response_ns response_behind verdict (n + 27 + n) refl refl refl refl r
       → Bound (bound_as method w used ours r)
-  by-binding w used true (Read f) t =
-      either Bound (is_empty f.length) (Unanswered Empty) _
+  by-binding w used true (Ok f) t =
+      either Bound (is_empty f.length) (Err Empty) _
       (λ e. record { listed = refl; behind-tag = λ g. t; wanted-so = λ g. absurd (omega (arith, g)) }) (λ e. _)
-  by-binding w used false (Read f) t = record { listed = refl; behind-tag = λ g. t; wanted-so = λ g. absurd (omega (arith, g)) }
-  by-binding w used ours (Unread r) t = record { listed = t.0; behind-tag = t.1.0; wanted-so = λ e. absurd (t.1.1 e) }
+  by-binding w used false (Ok f) t = record { listed = refl; behind-tag = λ g. t; wanted-so = λ g. absurd (omega (arith, g)) }
+  by-binding w used ours (Err r) t = record { listed = t.0; behind-tag = t.1.0; wanted-so = λ e. absurd (t.1.1 e) }
 
   pub response-known : Bound (opened_response method key clock request_salt s)
   unfolding opened_response response_at bound_of
@@ -194,8 +193,8 @@ module _ (method : ℕ) (key : List ℕ) (clock : ℕ) (request_salt s : List �
       let k = subkey key (take n s) in
       let x = response_at method (subkey_words k) (keyed (cipher_of method) k) clock n request_salt s in
       either Bound (key_fits method (length key) && eqb (length request_salt) n)
-      (cond (leb (front_length n n) (length s)) x (Unanswered (More (front_length n n)))) (Unanswered Settings)
-      (λ e. either Bound (leb (front_length n n) (length s)) x (Unanswered (More (front_length n n)))
+      (cond (leb (front_length n n) (length s)) x (Err (More (front_length n n)))) (Err Settings)
+      (λ e. either Bound (leb (front_length n n) (length s)) x (Err (More (front_length n n)))
       (λ f. by-binding (subkey_words k) (front_length n n) (same (binding_of n (open_at (keyed (cipher_of method) k) 0 (fixed_of n n s))) request_salt)
       (open_fixed (keyed (cipher_of method) k) 1 clock (fixed_of n n s))
       (opens-fixed response_ns response_behind verdict (n + 27 + n) refl refl refl refl (keyed (cipher_of method) k) 1 clock (fixed_of n n s) refl))
@@ -267,14 +266,14 @@ open-request m method key clock s =
     (λ e. go (opened_request method key clock s m.pool) refl (request-known method key clock s m.pool))
     (λ e. unfit m f 0 request_ns request_behind (opens-front f) _ refl refl refl)
   where
-    go : (x : RequestOpened) → opened_request method key clock s m.pool ≡ x → FrontFacts method key clock s m.pool x
+    go : (x : Result (Request × Receiver) Refusal) → opened_request method key clock s m.pool ≡ x → FrontFacts method key clock s m.pool x
         → Ends m (head (front_of method key clock s) 0 request_ns request_behind
         (opens-front (front_of method key clock s))
         (heads.request_left method key clock s m.pool m.stream m.answer x).number
         (leaves_stream m (request_pool method key clock s m.pool) (heads.request_left method key clock s m.pool m.stream m.answer x).stream m.out
         (heads.request_left method key clock s m.pool m.stream m.answer x).answer))
-    go (Accepted h st) e k = accepted m (front_of method key clock s) 0 request_ns request_behind (opens-front (front_of method key clock s)) _ refl refl refl _ _ _
-    go (Unaccepted r) e k =
+    go (Ok (h, st)) e k = accepted m (front_of method key clock s) 0 request_ns request_behind (opens-front (front_of method key clock s)) _ refl refl refl _ _ _
+    go (Err r) e k =
         refused m (front_of method key clock s) 0 request_ns request_behind (opens-front (front_of method key clock s)) _ refl refl refl r k (request_pool method key clock s m.pool)
         ((streams-demand1.requests method key clock s m.pool).refused-keeps-pool r e)
 
@@ -291,9 +290,9 @@ open-response m method key clock request_salt s =
     (λ e. go (opened_response method key clock request_salt s) (response-known method key clock request_salt s))
     (λ e. unfit m (front_of method key clock s) (salt_length method) response_ns response_behind nothing _ refl refl refl)
   where
-    go : (x : ResponseOpened) → Bound method key clock request_salt s x
+    go : (x : Result (Response × Receiver) Refusal) → Bound method key clock request_salt s x
         → Ends m (head (front_of method key clock s) (salt_length method) response_ns response_behind nothing
         (heads.response_left x m.stream m.answer).number
         (leaves_stream m m.pool (heads.response_left x m.stream m.answer).stream m.out (heads.response_left x m.stream m.answer).answer))
-    go (Answered h st) k = accepted m (front_of method key clock s) (salt_length method) response_ns response_behind nothing _ refl refl refl _ _ _
-    go (Unanswered r) k = refused m (front_of method key clock s) (salt_length method) response_ns response_behind nothing _ refl refl refl r k m.pool refl
+    go (Ok (h, st)) k = accepted m (front_of method key clock s) (salt_length method) response_ns response_behind nothing _ refl refl refl _ _ _
+    go (Err r) k = refused m (front_of method key clock s) (salt_length method) response_ns response_behind nothing _ refl refl refl r k m.pool refl

@@ -18,26 +18,22 @@ use Rattle.octets.proofs.NumberLaws.{length-to_be}
 use Rattle.protocol.specs.Method.{cipher_of}
 use Rattle.protocol.specs.Time.{time_valid}
 use Rattle.protocol.specs.declared.Refusal.TheVariants.{Settings, Length as TooLong, Room, Argument, Empty}
-use Rattle.salt_pool.specs.declared.Met.{Met}
-use Rattle.salt_pool.specs.declared.Met.TheVariants.{Room as Free, Replay as Known, Full as NoRoom}
+use Rattle.salt_pool.specs.Pool.{Met}
+use Rattle.std.specs.Prelude.{Ok, Err, Result}
+use Rattle.salt_pool.specs.Pool.{Replay as Known, Full as NoRoom}
 use Rattle.salt_pool.proofs.MeetLaws.{meet-exactly}
 use Rattle.salt_pool.specs.Pool as pool
 use Rattle.socks5.specs.Address.{is_address}
 use Rattle.stream_pieces.specs.Pieces.{max_chunk, tag_length, fixed_piece}
 use Rattle.stream_pieces.specs.Framing.{framing_of, is_empty}
-use Rattle.stream_seal.specs.declared.Sealed.{Sealed}
-use Rattle.stream_seal.specs.declared.Sealed.TheVariants.{Bytes, Refused as NotSealed}
 use Rattle.stream_seal.specs.declared.Sender.{Sender}
 use Rattle.stream_seal.specs.Sealing.{size_answer, seal_out}
 use Rattle.stream_seal_heads.specs.HeadSealing.{variable_part, variable_length, begun, sizes_fit, padding_lawful, request_answer, request, response_answer, response}
 use Rattle.stream_open.specs.declared.Turn.TheVariants.{Variable, Payload}
 use Rattle.stream_open.specs.declared.Receiver.{Receiver}
 use Rattle.stream_open.specs.Chunks.{receiver}
-use Rattle.stream_open_request.specs.declared.RequestOpened.{RequestOpened}
 use Rattle.stream_open_request.specs.Requests.{opened_request, request_pool}
-use Rattle.stream_open_response.specs.declared.ResponseOpened.{ResponseOpened}
 use Rattle.stream_open_response.specs.Responses.{opened_response}
-use Rattle.stream_open_variable.specs.declared.VariableOpened.{VariableOpened}
 use Rattle.stream_open_variable.specs.Variable.{variable_answer}
 use Rattle.stream_chunks.specs.Back.{partner}
 use Rattle.words.specs.Answers.{variable_words}
@@ -50,9 +46,6 @@ use Rattle.demands.specs.StreamsBack as demands
 use Rattle.demands.proofs.StreamDemands.{seal-keeps, streams-demand2}
 use Rattle.guarantees.specs.Calls.{Lent, step, sent, on_stream}
 use Rattle.guarantees.specs.Guarantees.{RequestBack, RequestsBack, ResponsesBack, DatagramsBack2017}
-use Rattle.sip004.specs.declared.Sealed.{Sealed as Sealed2017}
-use Rattle.sip004.specs.declared.Sealed.TheVariants.{Datagram, Refused as NotSealed2017}
-use Rattle.sip004.specs.declared.Opened.{Opened as Opened2017}
 use Rattle.sip004.specs.Datagram as sip004
 use Rattle.relay.specs.Sip004 as edition2017
 use Rattle.sip004_demands.specs.Datagrams.{seal_leaves, open_leaves, OpensBack}
@@ -63,7 +56,6 @@ use Rattle.protocol.specs.Method.{salt_length}
 use Rattle.protocol.specs.Subkey.{subkey}
 use Rattle.protocol.specs.declared.Refusal.TheVariants.{WrongType, WrongTime}
 use Rattle.stream_pieces.specs.Pieces.{Keyed, salted_key, open_at, subkey_words}
-use Rattle.stream_heads.specs.declared.FixedRead.TheVariants.{Read, Refused as NotRead}
 use Rattle.stream_heads.specs.Heads.{front_length, fixed_of, fields_of, read_fixed}
 use Rattle.stream_seal_heads.specs.HeadSealing.{request_at, front}
 use Rattle.stream_open_request.specs.Requests.{settings, fixed_as, opened_as}
@@ -76,18 +68,22 @@ use Rattle.guarantees.proofs.StreamsBack.{append_assoc}
 use Rattle.guarantees.proofs.Exactly.{fits-so}
 use Rattle.guarantees.proofs.Verdicts.{chain, front-number}
 use Rattle.guarantees.proofs.Deciding.{not-zero}
+use Rattle.protocol.specs.declared.Refusal.{Refusal}
+use Rattle.stream_open_request.specs.declared.Request.{Request}
+use Rattle.stream_open_variable.specs.declared.VariableHeader.{VariableHeader}
+use Rattle.stream_open_response.specs.declared.Response.{Response}
 
 -- ---- what a sealer of a head that returned 0 tells
 
-pub record SealTells (x : Sealed) (text out w answer : List ℕ) (y : AfterChunk) : Type 0 where
+pub record SealTells (x : Result (ℕ × Sender) Refusal) (text out w answer : List ℕ) (y : AfterChunk) : Type 0 where
   pub n : ℕ
   pub next : Sender
-  pub answered : x ≡ Bytes n next
+  pub answered : x ≡ Ok (n, next)
   pub nine : length answer ≡ 9
   pub leaves : y ≡ record { number = 0; out = put out 0 text; stream = sender_words next; answer = set answer 0 n }
 
-module _ (x : Sealed) (text out w answer : List ℕ) where
-  by-fit : (b : Bool) (z : Sealed) → fits (length w) (length answer) ≡ b → x ≡ z
+module _ (x : Result (ℕ × Sender) Refusal) (text out w answer : List ℕ) where
+  by-fit : (b : Bool) (z : Result (ℕ × Sender) Refusal) → fits (length w) (length answer) ≡ b → x ≡ z
       → chunks.seals x text out w answer
       ≡ cond b (record { number = Told.sealed_number z; out = seal_out z text out; stream = Told.sealed_stream z w; answer = Told.sealed_words z answer })
       (record { number = 1; out = out; stream = w; answer = answer })
@@ -99,17 +95,17 @@ module _ (x : Sealed) (text out w answer : List ℕ) where
   seal-tells : (chunks.seals x text out w answer).number ≡ 0 → SealTells x text out w answer (chunks.seals x text out w answer)
   seal-tells e = go (fits (length w) (length answer)) x refl refl
     where
-      go : (b : Bool) (z : Sealed) → fits (length w) (length answer) ≡ b → x ≡ z → SealTells x text out w answer (chunks.seals x text out w answer)
-      go true (Bytes n next) eb ez =
+      go : (b : Bool) (z : Result (ℕ × Sender) Refusal) → fits (length w) (length answer) ≡ b → x ≡ z → SealTells x text out w answer (chunks.seals x text out w answer)
+      go true (Ok (n, next)) eb ez =
           record {
             n = n;
             next = next;
             answered = ez;
             nine = eqb-true (length answer) 9 ((and-eq-true_iff (eqb (length w) 8) _).0 eb).1;
-            leaves = by-fit true (Bytes n next) eb ez;
+            leaves = by-fit true (Ok (n, next)) eb ez;
           }
-      go true (NotSealed r) eb ez =
-          absurd (true≢false (sym (ap (λ (k : ℕ). eqb k 0) (sym (ap (λ (y : AfterChunk). y.number) (by-fit true (NotSealed r) eb ez)) ∙ e)) ∙ not-zero r))
+      go true (Err r) eb ez =
+          absurd (true≢false (sym (ap (λ (k : ℕ). eqb k 0) (sym (ap (λ (y : AfterChunk). y.number) (by-fit true (Err r) eb ez)) ∙ e)) ∙ not-zero r))
       go false z eb ez = absurd (let q = sym (ap (λ (y : AfterChunk). y.number) (by-fit false z eb ez)) ∙ e in omega (arith, q))
 
   -- the bytes that were sent
@@ -123,18 +119,18 @@ module _ (x : Sealed) (text out w answer : List ℕ) where
 
 -- ---- lengths that a sealer lets pass
 
-is_bytes : Sealed → ℕ
-is_bytes (Bytes n s) = 1
-is_bytes (NotSealed r) = 0
+is_bytes : Result (ℕ × Sender) Refusal → ℕ
+is_bytes (Ok (n, s)) = 1
+is_bytes (Err r) = 0
 
 short-request : (method : ℕ) (key salt address : List ℕ) (padding payload room n : ℕ) (next : Sender)
-    → request_answer method key salt address padding payload room ≡ Bytes n next → variable_length (length address) padding payload ≤ max_chunk
+    → request_answer method key salt address padding payload room ≡ Ok (n, next) → variable_length (length address) padding payload ≤ max_chunk
 unfolding request_answer size_answer is_bytes
 short-request method key salt address padding payload room n next e =
     go (sizes_fit method (length key) (length salt)) (is_address address && padding_lawful padding payload) (leb (variable_length (length address) padding payload) max_chunk) refl (ap is_bytes e)
   where
     go : (a b c : Bool) → leb (variable_length (length address) padding payload) max_chunk ≡ c
-        → is_bytes (cond a (cond b (cond c (cond (leb (length salt + fixed_piece + variable_length (length address) padding payload + tag_length) room) (Bytes (length salt + fixed_piece + variable_length (length address) padding payload + tag_length) (begun method key salt)) (NotSealed Room)) (NotSealed TooLong)) (NotSealed Argument)) (NotSealed Settings)) ≡ 1
+        → is_bytes (cond a (cond b (cond c (cond (leb (length salt + fixed_piece + variable_length (length address) padding payload + tag_length) room) (Ok (length salt + fixed_piece + variable_length (length address) padding payload + tag_length, begun method key salt)) (Err Room)) (Err TooLong)) (Err Argument)) (Err Settings)) ≡ 1
         → variable_length (length address) padding payload ≤ max_chunk
     go false b c ec z = absurd (omega (arith, z))
     go true false c ec z = absurd (omega (arith, z))
@@ -142,13 +138,13 @@ short-request method key salt address padding payload room n next e =
     go true true true ec z = leb-true (variable_length (length address) padding payload) max_chunk ec
 
 short-response : (method : ℕ) (key salt binding : List ℕ) (payload room n : ℕ) (next : Sender)
-    → response_answer method key salt binding payload room ≡ Bytes n next → payload ≤ max_chunk
+    → response_answer method key salt binding payload room ≡ Ok (n, next) → payload ≤ max_chunk
 unfolding response_answer size_answer is_bytes
 short-response method key salt binding payload room n next e =
     go (sizes_fit method (length key) (length salt) && eqb (length binding) (length salt)) (is_empty payload) (leb payload max_chunk) refl (ap is_bytes e)
   where
     go : (a b c : Bool) → leb payload max_chunk ≡ c
-        → is_bytes (cond a (cond b (NotSealed Empty) (cond c (cond (leb (length salt + fixed_piece + length binding + payload + tag_length) room) (Bytes (length salt + fixed_piece + length binding + payload + tag_length) (begun method key salt)) (NotSealed Room)) (NotSealed TooLong))) (NotSealed Settings)) ≡ 1
+        → is_bytes (cond a (cond b (Err Empty) (cond c (cond (leb (length salt + fixed_piece + length binding + payload + tag_length) room) (Ok (length salt + fixed_piece + length binding + payload + tag_length, begun method key salt)) (Err Room)) (Err TooLong))) (Err Settings)) ≡ 1
         → payload ≤ max_chunk
     go false b c ec z = absurd (omega (arith, z))
     go true true c ec z = absurd (omega (arith, z))
@@ -168,9 +164,9 @@ at-payload method counter next n l =
 module _ (m : Lent) (method : ℕ) (key salt : List ℕ) (clock : ℕ) (address : List ℕ) (padding : ℕ) (payload rest : List ℕ)
     (good : (heads.seals_request method key salt clock address padding payload m.out m.stream m.answer).number ≡ 0) (clock-fits : clock < 2 ^ 64)
     (later place : ℕ) (valid : time_valid clock later ≡ true) (b : Lent) (fit : fits (length b.stream) (length b.answer) ≡ true)
-    (lawful : pool.lawful b.pool method ≡ true) (free : pool.meet b.pool later salt ≡ Free place) (out again : List ℕ) (nine : length again ≡ 9)
+    (lawful : pool.lawful b.pool method ≡ true) (free : pool.meet b.pool later salt ≡ Ok place) (out again : List ℕ) (nine : length again ≡ 9)
     (room : length address + 2 + padding + length payload ≤ length out) where
-  abbrev A : Sealed
+  abbrev A : Result (ℕ × Sender) Refusal
   A = request_answer method key salt address padding (length payload) (length m.out)
 
   abbrev text : List ℕ
@@ -216,7 +212,7 @@ module _ (m : Lent) (method : ℕ) (key salt : List ℕ) (clock : ℕ) (address 
   abbrev Y : heads.AfterRequest
   Y = heads.opens_request method key later (take (get_or X.answer 0 0) X.out ++ rest) b.pool b.stream b.answer
 
-  abbrev YLeft : RequestOpened → heads.AfterRequest
+  abbrev YLeft : Result (Request × Receiver) Refusal → heads.AfterRequest
   YLeft r = heads.request_left method key later (text ++ rest) b.pool b.stream b.answer r
 
   front-is : Y ≡ record {
@@ -237,7 +233,7 @@ module _ (m : Lent) (method : ℕ) (key salt : List ℕ) (clock : ℕ) (address 
   abbrev left : List ℕ
   left = drop (length salt + 27) (text ++ rest)
 
-  abbrev ZLeft : VariableOpened → Receiver → AfterChunk
+  abbrev ZLeft : Result VariableHeader Refusal → Receiver → AfterChunk
   ZLeft r st = heads.variable_left r st left out v again
 
   header_is : heads.opens_variable v left out again ≡ record {
@@ -252,7 +248,7 @@ module _ (m : Lent) (method : ℕ) (key salt : List ℕ) (clock : ℕ) (address 
       let h = demands.sealed_header (length address) back.target padding (length payload) in
       ap (λ (c : Bool). cond c (ZLeft (variable_answer (receiver_in v) left (length out)) (receiver_in v)) (record { number = 1; out = out; stream = v; answer = again })) o
       ∙ ap (λ (st : Receiver). ZLeft (variable_answer st left (length out)) st) (at_turn method 1 tells.next size small)
-      ∙ ap (λ (r : VariableOpened). ZLeft r mid) back.variable-read
+      ∙ ap (λ (r : Result VariableHeader Refusal). ZLeft r mid) back.variable-read
       ∙ (λ i. record { number = 0; out = back.text i; stream = receiver_words (back.variable-next i); answer = sets again 0 (variable_words h) })
 
   abbrev Z : AfterChunk
@@ -292,7 +288,7 @@ module _ (m : Lent) (method : ℕ) (key salt : List ℕ) (clock : ℕ) (address 
       (behind-first method (replicate (pool.capacity * pool.record_words) 0) (i * pool.record_words)
       ∙ get_or-zeros (pool.capacity * pool.record_words) (i * pool.record_words))
 
-  new-free : pool.meet new later salt ≡ Free 0
+  new-free : pool.meet new later salt ≡ Ok 0
   new-free =
       ((meet-exactly new later salt).room 0).1 (
         (λ i k. true≢false (sym k.1 ∙ new-unkept later i)),
@@ -340,20 +336,20 @@ module _ (m : Lent) (method : ℕ) (key salt : List ℕ) (clock : ℕ) (address 
   abbrev fixed : List ℕ
   fixed = open_at k 0 (fixed_of (salt_length method) 0 s)
 
-  read-so : read_fixed 0 later fixed ≡ Read (fields_of fixed)
+  read-so : read_fixed 0 later fixed ≡ Ok (fields_of fixed)
   unfolding read_fixed
   read-so =
       let o = facts.fixed-opens in
       let t = eq-eqb (get_or fixed 0 0) 0 o.right-type in
       let v : time_valid (be 8 (drop 1 fixed)) later ≡ true = ap (λ (z : ℕ). time_valid z later) (sym o.says-time) ∙ o.time-valid in
-      (λ i. cond (t i) (cond (v i) (Read (fields_of fixed)) (NotRead WrongTime)) (NotRead WrongType))
+      (λ i. cond (t i) (cond (v i) (Ok (fields_of fixed)) (Err WrongTime)) (Err WrongType))
 
   settings-good : settings method (length key) b.pool ≡ true
   unfolding settings
   settings-good = ap₂ ◌&&◌ sealed.fits (ap₂ ◌&&◌ (eq-eqb (length b.pool) 1537 pool-length) (eq-eqb (at b.pool 0) method pool-method))
 
   number_by : (x : Met) → ℕ
-  number_by x = request_number (opened_as method (subkey_words (subkey key (take (salt_length method) s))) (front_length (salt_length method) 0) (fixed_as x (Read (fields_of fixed))))
+  number_by x = request_number (opened_as method (subkey_words (subkey key (take (salt_length method) s))) (front_length (salt_length method) 0) (fixed_as x (Ok (fields_of fixed))))
 
   number_is : (heads.opens_request method key later s b.pool b.stream b.answer).number ≡ number_by (pool.meet b.pool later (take (salt_length method) s))
   unfolding number_by
@@ -365,7 +361,7 @@ module _ (m : Lent) (method : ℕ) (key salt : List ℕ) (clock : ℕ) (address 
       (request_number (opened_as method (subkey_words (subkey key (take (salt_length method) s))) (front_length (salt_length method) 0) (fixed_as (pool.meet b.pool later (take (salt_length method) s)) (read-so i)))))
 
   data PlaceFound : Type 0 where
-    found : (place : ℕ) → pool.meet b.pool later salt ≡ Free place → PlaceFound
+    found : (place : ℕ) → pool.meet b.pool later salt ≡ Ok place → PlaceFound
 
   pool-good : pool.lawful b.pool method ≡ true
   pool-good = ap₂ ◌&&◌ (eq-eqb (length b.pool) 1537 pool-length) (eq-eqb (at b.pool 0) method pool-method)
@@ -375,9 +371,9 @@ module _ (m : Lent) (method : ℕ) (key salt : List ℕ) (clock : ℕ) (address 
   place_found n e not-8 not-9 = go (pool.meet b.pool later (take (salt_length method) s)) refl (e ∙ number_is)
     where
       go : (x : Met) → pool.meet b.pool later (take (salt_length method) s) ≡ x → n ≡ number_by (pool.meet b.pool later (take (salt_length method) s)) → PlaceFound
-      go (Free i) ex en = found i (sym (ap (pool.meet b.pool later) salt-there) ∙ ex)
-      go Known ex en = absurd (not-8 (en ∙ ap number_by ex))
-      go NoRoom ex en = absurd (not-9 (en ∙ ap number_by ex))
+      go (Ok i) ex en = found i (sym (ap (pool.meet b.pool later) salt-there) ∙ ex)
+      go (Err Known) ex en = absurd (not-8 (en ∙ ap number_by ex))
+      go (Err NoRoom) ex en = absurd (not-9 (en ∙ ap number_by ex))
 
   sent-there : take (get_or (heads.seals_request method key salt clock address padding payload m.out m.stream m.answer).answer 0 0)
       (heads.seals_request method key salt clock address padding payload m.out m.stream m.answer).out ++ rest ≡ s
@@ -426,7 +422,7 @@ module _ (m : Lent) (method : ℕ) (key salt request_salt : List ℕ) (clock : �
     (good : (heads.seals_response method key salt request_salt clock payload m.out m.stream m.answer).number ≡ 0) (clock-fits : clock < 2 ^ 64)
     (later : ℕ) (valid : time_valid clock later ≡ true) (b : Lent) (fit : fits (length b.stream) (length b.answer) ≡ true) (out again : List ℕ)
     (nine : length again ≡ 9) (room : length payload ≤ length out) where
-  abbrev Ra : Sealed
+  abbrev Ra : Result (ℕ × Sender) Refusal
   Ra = response_answer method key salt request_salt (length payload) (length m.out)
 
   abbrev whole : List ℕ
@@ -468,7 +464,7 @@ module _ (m : Lent) (method : ℕ) (key salt request_salt : List ℕ) (clock : �
   head-is =
       ap (λ (s : List ℕ). heads.opens_response method key later request_salt s b.stream b.answer) sent_is
       ∙ ap (λ (c : Bool). cond c (heads.response_left (opened_response method key later request_salt (whole ++ rest)) b.stream b.answer) (record { number = 1; stream = b.stream; answer = b.answer })) fit
-      ∙ ap (λ (r : ResponseOpened). heads.response_left r b.stream b.answer) given.accepted
+      ∙ ap (λ (r : Result (Response × Receiver) Refusal). heads.response_left r b.stream b.answer) given.accepted
 
   abbrev behind_head : List ℕ
   behind_head = drop (length salt + 27 + length request_salt) (whole ++ rest)
@@ -524,7 +520,7 @@ responses-back m method key salt request_salt clock payload rest good clock-fits
 module _ (m : Lent) (method : ℕ) (key salt payload : List ℕ)
     (good : (edition2017.seals_datagram method key salt payload m.out m.answer).number ≡ 0) (b : Lent) (nine : length b.answer ≡ 9)
     (room : length payload ≤ length b.out) where
-  abbrev SA : Sealed2017
+  abbrev SA : Result ℕ Refusal
   SA = sip004.seal_answer method (length key) (length salt) (length payload) (length m.out)
 
   abbrev whole2017 : List ℕ
@@ -532,7 +528,7 @@ module _ (m : Lent) (method : ℕ) (key salt payload : List ℕ)
 
   record Tells2017 (x : edition2017.AfterDatagram) : Type 0 where
     n : ℕ
-    answered : SA ≡ Datagram n
+    answered : SA ≡ Ok n
     nine_words : length m.answer ≡ 9
     leaves-out : x.out ≡ seal_leaves method key salt payload m.out
     leaves-answer : x.answer ≡ set m.answer 0 n
@@ -540,7 +536,7 @@ module _ (m : Lent) (method : ℕ) (key salt payload : List ℕ)
   abbrev SX : edition2017.AfterDatagram
   SX = edition2017.seals_datagram method key salt payload m.out m.answer
 
-  by_answer : (c : Bool) (x : Sealed2017) → eqb (length m.answer) 9 ≡ c → SA ≡ x
+  by_answer : (c : Bool) (x : Result ℕ Refusal) → eqb (length m.answer) 9 ≡ c → SA ≡ x
       → SX ≡ cond c (edition2017.sealed_told x whole2017 m.out m.answer) (record { number = 1; out = m.out; answer = m.answer })
   unfolding edition2017.tells
   by_answer c x ec ex = λ i. cond (ec i) (edition2017.sealed_told (ex i) whole2017 m.out m.answer) (record { number = 1; out = m.out; answer = m.answer })
@@ -548,18 +544,18 @@ module _ (m : Lent) (method : ℕ) (key salt payload : List ℕ)
   tells2017 : Tells2017 SX
   tells2017 = go (eqb (length m.answer) 9) SA refl refl
     where
-      go : (c : Bool) (x : Sealed2017) → eqb (length m.answer) 9 ≡ c → SA ≡ x → Tells2017 (edition2017.seals_datagram method key salt payload m.out m.answer)
-      go true (Datagram n) ec ex =
-          let p = by_answer true (Datagram n) ec ex in
+      go : (c : Bool) (x : Result ℕ Refusal) → eqb (length m.answer) 9 ≡ c → SA ≡ x → Tells2017 (edition2017.seals_datagram method key salt payload m.out m.answer)
+      go true (Ok n) ec ex =
+          let p = by_answer true (Ok n) ec ex in
           record {
             n = n;
             answered = ex;
             nine_words = eqb-true (length m.answer) 9 ec;
-            leaves-out = ap (λ (y : edition2017.AfterDatagram). y.out) p ∙ sym (ap (λ (z : Sealed2017). sip004.seal_out z whole2017 m.out) ex);
+            leaves-out = ap (λ (y : edition2017.AfterDatagram). y.out) p ∙ sym (ap (λ (z : Result ℕ Refusal). sip004.seal_out z whole2017 m.out) ex);
             leaves-answer = ap (λ (y : edition2017.AfterDatagram). y.answer) p;
           }
-      go true (NotSealed2017 r) ec ex =
-          absurd (true≢false (sym (ap (λ (k : ℕ). eqb k 0) (sym (ap (λ (y : edition2017.AfterDatagram). y.number) (by_answer true (NotSealed2017 r) ec ex)) ∙ good)) ∙ not-zero r))
+      go true (Err r) ec ex =
+          absurd (true≢false (sym (ap (λ (k : ℕ). eqb k 0) (sym (ap (λ (y : edition2017.AfterDatagram). y.number) (by_answer true (Err r) ec ex)) ∙ good)) ∙ not-zero r))
       go false x ec ex = absurd (let q = sym (ap (λ (y : edition2017.AfterDatagram). y.number) (by_answer false x ec ex)) ∙ good in omega (arith, q))
 
   abbrev bytes2017 : List ℕ
@@ -582,9 +578,9 @@ module _ (m : Lent) (method : ℕ) (key salt payload : List ℕ)
   unfolding edition2017.tells
   opened2017 =
       ap (λ (c : Bool). cond c (edition2017.opened_told (sip004.open_answer method key bytes2017 (length b.out)) (sip004.payload_of key bytes2017) b.out b.answer) (record { number = 1; out = b.out; answer = b.answer })) (eq-eqb (length b.answer) 9 nine)
-      ∙ ap (λ (x : Opened2017). edition2017.opened_told x (sip004.payload_of key bytes2017) b.out b.answer) opens2017.answer
+      ∙ ap (λ (x : Result ℕ Refusal). edition2017.opened_told x (sip004.payload_of key bytes2017) b.out b.answer) opens2017.answer
       ∙ ap (λ (l : List ℕ). record { number = 0; out = l; answer = set b.answer 0 (length payload) })
-      (sym (ap (λ (x : Opened2017). sip004.open_out x (sip004.payload_of key bytes2017) b.out) opens2017.answer))
+      (sym (ap (λ (x : Result ℕ Refusal). sip004.open_out x (sip004.payload_of key bytes2017) b.out) opens2017.answer))
 
 pub datagrams-back-2017 : DatagramsBack2017
 unfolding step

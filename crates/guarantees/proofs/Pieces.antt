@@ -1,5 +1,6 @@
 -- The calls that open a piece of a stream: a request's variable header, and the chunks of both editions.
 -- Assumes nothing.
+use Rattle.std.specs.Prelude.{Err, None, Ok, Option, Result, Some}
 use mathlib.Core.Path.{◌≡◌, refl, sym, ap, ◌∙◌, subst}
 use mathlib.Core.Logic.{◌≢◌}
 use mathlib.Core.Bool.{Bool, true, false, cond, ◌||◌, or-false, true≢false, and-eq-true_iff}
@@ -15,19 +16,13 @@ use Rattle.protocol.specs.Method.{key_length, cipher_of}
 use Rattle.protocol.specs.declared.Refusal.{Refusal}
 use Rattle.protocol.specs.declared.Refusal.TheVariants.{Settings, Length as TooLong, Room, NotAuthentic, Malformed, WrongType, WrongTime, Replay, Full, More, Counter, Argument, Binding, Empty, UnknownSetting}
 use Rattle.protocol.specs.Refusal.{refusal_number, ends_stream}
-use Rattle.socks5.specs.declared.Parsed.{Parsed}
-use Rattle.socks5.specs.declared.Parsed.TheVariants.{Found, Malformed as NoAddress}
 use Rattle.socks5.specs.Address.{parse_at}
 use Rattle.stream_pieces.specs.Pieces.{authentic_at, open_at, key_of, Keyed, keyed, max_chunk, last_counter}
 use Rattle.stream_pieces.specs.declared.Framing.{Framing}
 use Rattle.stream_pieces.specs.Framing.{under, over, unframed, framing_of}
 use Rattle.stream_open.specs.declared.Turn.TheVariants.{Variable, Length, Payload, Ended}
 use Rattle.stream_open.specs.declared.Receiver.{Receiver}
-use Rattle.stream_open.specs.declared.Stepped.{Stepped}
-use Rattle.stream_open.specs.declared.Stepped.TheVariants.{Opened, Refused as Unopened}
 use Rattle.stream_open.specs.Steps.{piece_answer, length_read, length_answer, key_in, turn_answer, step_answer, step_out}
-use Rattle.stream_open_variable.specs.declared.VariableOpened.{VariableOpened}
-use Rattle.stream_open_variable.specs.declared.VariableOpened.TheVariants.{Header, Refused as Unheaded}
 use Rattle.stream_open_variable.specs.Variable.{header_with, read_variable, padding_fits, variable_piece, header_answer, turn_variable, variable_answer, variable_out}
 use Rattle.stream_chunks.specs.Keeps.{StepKeeps, due_at as step_due}
 use Rattle.words.specs.Answers.{refused_answer}
@@ -44,6 +39,9 @@ use Rattle.guarantees.specs.Calls.{Lent, at, piece, due_at, opens_piece, step, r
 use Rattle.guarantees.specs.Guarantees.{Ends}
 use Rattle.guarantees.proofs.Base.{either, never, unlisted}
 use Rattle.guarantees.proofs.Heads.{Fact, early, late, missing, told-kept, told-wanted, none-due}
+use Rattle.stream_open_variable.specs.declared.VariableHeader.{VariableHeader}
+use Rattle.socks5.specs.declared.Address.{Address}
+use Rattle.stream_open.specs.declared.Chunk.{Chunk}
 
 -- ---- words of a stream
 
@@ -86,12 +84,12 @@ module _ (w s out : List ℕ) (lawful : receiver_lawful w ≡ true) where
   lawful-turn : turn_lawful (at w 0) (at w 3) ≡ true
   lawful-turn = ((and-eq-true_iff (eqb (length w) 8) _).0 lawful).1
 
-  abbrev Heads : VariableOpened → Type 0
-  Heads (Header h) = Unit {0}
-  Heads (Unheaded r) = Fact variable_ns (5 ∷ []) (4 ∷ 5 ∷ []) tag (piece w + 16) r
+  abbrev Heads : Result VariableHeader Refusal → Type 0
+  Heads (Ok h) = Unit {0}
+  Heads (Err r) = Fact variable_ns (5 ∷ []) (4 ∷ 5 ∷ []) tag (piece w + 16) r
 
   plainly : (r : Refusal) → among (0 ∷ variable_ns) (refusal_number r) ≡ true → among (5 ∷ []) (refusal_number r) ≡ false → refusal_number r ≢ 10
-      → ends_stream r ≡ among (4 ∷ 5 ∷ []) (refusal_number r) → Heads (Unheaded r)
+      → ends_stream r ≡ among (4 ∷ 5 ∷ []) (refusal_number r) → Heads (Err r)
   plainly r = early variable_ns (5 ∷ []) (4 ∷ 5 ∷ []) tag (piece w + 16) r
 
   module _ (k : ℕ) (ek : k ≡ piece w) (ec : at w 2 ≡ 1) where
@@ -99,24 +97,24 @@ module _ (w s out : List ℕ) (lawful : receiver_lawful w ≡ true) where
     pub verdict : authentic_at key 1 (variable_piece k s) ≡ tag
     verdict = λ i. authentic_at key (sym ec i) (take (ek i + 16) s)
 
-    by-parsed : tag ≡ true → (plain : List ℕ) (p : Parsed) → Heads (header_with k plain p)
-    by-parsed t plain (Found a) =
-        either Heads (padding_fits a.end plain) _ (Unheaded Malformed) (λ e. _) (λ e. late variable_ns (5 ∷ []) (4 ∷ 5 ∷ []) tag (piece w + 16) Malformed refl t (λ g. omega (arith, g)) refl)
-    by-parsed t plain NoAddress = late variable_ns (5 ∷ []) (4 ∷ 5 ∷ []) tag (piece w + 16) Malformed refl t (λ g. omega (arith, g)) refl
+    by-parsed : tag ≡ true → (plain : List ℕ) (p : Option Address) → Heads (header_with k plain p)
+    by-parsed t plain (Some a) =
+        either Heads (padding_fits a.end plain) _ (Err Malformed) (λ e. _) (λ e. late variable_ns (5 ∷ []) (4 ∷ 5 ∷ []) tag (piece w + 16) Malformed refl t (λ g. omega (arith, g)) refl)
+    by-parsed t plain None = late variable_ns (5 ∷ []) (4 ∷ 5 ∷ []) tag (piece w + 16) Malformed refl t (λ g. omega (arith, g)) refl
 
     by-piece : Heads (header_answer key k s (length out))
     unfolding header_answer read_variable
     by-piece =
         let plain = open_at key 1 (variable_piece k s) in
-        let x = cond (authentic_at key 1 (variable_piece k s)) (header_with k plain (parse_at plain 0)) (Unheaded NotAuthentic) in
-        either Heads (leb (k + 16) (length s)) (cond (leb k (length out)) x (Unheaded Room)) (Unheaded (More (k + 16)))
-        (λ e. either Heads (leb k (length out)) x (Unheaded Room)
-        (λ f. either Heads (authentic_at key 1 (variable_piece k s)) (header_with k plain (parse_at plain 0)) (Unheaded NotAuthentic)
+        let x = cond (authentic_at key 1 (variable_piece k s)) (header_with k plain (parse_at plain 0)) (Err NotAuthentic) in
+        either Heads (leb (k + 16) (length s)) (cond (leb k (length out)) x (Err Room)) (Err (More (k + 16)))
+        (λ e. either Heads (leb k (length out)) x (Err Room)
+        (λ f. either Heads (authentic_at key 1 (variable_piece k s)) (header_with k plain (parse_at plain 0)) (Err NotAuthentic)
         (λ g. by-parsed (sym verdict ∙ g) plain (parse_at plain 0)) (λ g. plainly NotAuthentic refl refl (λ h. omega (arith, h)) refl))
         (λ f. plainly Room refl refl (λ h. omega (arith, h)) refl))
         (λ e. missing variable_ns (5 ∷ []) (4 ∷ 5 ∷ []) tag (piece w + 16) (k + 16) refl refl refl (ap (λ (j : ℕ). j + 16) ek))
 
-  settings : Heads (Unheaded Settings)
+  settings : Heads (Err Settings)
   settings = plainly Settings refl refl (λ h. omega (arith, h)) refl
 
   by_turn : (a b c : Bool) → eqb (at w 0) 1 ≡ a → eqb (at w 0) 2 ≡ b → eqb (at w 0) 4 ≡ c
@@ -124,7 +122,7 @@ module _ (w s out : List ℕ) (lawful : receiver_lawful w ≡ true) where
   by_turn true b c ea eb ec = settings
   by_turn false true c ea eb ec = settings
   by_turn false false true ea eb ec =
-      either Heads (eqb (at w 2) 1) (header_answer key (at w 3 % 65536) s (length out)) (Unheaded Settings)
+      either Heads (eqb (at w 2) 1) (header_answer key (at w 3 % 65536) s (length out)) (Err Settings)
       (λ e. by-piece (at w 3 % 65536) (at-4 (at w 0) (at w 3) lawful-turn ec ∙ sym (ap (λ (x : Bool). cond x 2 (at w 3)) ea)) (eqb-true (at w 2) 1 e))
       (λ e. settings)
   by_turn false false false ea eb ec = plainly NotAuthentic refl refl (λ h. omega (arith, h)) refl
@@ -132,7 +130,7 @@ module _ (w s out : List ℕ) (lawful : receiver_lawful w ≡ true) where
   variable-known : Heads (variable_answer st s (length out))
   unfolding variable_answer
   variable-known =
-      either Heads (eqb (key_length (at w 1)) 0) (Unheaded Settings) (turn_variable st.turn st s (length out)) (λ e. settings)
+      either Heads (eqb (key_length (at w 1)) 0) (Err Settings) (turn_variable st.turn st s (length out)) (λ e. settings)
       (λ e. by_turn (eqb (at w 0) 1) (eqb (at w 0) 2) (eqb (at w 0) 4) refl refl refl)
 
   -- what is due
@@ -168,12 +166,12 @@ module _ (f : Framing) (ns behind : List ℕ) (has_1 : among (0 ∷ ns) 1 ≡ tr
     pub fact : Fact ns behind (4 ∷ behind) piece_tag (piece w + 16) r
     pub none-is-due : among behind (refusal_number r) ≡ true → due_at 2 w ≡ 0
 
-  abbrev Steps : Stepped → Type 0
-  Steps (Opened c) = Unit {0}
-  Steps (Unopened r) = StepFact r
+  abbrev Steps : Result Chunk Refusal → Type 0
+  Steps (Ok c) = Unit {0}
+  Steps (Err r) = StepFact r
 
   before : (r : Refusal) → among (0 ∷ ns) (refusal_number r) ≡ true → among behind (refusal_number r) ≡ false → refusal_number r ≢ 10
-      → ends_stream r ≡ eqb (refusal_number r) 4 → Steps (Unopened r)
+      → ends_stream r ≡ eqb (refusal_number r) 4 → Steps (Err r)
   before r l e n g = record {
     fact = early ns behind (4 ∷ behind) piece_tag (piece w + 16) r l e n (g ∙ sym (ap (◌||◌ (eqb (refusal_number r) 4)) e ∙ or-false (eqb (refusal_number r) 4)));
     none-is-due = λ h. absurd (true≢false (sym h ∙ e));
@@ -181,18 +179,18 @@ module _ (f : Framing) (ns behind : List ℕ) (has_1 : among (0 ∷ ns) 1 ≡ tr
 
   module _ (has-14 : (n : ℕ) → under f n ≡ true → (among (0 ∷ ns) 14 ≡ true) × (among behind 14 ≡ true))
       (has-5 : (n : ℕ) → over f n ≡ true → (among (0 ∷ ns) 5 ≡ true) × (among behind 5 ≡ true)) where
-    module _ (k asked : ℕ) (ek : k ≡ piece w) (good : Stepped) (good-so : piece_tag ≡ true → Steps good) where
+    module _ (k asked : ℕ) (ek : k ≡ piece w) (good : Result Chunk Refusal) (good-so : piece_tag ≡ true → Steps good) where
       opens-piece : Steps (piece_answer piece_key (at w 2) k s asked (length out) good)
       unfolding piece_answer
       opens-piece =
-          let x = cond (authentic_at piece_key (at w 2) (take (k + 16) s)) good (Unopened NotAuthentic) in
+          let x = cond (authentic_at piece_key (at w 2) (take (k + 16) s)) good (Err NotAuthentic) in
           let e16 : k + 16 ≡ piece w + 16 = ap (λ (j : ℕ). j + 16) ek in
-          either Steps (eqb (at w 2) last_counter) (Unopened Counter)
-          (cond (leb (k + 16) (length s)) (cond (leb asked (length out)) x (Unopened Room)) (Unopened (More (k + 16))))
+          either Steps (eqb (at w 2) last_counter) (Err Counter)
+          (cond (leb (k + 16) (length s)) (cond (leb asked (length out)) x (Err Room)) (Err (More (k + 16))))
           (λ e. before Counter has-11 no-11 (λ h. omega (arith, h)) refl)
-          (λ e. either Steps (leb (k + 16) (length s)) (cond (leb asked (length out)) x (Unopened Room)) (Unopened (More (k + 16)))
-          (λ g. either Steps (leb asked (length out)) x (Unopened Room)
-          (λ h. either Steps (authentic_at piece_key (at w 2) (take (k + 16) s)) good (Unopened NotAuthentic)
+          (λ e. either Steps (leb (k + 16) (length s)) (cond (leb asked (length out)) x (Err Room)) (Err (More (k + 16)))
+          (λ g. either Steps (leb asked (length out)) x (Err Room)
+          (λ h. either Steps (authentic_at piece_key (at w 2) (take (k + 16) s)) good (Err NotAuthentic)
           (λ i. good-so (ap (λ (j : ℕ). authentic_at piece_key (at w 2) (take j s)) (sym e16) ∙ i)) (λ i. before NotAuthentic has-4 no-4 (λ j. omega (arith, j)) refl))
           (λ h. before Room has-3 no-3 (λ i. omega (arith, i)) refl))
           (λ g. record {
@@ -202,12 +200,12 @@ module _ (f : Framing) (ns behind : List ℕ) (has_1 : among (0 ∷ ns) 1 ≡ tr
 
     by_length : due_at 2 w ≡ 0 → piece_tag ≡ true → (n : ℕ) → Steps (length_answer f n)
     by_length d t n =
-        either Steps (under f n) (Unopened Empty) _
+        either Steps (under f n) (Err Empty) _
         (λ e. record {
           fact = late ns behind (4 ∷ behind) piece_tag (piece w + 16) Empty (has-14 n e).0 t (λ h. omega (arith, h)) (sym (has-14 n e).1);
           none-is-due = λ h. d;
         })
-        (λ e. either Steps (over f n) (Unopened Malformed) _
+        (λ e. either Steps (over f n) (Err Malformed) _
         (λ g. record {
           fact = late ns behind (4 ∷ behind) piece_tag (piece w + 16) Malformed (has-5 n g).0 t (λ h. omega (arith, h)) (sym (has-5 n g).1);
           none-is-due = λ h. d;
@@ -222,7 +220,7 @@ module _ (f : Framing) (ns behind : List ℕ) (has_1 : among (0 ∷ ns) 1 ≡ tr
         (λ t. by_length d t (length_read piece_key (at w 2) s))
     step-by-turn false true c ea eb ec =
         let k = at w 3 % 65536 in
-        either Steps (unframed f k) (Unopened Settings) _ (λ e. before Settings has_1 no-1 (λ h. omega (arith, h)) refl)
+        either Steps (unframed f k) (Err Settings) _ (λ e. before Settings has_1 no-1 (λ h. omega (arith, h)) refl)
         (λ e. opens-piece k k (at-2 (at w 0) (at w 3) turn-lawful eb ∙ sym (ap (λ (x : Bool). cond x 2 (at w 3)) ea)) _ (λ t. _))
       where
         turn-lawful : turn_lawful (at w 0) (at w 3) ≡ true
@@ -233,7 +231,7 @@ module _ (f : Framing) (ns behind : List ℕ) (has_1 : among (0 ∷ ns) 1 ≡ tr
     step-known : Steps (step_answer f state s (length out))
     unfolding step_answer
     step-known =
-        either Steps (eqb f.key 0) (Unopened Settings) (turn_answer f state.turn state s (length out))
+        either Steps (eqb f.key 0) (Err Settings) (turn_answer f state.turn state s (length out))
         (λ e. before Settings has_1 no-1 (λ h. omega (arith, h)) refl)
         (λ e. step-by-turn (eqb (at w 0) 1) (eqb (at w 0) 2) (eqb (at w 0) 4) refl refl refl)
 
@@ -343,7 +341,7 @@ module _ (m : Lent) (s : List ℕ) where
   abbrev w : List ℕ
   w = m.stream
 
-  abbrev variable_answered : VariableOpened
+  abbrev variable_answered : Result VariableHeader Refusal
   variable_answered = variable_answer (receiver_in w) s (length m.out)
 
   abbrev VariableLeaves : AfterChunk → Type 0
@@ -360,10 +358,10 @@ module _ (m : Lent) (s : List ℕ) where
     past = let d = due-variable w s m.out l in
         sym (ap (λ (k : ℕ). drop k left) d) ∙ keeps.past-due-kept ∙ ap (λ (k : ℕ). drop k m.out) d
 
-    by-variable : (x : VariableOpened) → variable_answered ≡ x → Heads w s m.out l x
+    by-variable : (x : Result VariableHeader Refusal) → variable_answered ≡ x → Heads w s m.out l x
         → VariableLeaves (heads.variable_left x (receiver_in w) s m.out w m.answer)
-    by-variable (Header h) e k = opened-so m s (key_of_words w) (due_at 4 w) variable_ns (5 ∷ []) refl refl refl left _ _ past keeps.length-kept
-    by-variable (Unheaded r) e k =
+    by-variable (Ok h) e k = opened-so m s (key_of_words w) (due_at 4 w) variable_ns (5 ∷ []) refl refl refl left _ _ past keeps.length-kept
+    by-variable (Err r) e k =
         refused-so m s (key_of_words w) (due_at 4 w) variable_ns (5 ∷ []) refl refl refl r k left
         (by-five (refusal_number r)
         (λ f. (cleared-out f).1 ∙ sym (ap (λ (n : ℕ). cond (among (5 ∷ []) n) (put m.out 0 (replicate (due_at 4 w) 0)) m.out) f))
@@ -373,7 +371,7 @@ module _ (m : Lent) (s : List ℕ) where
       where
         cleared-out : refusal_number r ≡ 5 → (due_at 4 w ≤ length m.out) × (variable_out (receiver_in w) s m.out ≡ put m.out 0 (replicate (due_at 4 w) 0))
         cleared-out f =
-            let c = (streams-demand1.variable-headers (receiver_in w) s m.out).cleared (e ∙ ap Unheaded (five r f)) in
+            let c = (streams-demand1.variable-headers (receiver_in w) s m.out).cleared (e ∙ ap Err (five r f)) in
             subst (λ (n : ℕ). (n ≤ length m.out) × (variable_out (receiver_in w) s m.out ≡ put m.out 0 (replicate n 0)))
             (due-variable w s m.out l) c
 
@@ -401,7 +399,7 @@ module _ (m : Lent) (s : List ℕ) (f : Framing) (ns behind : List ℕ) (has_1 :
   ChunkLeaves y = Leaves m s (key_in f (receiver_in v)) (due_at 2 v) ns behind has_1 no-15 no-1 y
 
   module _ (l : receiver_lawful v ≡ true) where
-    abbrev Stepping : Stepped → Type 0
+    abbrev Stepping : Result Chunk Refusal → Type 0
     Stepping x = Steps f ns behind has_1 has-3 has-4 has-10 has-11 no-1 no-3 no-4 no-10 no-11 v s m.out l x
 
     abbrev step_left : List ℕ
@@ -412,10 +410,10 @@ module _ (m : Lent) (s : List ℕ) (f : Framing) (ns behind : List ℕ) (has_1 :
         let d = due-step f ns behind has_1 has-3 has-4 has-10 has-11 no-1 no-3 no-4 no-10 no-11 v s m.out l in
         sym (ap (λ (k : ℕ). drop k step_left) d) ∙ kept.past-due-kept ∙ ap (λ (k : ℕ). drop k m.out) d
 
-    by-step : (x : Stepped) → step_answer f (receiver_in v) s (length m.out) ≡ x → Stepping x
+    by-step : (x : Result Chunk Refusal) → step_answer f (receiver_in v) s (length m.out) ≡ x → Stepping x
         → ChunkLeaves (chunks.step_told f x (receiver_in v) s m.out v m.answer)
-    by-step (Opened c) e k = opened-so m s (key_in f (receiver_in v)) (due_at 2 v) ns behind has_1 no-15 no-1 step_left _ _ past-step kept.length-kept
-    by-step (Unopened r) e k =
+    by-step (Ok c) e k = opened-so m s (key_in f (receiver_in v)) (due_at 2 v) ns behind has_1 no-15 no-1 step_left _ _ past-step kept.length-kept
+    by-step (Err r) e k =
         refused-so m s (key_in f (receiver_in v)) (due_at 2 v) ns behind has_1 no-15 no-1 r k.fact step_left
         (kept.refused-keeps-out r e ∙ none_written (among behind (refusal_number r)) k.none-is-due)
         (λ g. let z = k.none-is-due g in omega (arith, z)) past-step kept.length-kept

@@ -1,5 +1,6 @@
 -- The calls that leave all that they were lent where they refuse: making, beginning and sealing.
 -- Assumes nothing.
+use Rattle.std.specs.Prelude.{Err, Ok, Result}
 use mathlib.Core.Path.{◌≡◌, refl, sym, ap, ◌∙◌}
 use mathlib.Core.Bool.{Bool, true, false, cond, ◌&&◌, and-eq-true_iff}
 use mathlib.Core.List.{List, [], ◌∷◌}
@@ -14,10 +15,6 @@ use Rattle.protocol.specs.declared.Refusal.{Refusal}
 use Rattle.protocol.specs.Refusal.{refusal_number}
 use Rattle.session_table.specs.Table as table
 use Rattle.salt_pool.specs.Pool as pool
-use Rattle.datagram_seal.specs.declared.Begun.{Begun}
-use Rattle.datagram_seal.specs.declared.Begun.TheVariants.{Ready, Refused as NotBegun}
-use Rattle.datagram_seal.specs.declared.Sealed.{Sealed}
-use Rattle.datagram_seal.specs.declared.Sealed.TheVariants.{Datagram, Refused as NotSealed}
 use Rattle.datagram_seal.specs.Sealing.{client_sender, seal_answer, datagram}
 use Rattle.reply_session.specs.Beginning.{reply_begun}
 use Rattle.words.specs.States.{session_size, session_lawful, session_in}
@@ -28,6 +25,7 @@ use Rattle.demands.proofs.Demand1.{demand1}
 use Rattle.guarantees.specs.Calls.{Lent, nothing, makes-table, makes-pool, says, writes, leaves, leaves_stream, step, relay_table_new, relay_session_begin_client, relay_session_begin_server, relay_datagram_seal, relay_pool_new}
 use Rattle.guarantees.specs.Guarantees.{Ends}
 use Rattle.guarantees.proofs.Base.{listed-too, either, written, first_word, length-nine, keeps, accepts}
+use Rattle.datagram_seal.specs.declared.Sender.{Sender}
 
 module _ (m : Lent) where
   -- ---- making
@@ -55,7 +53,7 @@ module _ (m : Lent) where
   -- ---- beginning
 
   module _ (ns : List ℕ) (no-10 : among (0 ∷ ns) 10 ≡ false) (no-15 : among (0 ∷ ns) 15 ≡ false) (has_1 : among (0 ∷ ns) 1 ≡ true) where
-    begun : (x : Begun) → ((r : Refusal) → x ≡ NotBegun r → among (0 ∷ ns) (refusal_number r) ≡ true)
+    begun : (x : Result Sender Refusal) → ((r : Refusal) → x ≡ Err r → among (0 ∷ ns) (refusal_number r) ≡ true)
         → Ends m (says ns nothing (datagrams.begins x m.session).number
         (leaves m m.table (datagrams.begins x m.session).session m.out m.words m.answer) 0)
     unfolding datagrams.begins
@@ -64,21 +62,21 @@ module _ (m : Lent) where
         (eqb (length m.session) session_size) (datagrams.begun_words x m.session) (record { number = 1; session = m.session })
         (λ e. go x listed) (λ e. keeps ns nothing _ 0 m no-10 no-15 1 has_1)
       where
-        go : (x : Begun) → ((r : Refusal) → x ≡ NotBegun r → among (0 ∷ ns) (refusal_number r) ≡ true)
+        go : (x : Result Sender Refusal) → ((r : Refusal) → x ≡ Err r → among (0 ∷ ns) (refusal_number r) ≡ true)
             → Ends m (says ns nothing (datagrams.begun_words x m.session).number
             (leaves m m.table (datagrams.begun_words x m.session).session m.out m.words m.answer) 0)
-        go (Ready s) l = accepts ns nothing _ 0 m no-10 no-15 _ refl refl
-        go (NotBegun r) l = keeps ns nothing _ 0 m no-10 no-15 (refusal_number r) (l r refl)
+        go (Ok s) l = accepts ns nothing _ 0 m no-10 no-15 _ refl refl
+        go (Err r) l = keeps ns nothing _ 0 m no-10 no-15 (refusal_number r) (l r refl)
 
   pub begin-client : (id : ℕ) → Ends m (step (relay_session_begin_client id) m)
   unfolding step
-  begin-client id = begun (1 ∷ []) refl refl refl (Ready (client_sender id)) (λ r e. absurd (not-both r e))
+  begin-client id = begun (1 ∷ []) refl refl refl (Ok (client_sender id)) (λ r e. absurd (not-both r e))
     where
-      is_ready : Begun → ℕ
-      is_ready (Ready s) = 1
-      is_ready (NotBegun r) = 0
+      is_ready : Result Sender Refusal → ℕ
+      is_ready (Ok s) = 1
+      is_ready (Err r) = 0
 
-      not-both : (r : Refusal) → Ready (client_sender id) ≡ NotBegun r → ⊥
+      not-both : (r : Refusal) → Ok (client_sender id) ≡ Err r → ⊥
       not-both r e = let z : ◌≡◌ {A = ℕ} 1 0 = ap is_ready e in omega arith
 
   pub begin-server : (id client clock : ℕ) → Ends m (step (relay_session_begin_server id client clock) m)
@@ -86,11 +84,11 @@ module _ (m : Lent) where
   begin-server id client clock =
       begun (1 ∷ 12 ∷ []) refl refl refl (reply_begun m.table clock id client) (λ r. by (demand1.sessions-begun.servers-answered m.table clock id client) r)
     where
-      number : Begun → ℕ
-      number (Ready s) = 0
-      number (NotBegun r) = refusal_number r
+      number : Result Sender Refusal → ℕ
+      number (Ok s) = 0
+      number (Err r) = refusal_number r
 
-      by : {x : Begun} → BeginAnswered id client x → (r : Refusal) → x ≡ NotBegun r → among (0 ∷ 1 ∷ 12 ∷ []) (refusal_number r) ≡ true
+      by : {x : Result Sender Refusal} → BeginAnswered id client x → (r : Refusal) → x ≡ Err r → among (0 ∷ 1 ∷ 12 ∷ []) (refusal_number r) ≡ true
       by (begins e) r f = ap (among (0 ∷ 1 ∷ 12 ∷ [])) (sym (ap number f) ∙ ap number e)
       by (refused-1 e) r f = ap (among (0 ∷ 1 ∷ 12 ∷ [])) (sym (ap number f) ∙ ap number e)
       by (refused-12 e) r f = ap (among (0 ∷ 1 ∷ 12 ∷ [])) (sym (ap number f) ∙ ap number e)
@@ -101,7 +99,7 @@ module _ (m : Lent) where
     abbrev ns : List ℕ
     ns = 1 ∷ 12 ∷ 11 ∷ 2 ∷ 3 ∷ []
 
-    abbrev answered : Sealed
+    abbrev answered : Result ℕ Refusal
     answered = seal_answer method (length key) (length nonce) (session_in m.session) address padding (length payload) (length m.out)
 
     abbrev text : List ℕ
@@ -113,19 +111,19 @@ module _ (m : Lent) where
     sealed-keeps : SealKeeps (session_in m.session) answered text m.out
     sealed-keeps = demand1.datagrams-sealed method key nonce (session_in m.session) clock address padding payload m.out
 
-    datagram-told : length m.answer ≡ 9 → (x : Sealed) → answered ≡ x → Says (datagrams.sealed x text m.session m.out m.answer)
-    datagram-told l (Datagram n) e =
+    datagram-told : length m.answer ≡ 9 → (x : Result ℕ Refusal) → answered ≡ x → Says (datagrams.sealed x text m.session m.out m.answer)
+    datagram-told l (Ok n) e =
         let f = sealed-keeps.sealed-length n e in
         let w = written m.out text n f.0 f.1 in
         let a = first_word m.answer n l in
         accepts ns nothing _ (get_or (set m.answer 0 n) 0 0) m refl refl _
         (ap (λ (k : ℕ). drop k (put m.out 0 text)) a ∙ w.0 ∙ sym (ap (λ (k : ℕ). drop k m.out) a)) w.1
-    datagram-told l (NotSealed r) e =
+    datagram-told l (Err r) e =
         keeps ns nothing _ (get_or m.answer 0 0) m refl refl (refusal_number r) (listed sealed-keeps.answered)
       where
-        number : Sealed → ℕ
-        number (Datagram n) = 0
-        number (NotSealed q) = refusal_number q
+        number : Result ℕ Refusal → ℕ
+        number (Ok n) = 0
+        number (Err q) = refusal_number q
 
         listed : demands.SealAnswered answered → among (0 ∷ ns) (refusal_number r) ≡ true
         listed (demands.sealed n f) = ap (among (0 ∷ ns)) (sym (ap number e) ∙ ap number f)

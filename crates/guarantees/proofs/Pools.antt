@@ -1,10 +1,10 @@
 -- K4 and K13 of request heads, over mixed runs.
 -- Assumes nothing.
+use Rattle.std.specs.Prelude.{Err, Ok, Result, None, Option, Some}
 use mathlib.Core.Path.{◌≡◌, refl, sym, ap, ap₂, ◌∙◌, subst}
 use mathlib.Core.Logic.{◌≢◌}
 use mathlib.Core.Bool.{Bool, true, false, cond, true≢false}
 use mathlib.Core.List.{List, [], ◌∷◌, ◌++◌}
-use mathlib.Core.Option.{Option, none, some}
 use Prim.Native.Nat.{ℕ, ◌+◌, ◌≤◌}
 use native.Mathlib.Omega.{arith}
 use lib.Dec.{eqb}
@@ -17,8 +17,6 @@ use Rattle.session_book.specs.Demand3.{Each, Pairs}
 use Rattle.stream_open.specs.declared.Receiver.{Receiver}
 use Rattle.stream_open.specs.declared.Turn.TheVariants.{Ended}
 use Rattle.stream_open_request.specs.declared.Request.{Request}
-use Rattle.stream_open_request.specs.declared.RequestOpened.{RequestOpened}
-use Rattle.stream_open_request.specs.declared.RequestOpened.TheVariants.{Accepted, Refused as Unaccepted}
 use Rattle.stream_open_request.specs.Requests.{opened_request, request_pool}
 use Rattle.stream_answers.specs.Chunks.{fits}
 use Rattle.stream_answers.specs.Told.{request_number}
@@ -34,6 +32,7 @@ use Rattle.guarantees.proofs.Base.{list-in}
 use Rattle.guarantees.proofs.Deciding.{not-zero}
 use Rattle.guarantees.proofs.Roles.{OnPool, on-pool}
 use Rattle.guarantees.proofs.Runs.{placed-here, placed-elsewhere, placed_same}
+use Rattle.protocol.specs.declared.Refusal.{Refusal}
 
 module _ (k method : ℕ) (key : List ℕ) where
   -- what is held beside the pool is not looked at
@@ -63,8 +62,8 @@ module _ (k method : ℕ) (key : List ℕ) where
       pub pool : reached m u ≡ true → (next m u).pools k ≡ request_pool method key f.clock f.bytes p
 
     abbrev StepOn : Option Front → Type 0
-    StepOn none = (next m u).pools k ≡ p
-    StepOn (some f) = Opened f
+    StepOn None = (next m u).pools k ≡ p
+    StepOn (Some f) = Opened f
 
     opened : (f : Front) → u.pool ≡ k → OnPool (opens-front f) (lend m u) (does m u) → Fronts method key (opens-front f) → Opened f
     unfolding opens_request
@@ -87,7 +86,7 @@ module _ (k method : ℕ) (key : List ℕ) where
               ∙ (λ i. request_pool (s.0 i) (s.1 i) f.clock f.bytes (there i));
         }
       where
-        left : RequestOpened → AfterRequest
+        left : Result (Request × Receiver) Refusal → AfterRequest
         left x = request_left f.method f.key f.clock f.bytes (m.pools u.pool) (m.streams u.stream) u.answer x
 
         unfit : AfterRequest
@@ -103,7 +102,7 @@ module _ (k method : ℕ) (key : List ℕ) where
     pub step-on : (u.pool ≡ k → Fronts method key (role_of u.call)) → StepOn (on_pool k u)
     step-on s = go (eqb u.pool k) refl
       where
-        go : (b : Bool) → eqb u.pool k ≡ b → StepOn (cond b (front_in (role_of u.call)) none)
+        go : (b : Bool) → eqb u.pool k ≡ b → StepOn (cond b (front_in (role_of u.call)) None)
         go true e = by-role (role_of u.call) (eqb-true u.pool k e) (on-pool u.call (lend m u)) (s (eqb-true u.pool k e))
         go false e = placed-elsewhere m.pools k u.pool (does m u).left.pool (eqb-false u.pool k e)
 
@@ -124,15 +123,15 @@ module _ (k method : ℕ) (key : List ℕ) where
           → ((g : Held) → g.pool ≡ (next m u).pools k → (after (next m u) us).pools k ≡ (held_after method key g (heads_of (next m u) us)).pool)
           → (after (next m u) us).pools k
           ≡ (held_after method key h (cond b (picked o (λ f. demands.opens-front (as_call f)) (heads_of (next m u) us)) (heads_of (next m u) us))).pool
-      go none b eb x rest =
+      go None b eb x rest =
           rest h (e ∙ sym x) ∙ ap (λ (l : List HeadCall). (held_after method key h l).pool) (sym (same-either b (heads_of (next m u) us)))
-      go (some f) false eb x rest = rest h (e ∙ sym (x.unreached eb).1)
-      go (some f) true eb x rest =
+      go (Some f) false eb x rest = rest h (e ∙ sym (x.unreached eb).1)
+      go (Some f) true eb x rest =
           rest (leaves method key h (demands.opens-front (as_call f))) (ap (request_pool method key f.clock f.bytes) e ∙ sym (x.pool eb))
 
-  accepted-number : (a : RequestOpened) → eqb (request_number a) 0 ≡ heads.is_accepted a
-  accepted-number (Accepted h st) = refl
-  accepted-number (Unaccepted r) = not-zero r
+  accepted-number : (a : Result (Request × Receiver) Refusal) → eqb (request_number a) 0 ≡ heads.is_accepted a
+  accepted-number (Ok (h, st)) = refl
+  accepted-number (Err r) = not-zero r
 
   accepted-run : (m : Memory) (us : List Use) → Served us → (h : Held) → h.pool ≡ m.pools k
       → accepted_fronts k method m us ≡ heads.accepted_fronts method key h (heads_of m us)
@@ -147,14 +146,14 @@ module _ (k method : ℕ) (key : List ℕ) where
           → cond (eqb (does m u).number 0) (picked o (λ f. take (salt_length method + 27) f.bytes) (accepted_fronts k method (next m u) us))
           (accepted_fronts k method (next m u) us)
           ≡ heads.accepted_fronts method key h (cond b (picked o (λ f. demands.opens-front (as_call f)) (heads_of (next m u) us)) (heads_of (next m u) us))
-      go none b eb x rest =
+      go None b eb x rest =
           same-either (eqb (does m u).number 0) (accepted_fronts k method (next m u) us) ∙ rest h (e ∙ sym x)
           ∙ ap (heads.accepted_fronts method key h) (sym (same-either b (heads_of (next m u) us)))
-      go (some f) false eb x rest =
+      go (Some f) false eb x rest =
           ap (λ (n : ℕ). cond (eqb n 0) (take (salt_length method + 27) f.bytes ∷ accepted_fronts k method (next m u) us) (accepted_fronts k method (next m u) us))
           (x.unreached eb).0
           ∙ rest h (e ∙ sym (x.unreached eb).1)
-      go (some f) true eb x rest =
+      go (Some f) true eb x rest =
           let c = as_call f in
           ap₂ (λ (z : Bool) (l : List (List ℕ)). cond z (take (salt_length method + 27) f.bytes ∷ l) l)
           (ap (λ (n : ℕ). eqb n 0) (x.number eb) ∙ accepted-number (front_answer method key c (m.pools k))
@@ -175,10 +174,10 @@ module _ (k method : ℕ) (key : List ℕ) where
           → Pairs ◌≤◌ (picked o (λ f. f.clock) (front_clocks k (us ++ later)))
           → ((c : ℕ) → Each (λ d. c ≤ d) (front_clocks k (us ++ later)) → Pairs ◌≤◌ (front_clocks k (us ++ later)) → ForwardCalls c (heads_of (next m u) us ++ behind))
           → ForwardCalls t (cond b (picked o (λ f. demands.opens-front (as_call f)) (heads_of (next m u) us)) (heads_of (next m u) us) ++ behind)
-      go none true l p rest = rest t l p
-      go none false l p rest = rest t l p
-      go (some f) true l p rest = (l.0, rest f.clock p.0 p.1)
-      go (some f) false l p rest = rest t l.1 p.1
+      go None true l p rest = rest t l p
+      go None false l p rest = rest t l p
+      go (Some f) true l p rest = (l.0, rest f.clock p.0 p.1)
+      go (Some f) false l p rest = rest t l.1 p.1
 
 each_none : (l : List ℕ) → Each (λ c. 0 ≤ c) l
 each_none [] = _
@@ -203,7 +202,7 @@ each-front P [] r e = (_, e)
 each-front P (x ∷ l) r e = let q = each-front P l r e.1 in ((e.0, q.0), q.1)
 
 module _ (k method : ℕ) (key : List ℕ) (m : Memory) (x y : Use) (us : List Use) (f g : Front) (run : PoolRun k method key (x ∷ us ++ y ∷ []))
-    (ex : on_pool k x ≡ some f) (ey : on_pool k y ≡ some g) (accepted : (does m x).number ≡ 0)
+    (ex : on_pool k x ≡ Some f) (ey : on_pool k y ≡ Some g) (accepted : (does m x).number ≡ 0)
     (salts : take (salt_length method) g.bytes ≡ take (salt_length method) f.bytes) (soon : g.clock ≤ f.clock + 60) where
   abbrev then : Memory
   then = after m (x ∷ us)
@@ -234,15 +233,15 @@ module _ (k method : ℕ) (key : List ℕ) (m : Memory) (x y : Use) (us : List U
   start = held k method key (m.pools k)
 
   -- what the first front was answered
-  data Taken (a : RequestOpened) : Type 0 where
-    taken : (h : Request) (st : Receiver) → a ≡ Accepted h st → Taken a
+  data Taken (a : Result (Request × Receiver) Refusal) : Type 0 where
+    taken : (h : Request) (st : Receiver) → a ≡ Ok (h, st) → Taken a
 
   taken-first : Taken (front_answer method key c (m.pools k))
   taken-first = go (front_answer method key c (m.pools k)) refl (sym (first_on.number reached-first) ∙ accepted)
     where
-      go : (a : RequestOpened) → front_answer method key c (m.pools k) ≡ a → request_number a ≡ 0 → Taken (front_answer method key c (m.pools k))
-      go (Accepted h st) e z = taken h st e
-      go (Unaccepted r) e z = absurd (true≢false (sym (ap (λ (n : ℕ). eqb n 0) z) ∙ not-zero r))
+      go : (a : Result (Request × Receiver) Refusal) → front_answer method key c (m.pools k) ≡ a → request_number a ≡ 0 → Taken (front_answer method key c (m.pools k))
+      go (Ok (h, st)) e z = taken h st e
+      go (Err r) e z = absurd (true≢false (sym (ap (λ (n : ℕ). eqb n 0) z) ∙ not-zero r))
 
   clocks : f.clock ∷ front_clocks k (us ++ y ∷ []) ≡ front_clocks k (x ∷ us ++ y ∷ [])
   clocks = sym (ap (λ (o : Option Front). picked o (λ q. q.clock) (front_clocks k (us ++ y ∷ []))) ex)
@@ -267,10 +266,10 @@ module _ (k method : ℕ) (key : List ℕ) (m : Memory) (x y : Use) (us : List U
   refused-again = go (reached k method key then y) refl
     where
       listed : (q : List ℕ) → ReplayOrEarlier method key d q → among (1 ∷ 10 ∷ 4 ∷ 6 ∷ 7 ∷ 8 ∷ []) (request_number (front_answer method key d q)) ≡ true
-      listed q (replayed e) = ap (λ (a : RequestOpened). among (1 ∷ 10 ∷ 4 ∷ 6 ∷ 7 ∷ 8 ∷ []) (request_number a)) e
-      listed q (front-missing l e) = ap (λ (a : RequestOpened). among (1 ∷ 10 ∷ 4 ∷ 6 ∷ 7 ∷ 8 ∷ []) (request_number a)) e
+      listed q (replayed e) = ap (λ (a : Result (Request × Receiver) Refusal). among (1 ∷ 10 ∷ 4 ∷ 6 ∷ 7 ∷ 8 ∷ []) (request_number a)) e
+      listed q (front-missing l e) = ap (λ (a : Result (Request × Receiver) Refusal). among (1 ∷ 10 ∷ 4 ∷ 6 ∷ 7 ∷ 8 ∷ []) (request_number a)) e
       listed q (front-refused r o n e) =
-          ap (λ (a : RequestOpened). among (1 ∷ 10 ∷ 4 ∷ 6 ∷ 7 ∷ 8 ∷ []) (request_number a)) e ∙ of-front (refusal_number r) o
+          ap (λ (a : Result (Request × Receiver) Refusal). among (1 ∷ 10 ∷ 4 ∷ 6 ∷ 7 ∷ 8 ∷ []) (request_number a)) e ∙ of-front (refusal_number r) o
         where
           of-front : (i : ℕ) → among (4 ∷ 6 ∷ 7 ∷ []) i ≡ true → among (1 ∷ 10 ∷ 4 ∷ 6 ∷ 7 ∷ 8 ∷ []) i ≡ true
           of-front i z = list-in (4 ∷ 6 ∷ 7 ∷ []) (1 ∷ 10 ∷ 4 ∷ 6 ∷ 7 ∷ 8 ∷ []) i refl z

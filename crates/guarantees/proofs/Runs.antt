@@ -1,10 +1,10 @@
 -- A mixed run, seen from one table and from one pool: what other calls do is not seen there.
 -- Assumes nothing.
+use Rattle.std.specs.Prelude.{None, Option, Some}
 use mathlib.Core.Path.{◌≡◌, refl, sym, ap, ap₂, ◌∙◌, subst}
 use mathlib.Core.Logic.{◌≢◌}
 use mathlib.Core.Bool.{Bool, true, false, cond, and-eq-true_iff}
 use mathlib.Core.List.{List, [], ◌∷◌}
-use mathlib.Core.Option.{Option, none, some}
 use Prim.Native.Nat.{ℕ, ◌≤◌}
 use native.Mathlib.Omega.{arith}
 use lib.Dec.{eqb, leb}
@@ -71,13 +71,13 @@ module _ (k method : ℕ) (key : List ℕ) where
     t = m.tables k
 
     abbrev StepOn : Option Opening → Type 0
-    StepOn none = (next m u).tables k ≡ t
-    StepOn (some o) = ((next m u).tables k ≡ table_next D t (book_call u o)) × (outcome (does m u) ≡ table_outcome D t (book_call u o))
+    StepOn None = (next m u).tables k ≡ t
+    StepOn (Some o) = ((next m u).tables k ≡ table_next D t (book_call u o)) × (outcome (does m u) ≡ table_outcome D t (book_call u o))
 
     kept : (does m u).left.table ≡ m.tables u.table → (next m u).tables k ≡ t
     kept e = placed_same m.tables k u.table (does m u).left.table e
 
-    opened : (o : Opening) → u.table ≡ k → OnTable (opens-datagram o) (lend m u) (does m u) → Serves method key u (opens-datagram o) → StepOn (some o)
+    opened : (o : Opening) → u.table ≡ k → OnTable (opens-datagram o) (lend m u) (does m u) → Serves method key u (opens-datagram o) → StepOn (Some o)
     opened o e x s =
         let l = s.1.1.1 in
         let c = book_call u o in
@@ -98,7 +98,7 @@ module _ (k method : ℕ) (key : List ℕ) where
     pub step-on : (u.table ≡ k → Serves method key u (role_of u.call)) → StepOn (on_table k u)
     step-on s = go (eqb u.table k) refl
       where
-        go : (b : Bool) → eqb u.table k ≡ b → StepOn (cond b (opening_in (role_of u.call)) none)
+        go : (b : Bool) → eqb u.table k ≡ b → StepOn (cond b (opening_in (role_of u.call)) None)
         go true e = by-role (role_of u.call) (eqb-true u.table k e) (on-table u.call (lend m u)) (s (eqb-true u.table k e))
         go false e = placed-elsewhere m.tables k u.table (does m u).left.table (eqb-false u.table k e)
 
@@ -113,8 +113,8 @@ module _ (k method : ℕ) (key : List ℕ) where
     where
       go : (o : Option Opening) → StepOn m u o → (after (next m u) us).tables k ≡ table_after D ((next m u).tables k) (calls k us)
           → (after (next m u) us).tables k ≡ table_after D (m.tables k) (picked o (book_call u) (calls k us))
-      go none x rest = rest ∙ ap (λ (t : List ℕ). table_after D t (calls k us)) x
-      go (some o) x rest = rest ∙ ap (λ (t : List ℕ). table_after D t (calls k us)) x.0
+      go None x rest = rest ∙ ap (λ (t : List ℕ). table_after D t (calls k us)) x
+      go (Some o) x rest = rest ∙ ap (λ (t : List ℕ). table_after D t (calls k us)) x.0
 
   pub outcome-run : (m : Memory) (us : List Use) → Served us → outcomes k m us ≡ table_outcomes D (m.tables k) (calls k us)
   outcome-run m [] s = refl
@@ -122,8 +122,8 @@ module _ (k method : ℕ) (key : List ℕ) where
     where
       go : (o : Option Opening) → StepOn m u o → outcomes k (next m u) us ≡ table_outcomes D ((next m u).tables k) (calls k us)
           → picked o (λ p. outcome (does m u)) (outcomes k (next m u) us) ≡ table_outcomes D (m.tables k) (picked o (book_call u) (calls k us))
-      go none x rest = rest ∙ ap (λ (t : List ℕ). table_outcomes D t (calls k us)) x
-      go (some o) x rest = ap₂ ◌∷◌ x.1 (rest ∙ ap (λ (t : List ℕ). table_outcomes D t (calls k us)) x.0)
+      go None x rest = rest ∙ ap (λ (t : List ℕ). table_outcomes D t (calls k us)) x
+      go (Some o) x rest = ap₂ ◌∷◌ x.1 (rest ∙ ap (λ (t : List ℕ). table_outcomes D t (calls k us)) x.0)
 
   -- ports have 16 bits
   pub ports : (us : List Use) → Served us → Each PortFits (calls k us)
@@ -131,7 +131,7 @@ module _ (k method : ℕ) (key : List ℕ) where
   ports (u ∷ us) s = go (eqb u.table k) (role_of u.call) refl s.0 (ports us s.1)
     where
       go : (b : Bool) (r : Role) → eqb u.table k ≡ b → (u.table ≡ k → Serves method key u r) → Each PortFits (calls k us)
-          → Each PortFits (picked (cond b (opening_in r) none) (book_call u) (calls k us))
+          → Each PortFits (picked (cond b (opening_in r) None) (book_call u) (calls k us))
       go false r e f rest = rest
       go true nothing e f rest = rest
       go true makes-table e f rest = rest

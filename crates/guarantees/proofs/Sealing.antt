@@ -1,5 +1,6 @@
 -- Sealing heads and chunks of streams, and the 2017 edition's calls that write what they tell.
 -- Assumes nothing.
+use Rattle.std.specs.Prelude.{Err, Ok, Result}
 use mathlib.Core.Path.{◌≡◌, refl, sym, ap, ◌∙◌}
 use mathlib.Core.Bool.{Bool, true, false, cond, true≢false, and-eq-true_iff}
 use mathlib.Core.List.{List, [], ◌∷◌}
@@ -15,8 +16,6 @@ use Rattle.stream_pieces.specs.Framing as sip022
 use Rattle.stream_pieces.specs.Framing.{under}
 use Rattle.stream_pieces.specs.declared.Framing.{Framing}
 use Rattle.stream_pieces.specs.Pieces.{key_of, keyed}
-use Rattle.stream_seal.specs.declared.Sealed.{Sealed}
-use Rattle.stream_seal.specs.declared.Sealed.TheVariants.{Bytes, Refused as NotSealed}
 use Rattle.stream_seal.specs.declared.Sender.{Sender}
 use Rattle.stream_seal.specs.Sealing.{framed_answer, chunk, seal_out}
 use Rattle.stream_chunks.specs.Keeps as keeping
@@ -25,15 +24,9 @@ use Rattle.stream_answers.specs.Chunks as chunks
 use Rattle.stream_answers.specs.Chunks.{AfterChunk, fits}
 use Rattle.stream_answers.specs.Told.{sealed_number, sealed_words, sealed_stream}
 use Rattle.words.specs.States.{turn_of, method_in, sender_in}
-use Rattle.sip004.specs.declared.Sealed.{Sealed as Sealed2017}
-use Rattle.sip004.specs.declared.Sealed.TheVariants.{Datagram, Refused as NotSealed2017}
-use Rattle.sip004.specs.declared.Opened.{Opened as Opened2017}
-use Rattle.sip004.specs.declared.Opened.TheVariants.{Text, Refused as NotOpened}
 use Rattle.sip004.specs.Datagram as sip004
 use Rattle.sip004.specs.Method.{settings_fit}
 use Rattle.sip004_stream.specs.Streams as streams2017
-use Rattle.sip004_stream.specs.declared.SenderBegun.{SenderBegun}
-use Rattle.sip004_stream.specs.declared.ReceiverBegun.{ReceiverBegun}
 use Rattle.stream_answers.specs.Beginning as beginning
 use Rattle.relay.specs.Streams as heads
 use Rattle.relay.specs.Sip004 as edition2017
@@ -43,10 +36,11 @@ use Rattle.sip004_demands.proofs.FramingLaws.{none-under}
 use Rattle.guarantees.specs.Calls.{Lent, nothing, says, writes, verdict, leaves, leaves_stream, step, relay_stream_seal_request, relay_stream_seal_response, relay_stream_seal_chunk, relay_sip004_datagram_seal, relay_sip004_datagram_open, relay_sip004_stream_begin_seal, relay_sip004_stream_begin_open, relay_sip004_stream_seal_chunk}
 use Rattle.guarantees.specs.Guarantees.{Ends}
 use Rattle.guarantees.proofs.Base.{listed-so, listed-too, either, written, first_word, length-nine, keeps, accepts, judged}
+use Rattle.stream_open.specs.declared.Receiver.{Receiver}
 
-abbrev number : Sealed → ℕ
-number (Bytes n s) = 0
-number (NotSealed r) = refusal_number r
+abbrev number : Result (ℕ × Sender) Refusal → ℕ
+number (Ok (n, s)) = 0
+number (Err r) = refusal_number r
 
 module _ (m : Lent) where
   -- ---- streams
@@ -55,20 +49,20 @@ module _ (m : Lent) where
     abbrev Says : AfterChunk → Type 0
     Says y = Ends m (writes ns y.number (leaves_stream m m.pool y.stream y.out y.answer))
 
-    abbrev after : Sealed → List ℕ → AfterChunk
+    abbrev after : Result (ℕ × Sender) Refusal → List ℕ → AfterChunk
     after x text = record { number = sealed_number x; out = seal_out x text m.out; stream = sealed_stream x m.stream; answer = sealed_words x m.answer }
 
     -- x is what is answered, and text what is sealed then
-    module _ (x : Sealed) (text : List ℕ) (listed : (r : Refusal) → x ≡ NotSealed r → among (0 ∷ ns) (refusal_number r) ≡ true)
-        (sized : (n : ℕ) (s : Sender) → x ≡ Bytes n s → (length text ≡ n) × (n ≤ length m.out)) where
-      told : length m.answer ≡ 9 → (y : Sealed) → x ≡ y → Says (after y text)
-      told l (Bytes n s) e =
+    module _ (x : Result (ℕ × Sender) Refusal) (text : List ℕ) (listed : (r : Refusal) → x ≡ Err r → among (0 ∷ ns) (refusal_number r) ≡ true)
+        (sized : (n : ℕ) (s : Sender) → x ≡ Ok (n, s) → (length text ≡ n) × (n ≤ length m.out)) where
+      told : length m.answer ≡ 9 → (y : Result (ℕ × Sender) Refusal) → x ≡ y → Says (after y text)
+      told l (Ok (n, s)) e =
           let f = sized n s e in
           let w = written m.out text n f.0 f.1 in
           let a = first_word m.answer n l in
           accepts ns nothing _ (get_or (set m.answer 0 n) 0 0) m no-10 no-15 _
           (ap (λ (k : ℕ). drop k (put m.out 0 text)) a ∙ w.0 ∙ sym (ap (λ (k : ℕ). drop k m.out) a)) w.1
-      told l (NotSealed r) e = keeps ns nothing _ (get_or m.answer 0 0) m no-10 no-15 (refusal_number r) (listed r e)
+      told l (Err r) e = keeps ns nothing _ (get_or m.answer 0 0) m no-10 no-15 (refusal_number r) (listed r e)
 
       seals : Says (chunks.seals x text m.out m.stream m.answer)
       unfolding chunks.seals
@@ -78,12 +72,12 @@ module _ (m : Lent) where
           (λ e. keeps ns nothing _ (get_or m.answer 0 0) m no-10 no-15 1 has_1)
 
     -- the same by what is promised of the sealer
-    listed_by : (ks : List ℕ) (x : Sealed) → keeping.SealAnswered ks x → ((n : ℕ) → among ks n ≡ true → among (0 ∷ ns) n ≡ true)
-        → (r : Refusal) → x ≡ NotSealed r → among (0 ∷ ns) (refusal_number r) ≡ true
+    listed_by : (ks : List ℕ) (x : Result (ℕ × Sender) Refusal) → keeping.SealAnswered ks x → ((n : ℕ) → among ks n ≡ true → among (0 ∷ ns) n ≡ true)
+        → (r : Refusal) → x ≡ Err r → among (0 ∷ ns) (refusal_number r) ≡ true
     listed_by ks x (keeping.sealed-text n s e) all r f = ap (among (0 ∷ ns)) (sym (ap number f) ∙ ap number e)
     listed_by ks x (keeping.refused-text q g e) all r f = all (refusal_number r) (ap (among ks) (sym (ap number f) ∙ ap number e) ∙ g)
 
-    sealed-so : (ks : List ℕ) (x : Sealed) (text : List ℕ) → ((n : ℕ) → among ks n ≡ true → among (0 ∷ ns) n ≡ true) → SealKeeps ks x text m.out
+    sealed-so : (ks : List ℕ) (x : Result (ℕ × Sender) Refusal) (text : List ℕ) → ((n : ℕ) → among ks n ≡ true → among (0 ∷ ns) n ≡ true) → SealKeeps ks x text m.out
         → Says (chunks.seals x text m.out m.stream m.answer)
     sealed-so ks x text all k = seals x text (listed_by ks x k.answered all) k.sealed-length
 
@@ -118,13 +112,13 @@ module _ (m : Lent) where
           (λ g. either (λ (r : Refusal). among (0 ∷ ns) (refusal_number r) ≡ true) (under f n) _ _ (has-14 n) (λ h. has-4)))
           (λ e. has_1)
 
-      by_turn : (x : Sealed) → x ≡ chunks.chunk_sealed f m.stream (length payload) (length m.out)
+      by_turn : (x : Result (ℕ × Sender) Refusal) → x ≡ chunks.chunk_sealed f m.stream (length payload) (length m.out)
           → Says ns no-10 no-15 has_1 (chunks.seals x text m.out m.stream m.answer)
       unfolding chunks.chunk_sealed
       by_turn x e = go (eqb (turn_of m.stream) 3) e
         where
           go : (b : Bool)
-              → x ≡ cond b (framed_answer f (sender_in m.stream) (length payload) (length m.out)) (NotSealed (chunks.not_sealing f (turn_of m.stream) (length payload)))
+              → x ≡ cond b (framed_answer f (sender_in m.stream) (length payload) (length m.out)) (Err (chunks.not_sealing f (turn_of m.stream) (length payload)))
               → Says ns no-10 no-15 has_1 (chunks.seals x text m.out m.stream m.answer)
           go true g =
               seals ns no-10 no-15 has_1 x text (λ r h. listed_by ns no-10 no-15 has_1 ks _ k.answered all r (sym g ∙ h))
@@ -134,11 +128,11 @@ module _ (m : Lent) where
               (λ r h. ap (among (0 ∷ ns)) (sym (ap number h) ∙ ap number g) ∙ idle (turn_of m.stream) (length payload))
               (λ n s h. absurd (none n s (sym h ∙ g)))
             where
-              is_bytes : Sealed → ℕ
-              is_bytes (Bytes n s) = 1
-              is_bytes (NotSealed r) = 0
+              is_bytes : Result (ℕ × Sender) Refusal → ℕ
+              is_bytes (Ok (n, s)) = 1
+              is_bytes (Err r) = 0
 
-              none : (n : ℕ) (s : Sender) → Bytes n s ≡ NotSealed (chunks.not_sealing f (turn_of m.stream) (length payload)) → ⊥
+              none : (n : ℕ) (s : Sender) → ◌≡◌ {A = Result (ℕ × Sender) Refusal} (Ok (n, s)) (Err (chunks.not_sealing f (turn_of m.stream) (length payload))) → ⊥
               none n s h = let z : ◌≡◌ {A = ℕ} 1 0 = ap is_bytes h in omega arith
 
   pub seal-chunk : (payload : List ℕ) → Ends m (step (relay_stream_seal_chunk payload) m)
@@ -172,33 +166,33 @@ module _ (m : Lent) where
   unfolding step streams2017.sender_begun
   begin-seal-2017 method key salt =
       begun _
-      (either (λ (x : SenderBegun). Begins (beginning.sender_told x m.stream)) (settings_fit method (length key) (length salt)) _ _
+      (either (λ (x : Result Sender Refusal). Begins (beginning.sender_told x m.stream)) (settings_fit method (length key) (length salt)) _ _
       (λ e. accepts (1 ∷ []) nothing _ 0 m refl refl _ refl refl) (λ e. unbegun))
 
   pub begin-open-2017 : (method : ℕ) (key salt : List ℕ) → Ends m (step (relay_sip004_stream_begin_open method key salt) m)
   unfolding step streams2017.receiver_begun
   begin-open-2017 method key salt =
       begun _
-      (either (λ (x : ReceiverBegun). Begins (beginning.receiver_told x m.stream)) (settings_fit method (length key) (length salt)) _ _
+      (either (λ (x : Result Receiver Refusal). Begins (beginning.receiver_told x m.stream)) (settings_fit method (length key) (length salt)) _ _
       (λ e. accepts (1 ∷ []) nothing _ 0 m refl refl _ refl refl) (λ e. unbegun))
 
   module _ (method : ℕ) (key salt payload : List ℕ) where
-    abbrev sealed : Sealed2017
+    abbrev sealed : Result ℕ Refusal
     sealed = sip004.seal_answer method (length key) (length salt) (length payload) (length m.out)
 
     abbrev Tells : edition2017.AfterDatagram → Type 0
     Tells y = Ends m (writes (1 ∷ 2 ∷ 3 ∷ []) y.number (leaves m m.table m.session y.out m.words y.answer))
 
-    datagram-told : length m.answer ≡ 9 → (x : Sealed2017) → sealed ≡ x → Tells (edition2017.sealed_told x (sip004.datagram key salt payload) m.out m.answer)
-    datagram-told l (Datagram n) e =
+    datagram-told : length m.answer ≡ 9 → (x : Result ℕ Refusal) → sealed ≡ x → Tells (edition2017.sealed_told x (sip004.datagram key salt payload) m.out m.answer)
+    datagram-told l (Ok n) e =
         let k = sip004-keeps.datagrams.sealing method key salt payload m.out in
-        let s = ap (λ (x : Sealed2017). sip004.seal_out x (sip004.datagram key salt payload) m.out) e in
+        let s = ap (λ (x : Result ℕ Refusal). sip004.seal_out x (sip004.datagram key salt payload) m.out) e in
         let a = first_word m.answer n l in
         accepts (1 ∷ 2 ∷ 3 ∷ []) nothing _ (get_or (set m.answer 0 n) 0 0) m refl refl _
         (ap (λ (i : ℕ). drop i (put m.out 0 (sip004.datagram key salt payload))) a ∙ sym (ap (drop n) s) ∙ k.behind-kept n e
         ∙ sym (ap (λ (i : ℕ). drop i m.out) a))
         (sym (ap length s) ∙ k.length-kept)
-    datagram-told l (NotSealed2017 r) e =
+    datagram-told l (Err r) e =
         keeps (1 ∷ 2 ∷ 3 ∷ []) nothing _ (get_or m.answer 0 0) m refl refl (refusal_number r)
         (listed-too (1 ∷ 2 ∷ 3 ∷ []) (refusal_number r) ((sip004-keeps.datagrams.sealing method key salt payload m.out).refusals r e))
 
@@ -209,7 +203,7 @@ module _ (m : Lent) where
         (λ e. keeps (1 ∷ 2 ∷ 3 ∷ []) nothing _ (get_or m.answer 0 0) m refl refl 1 refl)
 
   module _ (method : ℕ) (key s : List ℕ) where
-    abbrev opened : Opened2017
+    abbrev opened : Result ℕ Refusal
     opened = sip004.open_answer method key s (length m.out)
 
     abbrev Opens : edition2017.AfterDatagram → Type 0
@@ -218,14 +212,14 @@ module _ (m : Lent) where
         (verdict (sip004.body_authentic key s)
         (says (1 ∷ 2 ∷ 3 ∷ 4 ∷ []) nothing y.number (leaves m m.table m.session y.out m.words y.answer) (length s - (length key + 16))))
 
-    open_told : (x : Opened2017) → opened ≡ x → Opens (edition2017.opened_told x (sip004.payload_of key s) m.out m.answer)
-    open_told (Text n) e =
+    open_told : (x : Result ℕ Refusal) → opened ≡ x → Opens (edition2017.opened_told x (sip004.payload_of key s) m.out m.answer)
+    open_told (Ok n) e =
         let k = sip004-keeps.datagrams.opening method key s m.out in
-        let w = ap (λ (x : Opened2017). sip004.open_out x (sip004.payload_of key s) m.out) e in
+        let w = ap (λ (x : Result ℕ Refusal). sip004.open_out x (sip004.payload_of key s) m.out) e in
         judged _ (1 ∷ 2 ∷ 3 ∷ 4 ∷ []) nothing (length s - (length key + 16)) m 0 _
         (accepts (1 ∷ 2 ∷ 3 ∷ 4 ∷ []) nothing _ (length s - (length key + 16)) m refl refl _
         (sym (ap (drop (length s - (length key + 16))) w) ∙ k.past-due-kept) (sym (ap length w) ∙ k.length-kept))
-    open_told (NotOpened r) e =
+    open_told (Err r) e =
         judged _ (1 ∷ 2 ∷ 3 ∷ 4 ∷ []) nothing (length s - (length key + 16)) m (refusal_number r) m
         (keeps (1 ∷ 2 ∷ 3 ∷ 4 ∷ []) nothing _ (length s - (length key + 16)) m refl refl (refusal_number r)
         (listed-too (1 ∷ 2 ∷ 3 ∷ 4 ∷ []) (refusal_number r) ((sip004-keeps.datagrams.opening method key s m.out).refusals r e)))

@@ -1,5 +1,6 @@
 -- Whole streams come back, of both editions.
 -- Assumes nothing.
+use Rattle.std.specs.Prelude.{Err, Ok}
 use mathlib.Core.Path.{◌≡◌, refl, sym, ap, ◌∙◌, subst}
 use mathlib.Core.List.{List, [], ◌∷◌, ◌++◌}
 use Prim.Native.Nat.{ℕ, ◌+◌}
@@ -13,8 +14,6 @@ use borrow.Author.Tests.{eq-eqb}
 use Rattle.protocol.specs.declared.Refusal.TheVariants.{Settings}
 use Rattle.sip004.specs.Method.{settings_fit}
 use Rattle.sip004_stream.specs.Streams as streams2017
-use Rattle.sip004_stream.specs.declared.SenderBegun.TheVariants.{Begun as SealBegun, Refused as SealRefused}
-use Rattle.sip004_stream.specs.declared.ReceiverBegun.TheVariants.{Begun as OpenBegun, Refused as OpenRefused}
 use Rattle.stream_answers.specs.Beginning.{AfterBegin, begins, sender_told, receiver_told}
 use Rattle.relay.specs.Sip004 as edition2017
 use Rattle.guarantees.proofs.ChunksBack.{chunks-back, chunks-back-2017}
@@ -64,11 +63,11 @@ module _ (method : ℕ) (key salt v w : List ℕ) (eight : length w ≡ 8) where
 
   abbrev seal : (c b : Bool) → AfterBegin
   seal c b =
-      cond c (sender_told (cond b (SealBegun (streams2017.sender method (streams2017.subkey_of key salt))) (SealRefused Settings)) v) (record { number = 1; stream = v })
+      cond c (sender_told (cond b (Ok (streams2017.sender method (streams2017.subkey_of key salt))) (Err Settings)) v) (record { number = 1; stream = v })
 
   abbrev opened-words : (c b : Bool) → AfterBegin
   opened-words c b =
-      cond c (receiver_told (cond b (OpenBegun (streams2017.receiver method (streams2017.subkey_of key salt))) (OpenRefused Settings)) w) (record { number = 1; stream = w })
+      cond c (receiver_told (cond b (Ok (streams2017.receiver method (streams2017.subkey_of key salt))) (Err Settings)) w) (record { number = 1; stream = w })
 
   in_step : (c b : Bool) → (seal c b).number ≡ 0 → ((opened-words true b).number ≡ 0) × ((opened-words true b).stream ≡ set (seal c b).stream 0 1)
   in_step true true e = (refl, refl)

@@ -1,10 +1,10 @@
 -- What a refusal tells: two runs of a call that opens what came in.
 -- Assumes nothing.
+use Rattle.std.specs.Prelude.{None, Option, Some}
 use mathlib.Core.Path.{◌≡◌, refl, sym, ap, ap₂, ◌∙◌}
 use mathlib.Core.Logic.{◌≢◌}
 use mathlib.Core.Bool.{Bool, true, false, cond, ◌||◌, true≢false}
 use mathlib.Core.List.{List, [], ◌∷◌}
-use mathlib.Core.Option.{Option, none, some}
 use Prim.Native.Nat.{ℕ, ◌+◌, ◌-◌, ◌*◌, ◌^◌, min}
 use lib.Dec.{eqb}
 use lib.ListN.{length, set, replicate}
@@ -37,8 +37,8 @@ one_table clock i j t t₁ t₂ e a b =
     b.one_word ∙ ap (λ (k : ℕ). set t (1 + k * 13 + 12) (min (at t (1 + k * 13 + 12) + 1) (2 ^ 64 - 1))) p ∙ sym a.one_word
   where
     place_in : Option ℕ → ℕ
-    place_in none = 0
-    place_in (some k) = k
+    place_in None = 0
+    place_in (Some k) = k
 
 pub alike : (c : List ℕ → Call) → Opener c → (s t : List ℕ) → length s ≡ length t → (m : Lent) → Alike (step (c s) m) (step (c t) m)
 unfolding step

@@ -4,7 +4,6 @@
 use mathlib.Core.Path.{◌≡◌, refl, sym, ap, ◌∙◌}
 use mathlib.Core.Bool.{Bool, true, false, cond, not, ◌&&◌, true≢false, and-eq-true_iff}
 use mathlib.Core.List.{List, [], ◌∷◌}
-use mathlib.Core.Option.{Option, none, some}
 use Prim.Native.Nat.{ℕ, ◌+◌, ◌-◌, ◌%◌}
 use lib.Dec.{eqb, leb}
 use lib.ListN.{length, get_or, take, drop}
@@ -21,31 +20,23 @@ use Rattle.session_record.specs.declared.Peer.{Peer}
 use Rattle.session_table.specs.Table.{lawful, Entry, stores, replay, full, meet}
 use Rattle.session_book.specs.Call.{Outcome, refused, Call}
 use Rattle.session_book.specs.Runs.{report, table_outcome_by}
-use Rattle.socks5.specs.declared.Parsed.{Parsed}
-use Rattle.socks5.specs.declared.Parsed.TheVariants.{Found, Malformed as NoAddress}
 use Rattle.socks5.specs.Address.{parse_at}
 use Rattle.datagram_parts.specs.declared.Side.{Side}
 use Rattle.datagram_parts.specs.Headers.{type_of, fixed_length, main_start}
 use Rattle.datagram_parts.specs.Parts.{overhead, max_datagram}
 use Rattle.datagram_read.specs.declared.Header.{Header}
-use Rattle.datagram_read.specs.declared.Opened.{Opened}
-use Rattle.datagram_read.specs.declared.Opened.TheVariants.{Refused as Unread}
 use Rattle.datagram_read.specs.Opening.{datagram_authentic, plain_of, session_of, packet_of, time_of, padding_of, meant, header_with, read_address, read_main, length_lawful, read_text, read_answer, read_out}
 use Rattle.datagram_open.specs.Deciding.{expected, decided_by, decide, call_of, open_answer, open_out, open_table}
 use Rattle.relay.specs.Datagrams.{AfterOpen, opened_number, opened_words, opens_datagram, opens_told, caller_of}
-use Rattle.salt_pool.specs.declared.Met.{Met}
-use Rattle.salt_pool.specs.declared.Met.TheVariants.{Room as Free, Replay as Known, Full as NoRoom}
+use Rattle.salt_pool.specs.Pool.{Met}
+use Rattle.std.specs.Prelude.{Ok, Err, None, Option, Result, Some}
+use Rattle.salt_pool.specs.Pool.{Replay as Known, Full as NoRoom}
 use Rattle.salt_pool.specs.Pool.{meet as salt_meet}
 use Rattle.stream_pieces.specs.Pieces.{authentic_at, open_at, keyed, subkey_words, Keyed, last_counter}
 use Rattle.stream_pieces.specs.Framing.{is_empty, under, over, unframed, framing_of}
 use Rattle.stream_pieces.specs.declared.Framing.{Framing}
-use Rattle.stream_heads.specs.declared.FixedRead.{FixedRead}
-use Rattle.stream_heads.specs.declared.FixedRead.TheVariants.{Read, Refused as NotRead}
 use Rattle.stream_heads.specs.Heads.{front_length, fixed_of, fields_of, read_fixed, open_fixed}
-use Rattle.stream_open_request.specs.declared.RequestOpened.TheVariants.{Refused as Unaccepted}
 use Rattle.stream_open_request.specs.Requests.{settings, fixed_as, read_front, opened_as, opened_request}
-use Rattle.stream_open_response.specs.declared.ResponseOpened.{ResponseOpened}
-use Rattle.stream_open_response.specs.declared.ResponseOpened.TheVariants.{Refused as Unanswered}
 use Rattle.stream_open_response.specs.Responses.{binding_of, bound_as, bound_of, response_at, opened_response}
 use Rattle.stream_answers.specs.Chunks as chunks
 use Rattle.stream_answers.specs.Chunks.{AfterChunk, fits}
@@ -54,23 +45,24 @@ use Rattle.relay.specs.Streams.{AfterRequest, request_left, opens_request, After
 use Rattle.guarantees.specs.Calls as page
 use Rattle.guarantees.specs.Calls.{Lent, step}
 use Rattle.guarantees.proofs.Base.{either}
-use Rattle.stream_open.specs.declared.Stepped.{Stepped}
-use Rattle.stream_open.specs.declared.Stepped.TheVariants.{Opened as PieceOpened, Refused as Unopened}
 use Rattle.stream_open.specs.Steps.{piece_answer, length_read, length_answer, key_in, turn_answer, step_answer}
 use Rattle.words.specs.States.{turn_lawful}
 use Rattle.sip004_stream.specs.Streams as streams2017
 use Rattle.sip004_demands.proofs.FramingLaws.{none-under}
 use Rattle.sip004.specs.Datagram as sip004
 use Rattle.sip004.specs.Method.{key_fits as sip004_fits}
-use Rattle.sip004.specs.declared.Opened.TheVariants.{Text, Refused as NotOpened}
 use Rattle.relay.specs.Sip004 as edition2017
 use Rattle.guarantees.proofs.Pieces.{key_of_words, verdict, at-4, at-2}
 use Rattle.words.specs.States.{receiver_in, method_in}
 use Rattle.stream_open.specs.declared.Turn.TheVariants.{Variable, Length, Payload, Ended}
 use Rattle.stream_open.specs.declared.Receiver.{Receiver}
-use Rattle.stream_open_variable.specs.declared.VariableOpened.{VariableOpened}
-use Rattle.stream_open_variable.specs.declared.VariableOpened.TheVariants.{Refused as Unheaded}
 use Rattle.stream_open_variable.specs.Variable.{header_with as variable_with, read_variable, padding_fits, variable_piece, header_answer, turn_variable, variable_answer}
+use Rattle.protocol.specs.declared.Refusal.{Refusal}
+use Rattle.socks5.specs.declared.Address.{Address}
+use Rattle.stream_heads.specs.declared.Fixed.{Fixed}
+use Rattle.stream_open_response.specs.declared.Response.{Response}
+use Rattle.stream_open_variable.specs.declared.VariableHeader.{VariableHeader}
+use Rattle.stream_open.specs.declared.Chunk.{Chunk}
 
 -- ---- the first test that fails
 
@@ -119,10 +111,10 @@ module _ (method : ℕ) (key : List ℕ) (client : Option ℕ) (clock : ℕ) (pe
     abbrev plain : List ℕ
     plain = plain_of cipher key s
 
-    abbrev told : Opened → ℕ
+    abbrev told : Result Header Refusal → ℕ
     told x = opened_number (table_outcome_by (decided_by x (read_out method key side clock s m.out) plain) m.table call).answer
 
-    abbrev main : Opened
+    abbrev main : Result Header Refusal
     main = read_main (main_start cipher) side clock (session_of cipher key s) (packet_of cipher key s) plain
 
     datagram-number : (opens_datagram method key client clock peer s m.table m.out m.answer).number
@@ -135,7 +127,7 @@ module _ (method : ℕ) (key : List ℕ) (client : Option ℕ) (clock : ℕ) (pe
         go : (p q a b c d : Bool)
             → (cond {A = AfterOpen} p
             (record {
-              number = opened_number (cond {A = Outcome Header} q (table_outcome_by (decided_by (cond a (cond b (cond c (cond d main (Unread NotAuthentic)) (Unread Room)) (Unread TooLong)) (Unread Settings)) (read_out method key side clock s m.out) plain) m.table call) (record { answer = refused 1; output = m.out })).answer;
+              number = opened_number (cond {A = Outcome Header} q (table_outcome_by (decided_by (cond a (cond b (cond c (cond d main (Err NotAuthentic)) (Err Room)) (Err TooLong)) (Err Settings)) (read_out method key side clock s m.out) plain) m.table call) (record { answer = refused 1; output = m.out })).answer;
               table = open_table method key client clock peer s m.table m.out;
               out = open_out method key client clock peer s m.table m.out;
               answer = opened_words (open_answer method key client clock peer s m.table m.out) m.answer;
@@ -150,11 +142,11 @@ module _ (method : ℕ) (key : List ℕ) (client : Option ℕ) (clock : ℕ) (pe
         go true true true true true false = refl
         go true true true true true true = refl
 
-    abbrev Late : Opened → Type 0
+    abbrev Late : Result Header Refusal → Type 0
     Late x = among (0 ∷ behind_datagram) (told x) ≡ true
 
-    by_address : (time padding : ℕ) (p : Parsed) → Late (header_with (session_of cipher key s) (packet_of cipher key s) time padding p)
-    by_address time padding (Found a) = go (meet m.table clock peer (session_of cipher key s) (packet_of cipher key s))
+    by_address : (time padding : ℕ) (p : Option Address) → Late (header_with (session_of cipher key s) (packet_of cipher key s) time padding p)
+    by_address time padding (Some a) = go (meet m.table clock peer (session_of cipher key s) (packet_of cipher key s))
       where
         go : (e : Entry) → among (0 ∷ behind_datagram) (opened_number (report e call
             (record { target = a.target; port = a.port; session = session_of cipher key s; packet = packet_of cipher key s; time = time; padding = padding; payload = a.end })
@@ -162,7 +154,7 @@ module _ (method : ℕ) (key : List ℕ) (client : Option ℕ) (clock : ℕ) (pe
         go (stores i r) = refl
         go (replay i) = refl
         go full = refl
-    by_address time padding NoAddress = refl
+    by_address time padding None = refl
 
     main-late : Late main
     unfolding read_main read_address
@@ -181,10 +173,10 @@ unfolding step
 server-chained method key clock first second port m =
     let peer = caller_of first second port in
     record {
-      tests = datagram_tests method key none clock peer m;
-      last = λ s. told method key none clock peer m s (main method key none clock peer m s);
-      number_is = datagram-number method key none clock peer m;
-      last-behind = main-late method key none clock peer m;
+      tests = datagram_tests method key None clock peer m;
+      last = λ s. told method key None clock peer m s (main method key None clock peer m s);
+      number_is = datagram-number method key None clock peer m;
+      last-behind = main-late method key None clock peer m;
     }
 
 pub client-chained : (method : ℕ) (key : List ℕ) (clock id first second port : ℕ) (m : Lent)
@@ -193,24 +185,24 @@ unfolding step
 client-chained method key clock id first second port m =
     let peer = caller_of first second port in
     record {
-      tests = datagram_tests method key (some id) clock peer m;
-      last = λ s. told method key (some id) clock peer m s (main method key (some id) clock peer m s);
-      number_is = datagram-number method key (some id) clock peer m;
-      last-behind = main-late method key (some id) clock peer m;
+      tests = datagram_tests method key (Some id) clock peer m;
+      last = λ s. told method key (Some id) clock peer m s (main method key (Some id) clock peer m s);
+      number_is = datagram-number method key (Some id) clock peer m;
+      last-behind = main-late method key (Some id) clock peer m;
     }
 
 -- ---- heads
 
 module _ (kind clock : ℕ) (plain : List ℕ) where
   -- what a fixed header says behind its tag
-  abbrev Fixes : (FixedRead → Type 0) → Type 0
+  abbrev Fixes : ((Result Fixed Refusal) → Type 0) → Type 0
   Fixes P = P (read_fixed kind clock plain)
 
-  fixed-late : (P : FixedRead → Type 0) → P (Read (fields_of plain)) → P (NotRead WrongTime) → P (NotRead WrongType) → Fixes P
+  fixed-late : (P : Result Fixed Refusal → Type 0) → P (Ok (fields_of plain)) → P (Err WrongTime) → P (Err WrongType) → Fixes P
   unfolding read_fixed
   fixed-late P a b c =
-      either P (eqb (get_or plain 0 0) kind) (cond (time_valid (be 8 (drop 1 plain)) clock) (Read (fields_of plain)) (NotRead WrongTime)) (NotRead WrongType)
-      (λ e. either P (time_valid (be 8 (drop 1 plain)) clock) (Read (fields_of plain)) (NotRead WrongTime) (λ f. a) (λ f. b)) (λ e. c)
+      either P (eqb (get_or plain 0 0) kind) (cond (time_valid (be 8 (drop 1 plain)) clock) (Ok (fields_of plain)) (Err WrongTime)) (Err WrongType)
+      (λ e. either P (time_valid (be 8 (drop 1 plain)) clock) (Ok (fields_of plain)) (Err WrongTime) (λ f. a) (λ f. b)) (λ e. c)
 
 module _ (method : ℕ) (key : List ℕ) (clock : ℕ) (m : Lent) where
   abbrev n : ℕ
@@ -232,7 +224,7 @@ module _ (method : ℕ) (key : List ℕ) (clock : ℕ) (m : Lent) where
     abbrev fixed : List ℕ
     fixed = open_at (keyed (cipher_of method) k) 0 piece
 
-    abbrev after : FixedRead → ℕ
+    abbrev after : Result Fixed Refusal → ℕ
     after r = request_number (opened_as method (subkey_words k) (front_length n 0) (fixed_as (salt_meet m.pool clock (take n s)) r))
 
     pub front-number : (opens_request method key clock s m.pool m.stream m.answer).number
@@ -245,7 +237,7 @@ module _ (method : ℕ) (key : List ℕ) (clock : ℕ) (m : Lent) where
         go : (p q a d : Bool) (x : Met)
             → (cond {A = AfterRequest} p
             (request_left method key clock s m.pool m.stream m.answer
-            (cond q (cond a (opened_as method (subkey_words k) (front_length n 0) (fixed_as x (cond d (read_fixed 0 clock fixed) (NotRead NotAuthentic)))) (Unaccepted (More (front_length n 0)))) (Unaccepted Settings)))
+            (cond q (cond a (opened_as method (subkey_words k) (front_length n 0) (fixed_as x (cond d (read_fixed 0 clock fixed) (Err NotAuthentic)))) (Err (More (front_length n 0)))) (Err Settings)))
             (record { number = 1; pool = m.pool; stream = m.stream; answer = m.answer })).number
             ≡ chain ((p, 1) ∷ (q, 1) ∷ (a, 10) ∷ (d, 4) ∷ []) (request_number (opened_as method (subkey_words k) (front_length n 0) (fixed_as x (read_fixed 0 clock fixed))))
         go false q a d x = refl
@@ -258,10 +250,10 @@ module _ (method : ℕ) (key : List ℕ) (clock : ℕ) (m : Lent) where
     front-late =
         fixed-late 0 clock fixed (λ r. among (0 ∷ 6 ∷ 7 ∷ 8 ∷ 9 ∷ []) (after r) ≡ true) (go (salt_meet m.pool clock (take n s))) refl refl
       where
-        go : (x : Met) → among (0 ∷ 6 ∷ 7 ∷ 8 ∷ 9 ∷ []) (request_number (opened_as method (subkey_words k) (front_length n 0) (fixed_as x (Read (fields_of fixed))))) ≡ true
-        go (Free i) = refl
-        go Known = refl
-        go NoRoom = refl
+        go : (x : Met) → among (0 ∷ 6 ∷ 7 ∷ 8 ∷ 9 ∷ []) (request_number (opened_as method (subkey_words k) (front_length n 0) (fixed_as x (Ok (fields_of fixed))))) ≡ true
+        go (Ok i) = refl
+        go (Err Known) = refl
+        go (Err NoRoom) = refl
 
   pub request-chained : Chained (6 ∷ 7 ∷ 8 ∷ 9 ∷ []) (page.relay_stream_open_request method key clock) m
   unfolding step
@@ -291,7 +283,7 @@ module _ (method : ℕ) (key : List ℕ) (clock : ℕ) (request_salt : List ℕ)
     abbrev ours : Bool
     ours = same (binding_of b head_text) request_salt
 
-    abbrev bound : FixedRead → ℕ
+    abbrev bound : Result Fixed Refusal → ℕ
     bound r = response_number (bound_as method (subkey_words rk) (front_length b b) ours r)
 
     response-number : (opens_response method key clock request_salt s m.stream m.answer).number
@@ -303,7 +295,7 @@ module _ (method : ℕ) (key : List ℕ) (clock : ℕ) (request_salt : List ℕ)
         go : (p q a d : Bool)
             → (cond {A = AfterResponse} p
             (response_left
-            (cond q (cond a (bound_as method (subkey_words rk) (front_length b b) ours (cond d (read_fixed 1 clock head_text) (NotRead NotAuthentic))) (Unanswered (More (front_length b b)))) (Unanswered Settings))
+            (cond q (cond a (bound_as method (subkey_words rk) (front_length b b) ours (cond d (read_fixed 1 clock head_text) (Err NotAuthentic))) (Err (More (front_length b b)))) (Err Settings))
             m.stream m.answer)
             (record { number = 1; stream = m.stream; answer = m.answer })).number
             ≡ chain ((p, 1) ∷ (q, 1) ∷ (a, 10) ∷ (d, 4) ∷ []) (bound (read_fixed 1 clock head_text))
@@ -316,10 +308,10 @@ module _ (method : ℕ) (key : List ℕ) (clock : ℕ) (request_salt : List ℕ)
     response-late : among (0 ∷ 6 ∷ 7 ∷ 13 ∷ 14 ∷ []) (bound (read_fixed 1 clock head_text)) ≡ true
     response-late = fixed-late 1 clock head_text (λ r. among (0 ∷ 6 ∷ 7 ∷ 13 ∷ 14 ∷ []) (bound r) ≡ true) (go ours) refl refl
       where
-        go : (x : Bool) → among (0 ∷ 6 ∷ 7 ∷ 13 ∷ 14 ∷ []) (response_number (bound_as method (subkey_words rk) (front_length b b) x (Read (fields_of head_text)))) ≡ true
+        go : (x : Bool) → among (0 ∷ 6 ∷ 7 ∷ 13 ∷ 14 ∷ []) (response_number (bound_as method (subkey_words rk) (front_length b b) x (Ok (fields_of head_text)))) ≡ true
         go false = refl
         go true =
-            either (λ (z : ResponseOpened). among (0 ∷ 6 ∷ 7 ∷ 13 ∷ 14 ∷ []) (response_number z) ≡ true) (is_empty (fields_of head_text).length) _ _ (λ e. refl) (λ e. refl)
+            either (λ (z : Result (Response × Receiver) Refusal). among (0 ∷ 6 ∷ 7 ∷ 13 ∷ 14 ∷ []) (response_number z) ≡ true) (is_empty (fields_of head_text).length) _ _ (λ e. refl) (λ e. refl)
 
   pub response-chained : Chained (6 ∷ 7 ∷ 13 ∷ 14 ∷ []) (page.relay_stream_open_response method key clock request_salt) m
   unfolding step
@@ -386,18 +378,18 @@ module _ (m : Lent) where
       where
         go : (e f g d : Bool) → (eqb (page.at w 2) 1 ≡ e) → (leb (size + 16) (length s) ≡ f) → (leb size (length m.out) ≡ g)
             → (e ≡ true → authentic_at vkey 1 (variable_piece size s) ≡ d)
-            → variable_number (cond (eqb (page.at w 2) 1) (cond (leb (size + 16) (length s)) (cond (leb size (length m.out)) (cond (authentic_at vkey 1 (variable_piece size s)) (read_variable size text) (Unheaded NotAuthentic)) (Unheaded Room)) (Unheaded (More (size + 16)))) (Unheaded Settings))
+            → variable_number (cond (eqb (page.at w 2) 1) (cond (leb (size + 16) (length s)) (cond (leb size (length m.out)) (cond (authentic_at vkey 1 (variable_piece size s)) (read_variable size text) (Err NotAuthentic)) (Err Room)) (Err (More (size + 16)))) (Err Settings))
             ≡ chain ((eqb (page.at w 2) 1, 1) ∷ (leb (size + 16) (length s), 10) ∷ (leb size (length m.out), 3) ∷ (d, 4) ∷ []) last_variable
         go false f g d ee ef eg v =
-            (λ i. variable_number (cond (ee i) (cond (leb (size + 16) (length s)) (cond (leb size (length m.out)) (cond (authentic_at vkey 1 (variable_piece size s)) (read_variable size text) (Unheaded NotAuthentic)) (Unheaded Room)) (Unheaded (More (size + 16)))) (Unheaded Settings)))
+            (λ i. variable_number (cond (ee i) (cond (leb (size + 16) (length s)) (cond (leb size (length m.out)) (cond (authentic_at vkey 1 (variable_piece size s)) (read_variable size text) (Err NotAuthentic)) (Err Room)) (Err (More (size + 16)))) (Err Settings)))
             ∙ sym (λ i. chain ((ee i, 1) ∷ (leb (size + 16) (length s), 10) ∷ (leb size (length m.out), 3) ∷ (d, 4) ∷ []) last_variable)
         go true f g d ee ef eg v =
-            (λ i. variable_number (cond (ee i) (cond (ef i) (cond (eg i) (cond (v refl i) (read_variable size text) (Unheaded NotAuthentic)) (Unheaded Room)) (Unheaded (More (size + 16)))) (Unheaded Settings)))
+            (λ i. variable_number (cond (ee i) (cond (ef i) (cond (eg i) (cond (v refl i) (read_variable size text) (Err NotAuthentic)) (Err Room)) (Err (More (size + 16)))) (Err Settings)))
             ∙ bits f g d
             ∙ sym (λ i. chain ((ee i, 1) ∷ (ef i, 10) ∷ (eg i, 3) ∷ (d, 4) ∷ []) last_variable)
           where
             bits : (f g d : Bool)
-                → variable_number (cond f (cond g (cond d (read_variable size text) (Unheaded NotAuthentic)) (Unheaded Room)) (Unheaded (More (size + 16))))
+                → variable_number (cond f (cond g (cond d (read_variable size text) (Err NotAuthentic)) (Err Room)) (Err (More (size + 16))))
                 ≡ chain ((f, 10) ∷ (g, 3) ∷ (d, 4) ∷ []) last_variable
             bits false g d = refl
             bits true false d = refl
@@ -410,7 +402,7 @@ module _ (m : Lent) where
     variable-number = go lent refl (eqb (key_length (page.at w 1)) 0)
       where
         go : (p : Bool) → lent ≡ p → (k : Bool)
-            → (cond {A = AfterChunk} p (variable_left (cond k (Unheaded Settings) (turn_variable st.turn st s (length m.out))) st s m.out w m.answer)
+            → (cond {A = AfterChunk} p (variable_left (cond k (Err Settings) (turn_variable st.turn st s (length m.out))) st s m.out w m.answer)
             (record { number = 1; out = m.out; stream = w; answer = m.answer })).number
             ≡ chain ((p, 1) ∷ (not k, 1) ∷ variable_tests (eqb (page.at w 0) 1) (eqb (page.at w 0) 2) (eqb (page.at w 0) 4) (length s) tag) last_variable
         go false l k = refl
@@ -423,10 +415,10 @@ module _ (m : Lent) where
     unfolding read_variable
     variable-late = go (parse_at text 0)
       where
-        go : (p : Parsed) → among (0 ∷ 5 ∷ []) (variable_number (variable_with size text p)) ≡ true
-        go (Found a) =
-            either (λ (x : VariableOpened). among (0 ∷ 5 ∷ []) (variable_number x) ≡ true) (padding_fits a.end text) _ _ (λ e. refl) (λ e. refl)
-        go NoAddress = refl
+        go : (p : Option Address) → among (0 ∷ 5 ∷ []) (variable_number (variable_with size text p)) ≡ true
+        go (Some a) =
+            either (λ (x : Result VariableHeader Refusal). among (0 ∷ 5 ∷ []) (variable_number x) ≡ true) (padding_fits a.end text) _ _ (λ e. refl) (λ e. refl)
+        go None = refl
 
   pub variable-chained : Chained (5 ∷ []) page.relay_stream_open_variable m
   unfolding step
@@ -470,15 +462,15 @@ module _ (m : Lent) (f : Framing) where
     abbrev last_at : Bool → ℕ
     last_at a = cond a (stepped_number (length_answer f (length_read ckey (page.at v 2) s))) 0
 
-    piece-chain : (k asked : ℕ) (good : Stepped) (d : Bool) → authentic_at ckey (page.at v 2) (take (k + 16) s) ≡ d
+    piece-chain : (k asked : ℕ) (good : Result Chunk Refusal) (d : Bool) → authentic_at ckey (page.at v 2) (take (k + 16) s) ≡ d
         → stepped_number (piece_answer ckey (page.at v 2) k s asked (length m.out) good) ≡ chain (piece_tests k asked (length s) d) (stepped_number good)
     unfolding piece_answer
     piece-chain k asked good d e =
-        (λ i. stepped_number (cond (eqb (page.at v 2) last_counter) (Unopened Counter) (cond (leb (k + 16) (length s)) (cond (leb asked (length m.out)) (cond (e i) good (Unopened NotAuthentic)) (Unopened Room)) (Unopened (More (k + 16))))))
+        (λ i. stepped_number (cond (eqb (page.at v 2) last_counter) (Err Counter) (cond (leb (k + 16) (length s)) (cond (leb asked (length m.out)) (cond (e i) good (Err NotAuthentic)) (Err Room)) (Err (More (k + 16))))))
         ∙ bits (eqb (page.at v 2) last_counter) (leb (k + 16) (length s)) (leb asked (length m.out)) d
       where
         bits : (p q r d : Bool)
-            → stepped_number (cond p (Unopened Counter) (cond q (cond r (cond d good (Unopened NotAuthentic)) (Unopened Room)) (Unopened (More (k + 16)))))
+            → stepped_number (cond p (Err Counter) (cond q (cond r (cond d good (Err NotAuthentic)) (Err Room)) (Err (More (k + 16)))))
             ≡ chain ((not p, 11) ∷ (q, 10) ∷ (r, 3) ∷ (d, 4) ∷ []) (stepped_number good)
         bits true q r d = refl
         bits false false r d = refl
@@ -501,9 +493,9 @@ module _ (m : Lent) (f : Framing) where
           bits (unframed f long) (piece-chain long long _ ctag (ap (λ (k : ℕ). authentic_at ckey (page.at v 2) (take (k + 16) s)) e))
         where
           bits : (u : Bool)
-              → stepped_number (piece_answer ckey (page.at v 2) long s long (length m.out) (PieceOpened (record { used = long + 16; length = long })))
+              → stepped_number (piece_answer ckey (page.at v 2) long s long (length m.out) (Ok (record { used = long + 16; length = long })))
               ≡ chain (piece_tests long long (length s) ctag) 0
-              → stepped_number (cond u (Unopened Settings) (piece_answer ckey (page.at v 2) long s long (length m.out) (PieceOpened (record { used = long + 16; length = long }))))
+              → stepped_number (cond u (Err Settings) (piece_answer ckey (page.at v 2) long s long (length m.out) (Ok (record { used = long + 16; length = long }))))
               ≡ cond (not u) (chain (piece_tests long long (length s) ctag) 0) 1
           bits true e = refl
           bits false e = e
@@ -515,7 +507,7 @@ module _ (m : Lent) (f : Framing) where
     chunk-number = go open? refl (eqb f.key 0)
       where
         go : (p : Bool) → open? ≡ p → (k : Bool)
-            → (cond {A = AfterChunk} p (chunks.step_told f (cond k (Unopened Settings) (turn_answer f state.turn state s (length m.out))) state s m.out v m.answer)
+            → (cond {A = AfterChunk} p (chunks.step_told f (cond k (Err Settings) (turn_answer f state.turn state s (length m.out))) state s m.out v m.answer)
             (record { number = 1; out = m.out; stream = v; answer = m.answer })).number
             ≡ chain ((p, 1) ∷ (not k, 1) ∷ chunk_tests (eqb (page.at v 0) 1) (eqb (page.at v 0) 2) (eqb (page.at v 0) 4) (length s) ctag) (last_at (eqb (page.at v 0) 1))
         go false l k = refl
@@ -527,8 +519,8 @@ module _ (m : Lent) (f : Framing) where
       chunk-late false = refl
       chunk-late true =
           let n = length_read ckey (page.at v 2) s in
-          either (λ (x : Stepped). among (0 ∷ behind) (stepped_number x) ≡ true) (under f n) _ _ (has-14 n)
-          (λ e. either (λ (x : Stepped). among (0 ∷ behind) (stepped_number x) ≡ true) (over f n) _ _ (has-5 n) (λ g. refl))
+          either (λ (x : Result Chunk Refusal). among (0 ∷ behind) (stepped_number x) ≡ true) (under f n) _ _ (has-14 n)
+          (λ e. either (λ (x : Result Chunk Refusal). among (0 ∷ behind) (stepped_number x) ≡ true) (over f n) _ _ (has-5 n) (λ g. refl))
 
 pub chunk-chained : (m : Lent) → Chained (14 ∷ []) page.relay_stream_open_chunk m
 unfolding step
@@ -569,7 +561,7 @@ module _ (method : ℕ) (key : List ℕ) (m : Lent) where
     where
       go : (p a b c d : Bool)
           → (cond {A = edition2017.AfterDatagram} p
-          (edition2017.opened_told (sip004.judged (cond a (cond b (cond c (Text (length s - (length key + 16))) (NotOpened Room)) (NotOpened TooLong)) (NotOpened Settings)) d) (sip004.payload_of key s) m.out m.answer)
+          (edition2017.opened_told (sip004.judged (cond a (cond b (cond c (Ok (length s - (length key + 16))) (Err Room)) (Err TooLong)) (Err Settings)) d) (sip004.payload_of key s) m.out m.answer)
           (record { number = 1; out = m.out; answer = m.answer })).number
           ≡ chain ((p, 1) ∷ (a, 1) ∷ (b, 2) ∷ (c, 3) ∷ (d, 4) ∷ []) 0
       go false a b c d = refl

@@ -1,12 +1,10 @@
 -- What a host calls: each function of include/relay.h with what it is lent, and what it returns and leaves by the very terms of its
 -- contract in crate `relay`; and runs of such calls on a host's memory. The statements about them are in `Guarantees`.
-use Rattle.std.specs.Prelude.{Bool, false, cond, List, [], ◌∷◌, ℕ, ◌+◌, ◌-◌, eqb, length, get_or, take, drop, replicate}
-use Rattle.std.proofs.Math.Option.{Option, none, some}
+use Rattle.std.specs.Prelude.{Bool, false, cond, List, [], ◌∷◌, ℕ, ◌+◌, ◌-◌, eqb, length, get_or, take, drop, replicate, Ok, None, Option, Some}
 use Rattle.protocol.specs.Method.{key_length, salt_length, cipher_of}
 use Rattle.protocol.specs.declared.Cipher.{Cipher}
 use Rattle.protocol.specs.declared.Cipher.TheVariants.{AesGcm}
 use Rattle.datagram_parts.specs.Parts.{overhead}
-use Rattle.datagram_seal.specs.declared.Begun.TheVariants.{Ready}
 use Rattle.datagram_seal.specs.Sealing.{client_sender}
 use Rattle.datagram_read.specs.Opening.{datagram_authentic, session_of}
 use Rattle.stream_pieces.specs.Pieces.{authentic_at, key_of, Keyed, keyed, salted_key}
@@ -184,7 +182,7 @@ step (relay_table_new R) m =
     says (1 ∷ []) makes-table (datagrams.settings_number (table.make_lawful R m.table))
     (leaves m (table.made R m.table) m.session m.out m.words m.answer) 0
 step (relay_session_begin_client id) m =
-    let x = datagrams.begins (Ready (client_sender id)) m.session in
+    let x = datagrams.begins (Ok (client_sender id)) m.session in
     says (1 ∷ []) nothing x.number (leaves m m.table x.session m.out m.words m.answer) 0
 step (relay_session_begin_server id client clock) m =
     let x = datagrams.begins (reply_begun m.table clock id client) m.session in
@@ -193,11 +191,11 @@ step (relay_datagram_seal method key nonce clock address padding payload) m =
     let x = datagrams.seals_datagram method key nonce m.session clock address padding payload m.out m.answer in
     writes (1 ∷ 12 ∷ 11 ∷ 2 ∷ 3 ∷ []) x.number (leaves m m.table x.session x.out m.words x.answer)
 step (relay_datagram_open_server method key clock first second port s) m =
-    opens (record { method = method; key = key; client = none; clock = clock; peer = datagrams.caller_of first second port; datagram = s })
-    (datagrams.opens_datagram method key none clock (datagrams.caller_of first second port) s m.table m.out m.answer) m
+    opens (record { method = method; key = key; client = None; clock = clock; peer = datagrams.caller_of first second port; datagram = s })
+    (datagrams.opens_datagram method key None clock (datagrams.caller_of first second port) s m.table m.out m.answer) m
 step (relay_datagram_open_client method key clock client first second port s) m =
-    opens (record { method = method; key = key; client = some client; clock = clock; peer = datagrams.caller_of first second port; datagram = s })
-    (datagrams.opens_datagram method key (some client) clock (datagrams.caller_of first second port) s m.table m.out m.answer) m
+    opens (record { method = method; key = key; client = Some client; clock = clock; peer = datagrams.caller_of first second port; datagram = s })
+    (datagrams.opens_datagram method key (Some client) clock (datagrams.caller_of first second port) s m.table m.out m.answer) m
 step (relay_pool_new method) m =
     says (1 ∷ []) makes-pool (datagrams.settings_number (pool.make_lawful method m.pool))
     (leaves_stream m (pool.made method m.pool) m.stream m.out m.answer) 0
@@ -319,19 +317,19 @@ abbrev pub role_of : Call → Role
 role_of c = (step c (record { table = []; pool = []; session = []; stream = []; out = []; words = []; answer = [] })).role
 
 abbrev pub opening_in : Role → Option Opening
-opening_in nothing = none
-opening_in makes-table = none
-opening_in (opens-datagram o) = some o
-opening_in makes-pool = none
-opening_in (opens-front f) = none
+opening_in nothing = None
+opening_in makes-table = None
+opening_in (opens-datagram o) = Some o
+opening_in makes-pool = None
+opening_in (opens-front f) = None
 
 -- the calls that open datagrams on table k, as the book is fed with them (session_book/specs/Call.antt), and what they answer
 abbrev pub on_table : ℕ → Use → Option Opening
-on_table k u = cond (eqb u.table k) (opening_in (role_of u.call)) none
+on_table k u = cond (eqb u.table k) (opening_in (role_of u.call)) None
 
 abbrev pub picked : {A B : Type 0} → Option B → (B → A) → List A → List A
-picked none f l = l
-picked (some o) f l = f o ∷ l
+picked None f l = l
+picked (Some o) f l = f o ∷ l
 
 abbrev pub book_call : Use → Opening → book.Call
 book_call u o = record { clock = o.clock; peer = o.peer; datagram = o.datagram; output = u.out; client = o.client }
@@ -350,9 +348,9 @@ outcomes k m (u ∷ us) = picked (on_table k u) (λ o. outcome (does m u)) (outc
 
 -- What the arguments of such a call decide, for a method and a key, is what the exported function answers on a table just made.
 abbrev pub exported : ℕ → List ℕ → Option ℕ → book.Call → Call
-exported method key none c =
+exported method key None c =
     relay_datagram_open_server method key c.clock c.peer.first c.peer.second c.peer.port c.datagram
-exported method key (some id) c =
+exported method key (Some id) c =
     relay_datagram_open_client method key c.clock id c.peer.first c.peer.second c.peer.port c.datagram
 
 abbrev pub lent_alone : (table out answer : List ℕ) → Lent
@@ -372,19 +370,19 @@ decides method key c =
 
 -- the session that a call is of: that of the datagrams which are not refused for their arguments
 abbrev pub session_of_call : ℕ → List ℕ → book.Call → Option ℕ
-session_of_call method key c = let x = alone method key c in cond (eqb x.number 0) (some (at x.left.answer 4)) none
+session_of_call method key c = let x = alone method key c in cond (eqb x.number 0) (Some (at x.left.answer 4)) None
 
 -- ---- a run as one pool sees it
 
 abbrev pub front_in : Role → Option Front
-front_in nothing = none
-front_in makes-table = none
-front_in (opens-datagram o) = none
-front_in makes-pool = none
-front_in (opens-front f) = some f
+front_in nothing = None
+front_in makes-table = None
+front_in (opens-datagram o) = None
+front_in makes-pool = None
+front_in (opens-front f) = Some f
 
 abbrev pub on_pool : ℕ → Use → Option Front
-on_pool k u = cond (eqb u.pool k) (front_in (role_of u.call)) none
+on_pool k u = cond (eqb u.pool k) (front_in (role_of u.call)) None
 
 abbrev pub front_clocks : ℕ → List Use → List ℕ
 front_clocks k [] = []

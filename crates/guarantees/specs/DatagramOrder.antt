@@ -1,16 +1,14 @@
 -- The refusals of a call that opens a datagram, in their order, each with its condition, in the words of what is lent and of SIP022's bytes.
-use Rattle.std.specs.Prelude.{Bool, true, false, cond, not, ◌&&◌, ◌||◌, List, [], ◌∷◌, ℕ, ◌+◌, ◌-◌, ◌*◌, eqb, leb, ltb, length, get_or, drop}
-use Rattle.std.proofs.Math.Option.{Option, none, some}
+use Rattle.std.specs.Prelude.{Bool, true, false, cond, not, ◌&&◌, ◌||◌, List, [], ◌∷◌, ℕ, ◌+◌, ◌-◌, ◌*◌, eqb, leb, ltb, length, get_or, drop, None, Option, Some}
 use Rattle.octets.specs.Numbers.{be}
 use Rattle.records.specs.Records.{lowest_from}
 use Rattle.protocol.specs.Method.{cipher_of}
 use Rattle.protocol.specs.Time.{time_valid}
 use Rattle.session_window.specs.Window.{bit, join4}
-use Rattle.socks5.specs.declared.Parsed.{Parsed}
-use Rattle.socks5.specs.declared.Parsed.TheVariants.{Found, Malformed}
 use Rattle.socks5.specs.Address.{parse_at}
 use Rattle.datagram_read.specs.Opening.{datagram_authentic, plain_of, session_of, packet_of}
 use Rattle.guarantees.specs.Calls.{Lent, Opening, at}
+use Rattle.socks5.specs.declared.Address.{Address}
 
 -- the first number of a list whose condition holds, and 0 where none does
 abbrev pub first_refusal : List (ℕ × Bool) → ℕ
@@ -23,20 +21,20 @@ with_nonce method = eqb method 3 || (eqb method 4 || eqb method 5)
 
 -- a server's datagram has the client's session ID at place 9 of its main header
 abbrev fixed_bytes : Option ℕ → ℕ
-fixed_bytes none = 11
-fixed_bytes (some id) = 19
+fixed_bytes None = 11
+fixed_bytes (Some id) = 19
 
 abbrev type_byte : Option ℕ → ℕ
-type_byte none = 0
-type_byte (some id) = 1
+type_byte None = 0
+type_byte (Some id) = 1
 
 abbrev for_another : Option ℕ → ℕ → Bool
-for_another none id = false
-for_another (some ours) id = not (eqb id ours)
+for_another None id = false
+for_another (Some ours) id = not (eqb id ours)
 
-abbrev no_address : Parsed → Bool
-no_address (Found a) = false
-no_address Malformed = true
+abbrev no_address : Option Address → Bool
+no_address (Some a) = false
+no_address None = true
 
 -- the record of a session in a table: the lowest of the 64 that is in use, has the ID, and whose last time is not past by more than R
 abbrev pub alive : List ℕ → (clock i : ℕ) → Bool
@@ -55,14 +53,14 @@ marked t i d = bit (join4 (at t (1 + i * 13 + 4)) (at t (1 + i * 13 + 5)) (at t 
 
 -- a packet ID is above the highest of its session, or less than 256 below it and not marked; or no session of the ID is alive, and a record is free
 abbrev pub not_fresh : Option ℕ → List ℕ → ℕ → Bool
-not_fresh (some i) t packet =
+not_fresh (Some i) t packet =
     not (ltb (at t (1 + i * 13 + 2)) packet || ltb (at t (1 + i * 13 + 2) - packet) 256 && not (marked t i (at t (1 + i * 13 + 2) - packet)))
-not_fresh none t packet = false
+not_fresh None t packet = false
 
 abbrev pub no_record : (session free : Option ℕ) → Bool
-no_record (some i) free = false
-no_record none (some i) = false
-no_record none none = true
+no_record (Some i) free = false
+no_record None (Some i) = false
+no_record None None = true
 
 module _ (o : Opening) (m : Lent) where
   abbrev besides : ℕ

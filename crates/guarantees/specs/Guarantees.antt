@@ -1,8 +1,7 @@
 -- What is proved of the functions in include/relay.h, whatever words and lengths a host lends them. Every statement is about `step` and
 -- runs of it (`Calls`), which say what a call returns and leaves by the terms of its contract.
 -- Assumes nothing.
-use Rattle.std.specs.Prelude.{◌≡◌, ◌≢◌, ◌↔◌, true, false, cond, List, [], ◌∷◌, ◌++◌, map, ℕ, ◌+◌, ◌-◌, ◌*◌, ◌^◌, ◌≤◌, ◌<◌, min, eqb, length, get_or, set, take, drop, replicate}
-use Rattle.std.proofs.Math.Option.{some}
+use Rattle.std.specs.Prelude.{◌≡◌, ◌≢◌, ◌↔◌, true, false, cond, List, [], ◌∷◌, ◌++◌, map, ℕ, ◌+◌, ◌-◌, ◌*◌, ◌^◌, ◌≤◌, ◌<◌, min, eqb, length, get_or, set, take, drop, replicate, Some}
 use Rattle.std.proofs.lemmas.List.Edits.{sets}
 use Rattle.octets.specs.Buffers.{Octets, put}
 use Rattle.protocol.specs.Orders.{among}
@@ -30,7 +29,6 @@ use Rattle.stream_open_variable.specs.declared.VariableHeader.{VariableHeader}
 use Rattle.stream_open.specs.declared.Receiver.{Receiver}
 use Rattle.stream_open.specs.declared.Chunk.{Chunk}
 use Rattle.socks5.specs.declared.Address.{Address}
-use Rattle.socks5.specs.declared.Parsed.TheVariants.{Found}
 use Rattle.socks5.specs.Address.{parse_at, moved}
 use Rattle.datagram_parts.specs.Headers.{main_start}
 use Rattle.words.specs.Answers.{kind_of, first_of, second_of, header_words}
@@ -42,7 +40,7 @@ use Rattle.guarantees.specs.DatagramOrder.{record_of, first_refusal, open_rules}
 -- one word of the table is another: the repeats of the datagram's session, one more, up to 2^64 - 1
 pub record RepeatCounted (clock id : ℕ) (t t' : List ℕ) : Type 0 where
   pub place : ℕ
-  pub its_own : record_of t clock id ≡ some place
+  pub its_own : record_of t clock id ≡ Some place
   pub one_word : t' ≡ set t (1 + place * 13 + 12) (min (at t (1 + place * 13 + 12) + 1) (2 ^ 64 - 1))
 
 -- what refusal 8 leaves of a table
@@ -171,7 +169,7 @@ module _ (seals opens : List ℕ → Call) where
 pub record DatagramBack (w : List ℕ) (method clock : ℕ) (address : List ℕ) (padding : ℕ) (payload : List ℕ) (y : Said) : Type 0 where
   pub refused-so : among (0 ∷ 1 ∷ 3 ∷ 7 ∷ 8 ∷ 9 ∷ []) y.number ≡ true
   pub target : Address
-  pub target-given : parse_at address 0 ≡ Found target
+  pub target-given : parse_at address 0 ≡ Some target
   pub place : ℕ
   pub place_is : place ≡ main_start (cipher_of method) + cond (eqb (at w 0) 0) 11 19 + padding
   pub nine_words : y.number ≡ 0 → y.left.answer
@@ -199,7 +197,7 @@ module _ (method : ℕ) (key salt : List ℕ) (clock : ℕ) (address : List ℕ)
     pub front_read : y.number ≡ 0
     pub front-told : y.left.answer ≡ sets answer 0 ((length salt + 27) ∷ variable_bytes ∷ clock ∷ [])
     pub target : Address
-    pub target-given : parse_at address 0 ≡ Found target
+    pub target-given : parse_at address 0 ≡ Some target
     pub header_read : z.number ≡ 0
     pub header-told : z.left.answer
         ≡ sets again 0 (kind_of target.target ∷ first_of target.target ∷ second_of target.target ∷ target.port
@@ -291,7 +289,7 @@ pub record LikeBook (k method : ℕ) (key : List ℕ) (m : Memory) (R : ℕ) (us
   pub sessions : (id : ℕ) → table_session ((after m us).tables k) (last_reading (calls k us)) id
       ≡ book_session R (book_after (decides method key) R [] (calls k us)) (last_reading (calls k us)) id
   pub no-others : OneRecordEach ((after m us).tables k) (last_reading (calls k us))
-  pub counts : (id : ℕ) (v : View) → table_session ((after m us).tables k) (last_reading (calls k us)) id ≡ some v
+  pub counts : (id : ℕ) (v : View) → table_session ((after m us).tables k) (last_reading (calls k us)) id ≡ Some v
       → CountsCalls (decides method key) (session_of_call method key) R (calls k us) id v.accepted v.repeats
   pub once : Once (calls k us) (outcomes k m us)
 
@@ -341,7 +339,7 @@ HeadsOnce =
 abbrev pub SaltStays : Type 0
 SaltStays =
     (k method : ℕ) (key : List ℕ) (m : Memory) (x y : Use) (us : List Use) (f g : Front) → PoolRun k method key (x ∷ us ++ y ∷ [])
-    → on_pool k x ≡ some f → on_pool k y ≡ some g → (does m x).number ≡ 0
+    → on_pool k x ≡ Some f → on_pool k y ≡ Some g → (does m x).number ≡ 0
     → take (salt_length method) g.bytes ≡ take (salt_length method) f.bytes → g.clock ≤ f.clock + 60
     → among (1 ∷ 10 ∷ 4 ∷ 6 ∷ 7 ∷ 8 ∷ []) (does (after m (x ∷ us)) y).number ≡ true
 

@@ -2,12 +2,11 @@
 -- Assumes nothing.
 use mathlib.Core.Path.{◌≡◌, refl, sym, ap, ap₂, ◌∙◌}
 use mathlib.Core.List.{List, [], ◌∷◌, ◌++◌, append_assoc}
-use Prim.Native.Nat.{ℕ, zero, suc, ◌+◌, ◌-◌, ◌≤◌, min}
+use Prim.Native.Nat.{ℕ, zero, suc, ◌+◌, ◌-◌, ◌≤◌}
 use native.Mathlib.Omega.{arith}
-use lib.ListN.{length, take, drop, set, replicate, length-append, length-set}
-use lib.Seq.{set_at, drop_at, take_at, take-append-add, length-take-le}
+use lib.ListN.{length, take, drop, set, replicate, length-append}
+use lib.Seq.{set_at, drop_at, take_at, take-append-add}
 use Rattle.octets.specs.Buffers.{put}
-use Rattle.octets.proofs.BufferLaws.{length-put}
 use Rattle.sha1_hash.proofs.BlockLaws.{drop-replicate}
 use Rattle.hmac.specs.Hmac.{mac_with}
 use Rattle.hmac.specs.declared.Keyed.{Keyed}
@@ -73,12 +72,6 @@ module _ (t info : List ℕ) (size : length t ≡ 20) where
 
 -- ---- what the code does from T(i) to T(i + 1): b₁ with the counter, d the new T, b₂ with it in place
 
-pub next-size : (b b₁ b₂ d : List ℕ) (j x : ℕ) → length b ≡ 256 → b₁ ≡ set b j x → length d ≡ 20 → b₂ ≡ put b₁ 0 d → length b₂ ≡ 256
-next-size b b₁ b₂ d j x e e₁ ed e₂ =
-    let n : length b₁ ≡ 256 = ap length e₁ ∙ length-set b j x ∙ e in
-    let f : 0 + length d ≤ length b₁ = omega arith in
-    ap length e₂ ∙ length-put b₁ 0 d f ∙ n
-
 pub next-laid : (k : Keyed) (b b₁ b₂ d : List ℕ) (m i : ℕ) → b₁ ≡ set b (20 + m) (i + 1) → d ≡ mac_with k (message b₁ m i) → b₂ ≡ put b₁ 0 d
     → (t info : List ℕ) → length t ≡ 20 → length info ≡ m → b ≡ laid t info i
     → b₂ ≡ laid (mac_with k (before i t ++ (info ++ (i + 1) ∷ []))) info (i + 1)
@@ -87,12 +80,3 @@ next-laid k b b₁ b₂ d m i e₁ ed e₂ t info et ei eb =
     let n = ed ∙ ap (λ (x : List ℕ). mac_with k (message x m i)) l ∙ ap (mac_with k) (laid-message t info et m (i + 1) i ei) in
     e₂ ∙ ap₂ (λ (x y : List ℕ). put x 0 y) l n
     ∙ laid-put t info et (mac_with k (before i t ++ (info ++ (i + 1) ∷ []))) (i + 1) (length-mac k (before i t ++ (info ++ (i + 1) ∷ [])))
-
--- ---- as many of the first 20 bytes of t as there is room for
-
-module _ (t : List ℕ) (at n o : ℕ) (e : n ≡ min (o - at) 20) (size : 20 ≤ length t) where
-  pub part-size : n ≡ length (take n t)
-  part-size = let h : n ≤ length t = omega arith in sym (length-take-le n t h)
-
-  pub part-fits : at ≤ o → at + length (take n t) ≤ o
-  part-fits h = omega (arith, part-size)

@@ -1,7 +1,7 @@
 // Mends a damaged recording and reports what it changed. Nothing is written before the report is known to have room.
 #![tactic(auto)]
 
-ghost use Rattle.std.specs.Prelude.{◌≡◌, ◌+◌, ◌-◌, ◌*◌, ◌<◌, ◌≤◌, min, length};
+ghost use Rattle.std.specs.Prelude.{◌≡◌, ◌+◌, ◌-◌, ◌*◌, ◌<◌, ◌≤◌, length};
 ghost use Rattle.recording.specs.Format.{place_of};
 ghost use Rattle.recording.specs.Written.{Written};
 ghost use Rattle.mending.specs.Mend.{mended_count, mended_entry, put_entry, put_count, mended_from, mended};
@@ -9,34 +9,19 @@ ghost use Rattle.mending.specs.Report.{report_from, report, words, refusal};
 
 use recording::{Entry, MAX_BODY, MAX_ENTRIES, UNKNOWN};
 
-// Numbers of refusals: a file that is too short, and a report that is.
+// Numbers of refusals: a file that is too short, and a report that is. Numbers and no enum: what `refusal` of specs/Report.antt
+// promises, and what C is told.
 const LENGTH: u64 = 2;
 
 const ROOM: u64 = 3;
-
-fn least(a: usize, b: usize) -> usize
-    ensures { result ≡ min a b }
-{
-    if a < b { a } else { b }
-}
 
 // The count after mending.
 fn mended_count(s: &[u8]) -> usize
     requires { 4 ≤ length s.now }
     ensures { result ≡ mended_count s.now }
 {
-    let fit = least(MAX_ENTRIES, (s.len() - 4) / 15);
-    least(recording::count(s) as usize, fit)
-}
-
-fn mended_direction(direction: u8) -> u8
-    ensures { result ≡ min direction 2 }
-{
-    if direction < UNKNOWN {
-        direction
-    } else {
-        UNKNOWN
-    }
+    let fit = MAX_ENTRIES.min((s.len() - 4) / 15);
+    fit.min(recording::count(s) as usize)
 }
 
 // An entry after mending, whose body is to begin at a place of a file of so many bytes.
@@ -44,13 +29,12 @@ fn mended_entry(e: Entry, place: usize, size: usize) -> Entry
     requires { (place ≤ size) × (place < 4294967296) }
     ensures { result ≡ mended_entry e place size }
 {
-    let short = least(e.len as usize, MAX_BODY);
-    let len = least(short, size - place);
+    let len = MAX_BODY.min(e.len as usize).min(size - place);
     Entry {
         offset: place as u32,
         len: len as u16,
-        direction: mended_direction(e.direction),
-        clock: e.clock,
+        direction: e.direction.min(UNKNOWN),
+        ..e
     }
 }
 
@@ -58,8 +42,7 @@ fn put_count(s: &mut [u8], n: usize)
     requires { (4 ≤ length s.old) × (n ≤ 4096) }
     ensures { s.new ≡ put_count s.old n }
 {
-    octets::write_u16_be(s, 0, 0);
-    octets::write_u16_be(s, 2, n as u16);
+    octets::copy(s, 0, &u32::to_be_bytes(n as u32));
 }
 
 // Writes an entry's offset, length and direction.
@@ -67,8 +50,7 @@ fn put_entry(s: &mut [u8], at: usize, e: Entry)
     requires { at + 15 ≤ length s.old }
     ensures { s.new ≡ put_entry s.old at e }
 {
-    octets::write_u16_be(s, at, (e.offset / 0x1_0000) as u16);
-    octets::write_u16_be(s, at + 2, (e.offset % 0x1_0000) as u16);
+    octets::copy(s, at, &u32::to_be_bytes(e.offset));
     octets::write_u16_be(s, at + 4, e.len);
     s[at + 6] = e.direction;
 }
@@ -78,15 +60,13 @@ fn count_changes(s: &[u8], n: usize) -> usize
     requires { (n ≤ 4096) × (place_of n ≤ length s.now) }
     ensures { (result ≡ length (report_from n s.now 0 (place_of n))) × (result ≤ 3 * n) }
 {
-    let mut i: usize = 0;
     let mut place: usize = 4 + 15 * n;
     let mut total: usize = 0;
-    while i < n {
+    for i in 0..n {
         let old = recording::read_entry(s, 4 + 15 * i);
         let new = mended_entry(old, place, s.len());
         total += mending_report::entry_count(old, new);
         place += new.len as usize;
-        i += 1;
     }
     total
 }
@@ -98,16 +78,14 @@ fn mend_entries(s: &mut [u8], n: usize, out: &mut [u64], at: usize) -> usize
     ensures s_after { s.new ≡ mended_from n s.old 0 (place_of n) }
     ensures written { Written out.old at out.new result (words (report_from n s.old 0 (place_of n))) }
 {
-    let mut i: usize = 0;
     let mut place: usize = 4 + 15 * n;
     let mut end = at;
-    while i < n {
+    for i in 0..n {
         let e = recording::read_entry(s, 4 + 15 * i);
         let f = mended_entry(e, place, s.len());
         end = mending_report::put_entry_changes(out, end, i, e, f);
         put_entry(s, 4 + 15 * i, f);
         place += f.len as usize;
-        i += 1;
     }
     end
 }

@@ -1,14 +1,16 @@
 -- Changes: how many there are, their words, and what their writers leave.
 -- Assumes nothing.
 use mathlib.Core.Path.{◌≡◌, refl, sym, ap, subst, ◌∙◌}
-use mathlib.Core.Bool.{Bool, true, false}
+use mathlib.Core.Bool.{Bool, true, false, not}
 use mathlib.Core.List.{List, [], ◌∷◌, ◌++◌}
 use Prim.Native.Nat.{ℕ, ◌+◌, ◌*◌, ◌≤◌}
 use native.Mathlib.Omega.{arith}
 use lib.Dec.{eqb}
-use lib.ListN.{length, set, length-append, length-set}
+use lib.ListN.{length, take, drop, length-append}
+use mir.Val.{bool_byte}
 use borrow.Author.Tests.{eq-eqb, ne_eqb, eqb-true, eqb-false}
-use Rattle.octets.proofs.BufferLaws.{put_one}
+use Rattle.octets.specs.Buffers.{put}
+use Rattle.octets.proofs.BufferLaws.{part-put}
 use Rattle.recording.specs.declared.Entry.{Entry}
 use Rattle.recording.specs.Written.{Written}
 use Rattle.recording.proofs.WrittenLaws.{also, nothing, room, room-behind}
@@ -62,10 +64,19 @@ entry_length i e f =
       as_many i 3 e.direction f.direction,
     )
 
--- ---- a change that is written
+-- a change as a number
+pub counted : (old new n : ℕ) → n ≡ bool_byte (not (eqb old new)) → (n ≡ length (changed 0 0 old new)) × (n ≤ 1)
+counted old new n e = go (eqb old new) refl
+  where
+    go : (b : Bool) → eqb old new ≡ b → (n ≡ length (changed 0 0 old new)) × (n ≤ 1)
+    go true q =
+        let m : n ≡ 0 = e ∙ ap (λ (x : Bool). bool_byte (not x)) q in
+        (omega (arith, ap length (unchanged 0 0 old new (eqb-true old new q))), omega arith)
+    go false q =
+        let m : n ≡ 1 = e ∙ ap (λ (x : Bool). bool_byte (not x)) q in
+        (omega (arith, ap length (is-changed 0 0 old new (eqb-false old new q))), omega arith)
 
-one_at : (d : List ℕ) (at x r : ℕ) → at + 1 ≤ length d → r ≡ at + 1 → Written d at (set d at x) r (x ∷ [])
-one_at d at x r h e = record { fits = h; ends = e; puts = sym (put_one d at x (omega arith)) }
+-- ---- a change that is written
 
 module _ (d : List ℕ) (at i f old new : ℕ) (fits : at + length (words (changed i f old new)) ≤ length d) where
   pub put-nothing : old ≡ new → Written d at d at (words (changed i f old new))
@@ -80,21 +91,14 @@ module _ (d : List ℕ) (at i f old new : ℕ) (fits : at + length (words (chang
     unfolding words
     room-four = subst (λ (cs : List Change). at + length (words cs) ≤ length d) (is-changed i f old new ne) fits
 
-    pub put_four : Written d at (set (set (set (set d at i) (at + 1) f) (at + 2) old) (at + 3) new) (at + 4) (words (changed i f old new))
+    pub put_four : (ys : List ℕ) (k : ℕ) → ys ≡ i ∷ f ∷ old ∷ new ∷ [] → k ≡ 4
+        → Written d at (take at d ++ (ys ++ drop k (drop at d))) (at + 4) (words (changed i f old new))
     unfolding words
-    put_four =
-        let a = set d at i in
-        let b = set a (at + 1) f in
-        let c = set b (at + 2) old in
-        let h = room-four in
-        let la = length-set d at i in
-        let lb = length-set a (at + 1) f in
-        let lc = length-set b (at + 2) old in
-        subst (λ (cs : List Change). Written d at (set c (at + 3) new) (at + 4) (words cs)) (sym (is-changed i f old new ne))
-        (also (also (also (one_at d at i (at + 1) (omega arith) refl)
-        (one_at a (at + 1) f (at + 2) (omega (arith, la)) (omega arith)))
-        (one_at b (at + 2) old (at + 3) (omega (arith, la, lb)) (omega arith)))
-        (one_at c (at + 3) new (at + 4) (omega (arith, la, lb, lc)) (omega arith)))
+    put_four ys k e four =
+        let c : List ℕ = i ∷ f ∷ old ∷ new ∷ [] in
+        let z : take at d ++ (ys ++ drop k (drop at d)) ≡ put d at ys = part-put d ys at k (ap length e ∙ sym four) in
+        subst (λ (cs : List Change). Written d at (take at d ++ (ys ++ drop k (drop at d))) (at + 4) (words cs)) (sym (is-changed i f old new ne))
+        (record { fits = room-four; ends = refl; puts = z ∙ ap (put d at) e })
 
 -- ---- the changes of an entry, in three writes
 

@@ -11,7 +11,7 @@ use recording::Entry;
 pub fn field_count(old: u64, new: u64) -> usize
     ensures { (result ≡ length (changed 0 0 old new)) × (result ≤ 1) }
 {
-    if old != new { 1 } else { 0 }
+    usize::from(old != new)
 }
 
 // How many fields of an entry change that was e and is f.
@@ -32,10 +32,7 @@ pub fn put_change(out: &mut [u64], at: usize, i: usize, field: u64, old: u64, ne
     if old == new {
         return at;
     }
-    out[at] = i as u64;
-    out[at + 1] = field;
-    out[at + 2] = old;
-    out[at + 3] = new;
+    out[at..at + 4].copy_from_slice(&[i as u64, field, old, new]);
     at + 4
 }
 

@@ -1,8 +1,10 @@
 -- Laws of numbers made of bytes: two parts side by side, bounds, there and back.
 -- Assumes nothing.
+use Rattle.std.specs.Int.{byte_at, bytes_low_first, bytes_high_first, from_be_bytes, from_le_bytes}
+use mir.Syntax.{w16, w32, w64}
 use mathlib.Core.Path.{◌≡◌, refl, sym, ap, ap₂, ◌∙◌, subst}
 use mathlib.Core.List.{List, [], ◌∷◌, ◌++◌}
-use Prim.Native.Nat.{ℕ, zero, suc, ◌+◌, ◌-◌, ◌*◌, ◌/◌, ◌%◌, ◌^◌, ◌<◌, ◌≤◌}
+use Prim.Native.Nat.{ℕ, zero, suc, ◌+◌, ◌*◌, ◌/◌, ◌%◌, ◌^◌, ◌<◌, ◌≤◌}
 use native.Mathlib.Nat.{add-zero, zero-add, add-suc, suc-add, add_comm, pow-zero, pow-suc, pow-succ', mod-lt, mod-eq_of_lt, div-add-mod', mod-one, div-one, div-div-eq-div-mul, mul-add-div_right, mul-add-mod_self_right, one-le-pow, lt-suc_self, le_of_eq}
 use native.Mathlib.Omega.{arith}
 use lib.Bits.{bit_or, or_shifted_r}
@@ -13,7 +15,7 @@ use lib.Pow.{pow-add, shl_exact}
 use lib.Seq.{get_or-take, get_or-drop, drop-drop}
 use Rattle.buffers.specs.Buffers.{Octets, put}
 use Rattle.octets.specs.Numbers.{be, le, to_be, to_le}
-use Rattle.buffers.proofs.BufferLaws.{octets-nil, octets-cons, octets-tail, octets-drop, rest, put-put, get_or-padded}
+use Rattle.buffers.proofs.BufferLaws.{octets-nil, octets-cons, octets-tail, octets-drop, put-put, get_or-padded}
 
 pub 256-pos : (n : ℕ) → 0 < 256 ^ n
 256-pos n = one-le-pow n 256 (lit< tt)
@@ -117,7 +119,7 @@ le-take n s = le_same n (take n s) s (λ i h. get_or-take n s i 0 h)
 pub be-append : (n : ℕ) (s t : List ℕ) → n ≤ length s → be n (s ++ t) ≡ be n s
 be-append n s t h = be-same n (s ++ t) s (λ i l. get_or-append s t 0 i (omega arith))
 
--- past the end; with zeros behind; a copy of what is left of s, with zeros behind
+-- past the end; with zeros behind
 pub be-past : (n : ℕ) (s : List ℕ) {at : ℕ} → length s ≤ at → 0 ≡ be n (drop at s)
 be-past n s h = sym (ap (be n) (drop_of_length-le s h) ∙ be-nil n)
 
@@ -129,13 +131,6 @@ be-padded n m s = be-same n (put (replicate m 0) 0 s) s (λ i h. get_or-padded m
 
 pub le-padded : (n m : ℕ) (s : List ℕ) → le n (put (replicate m 0) 0 s) ≡ le n s
 le-padded n m s = le_same n (put (replicate m 0) 0 s) s (λ i h. get_or-padded m s i)
-
-module _ (n m : ℕ) (s : List ℕ) (at : ℕ) {t : List ℕ} (e : t ≡ put (replicate m 0) 0 (take (length s - at) (drop at s))) where
-  pub be-rest : be n t ≡ be n (drop at s)
-  be-rest = ap (be n) (e ∙ ap (put (replicate m 0) 0) (rest s at)) ∙ be-padded n m (drop at s)
-
-  pub le-rest : le n t ≡ le n (drop at s)
-  le-rest = ap (le n) (e ∙ ap (put (replicate m 0) 0) (rest s at)) ∙ le-padded n m (drop at s)
 
 -- ---- the bytes of a number
 
@@ -289,3 +284,47 @@ module _ (n m : ℕ) (d : List ℕ) (at x : ℕ) (f : at + n ≤ length d) {v w 
       parts (to_le n (x % 256 ^ n)) (to_le m (x / 256 ^ n)) (length-to_le n (x % 256 ^ n)) p q
       ∙ ap (λ (s : List ℕ). put d at (s ++ to_le m (x / 256 ^ n))) (to_le-mod n x)
       ∙ ap (put d at) (sym (to_le-add n m x))
+
+-- ---- std's conversions
+
+-- what N bytes say that were read from a place on
+pub be_at : (n at : ℕ) (s b : List ℕ) → ((k : ℕ) → k < n → get_or b k 0 ≡ get_or s (at + k) 0) → be n b ≡ be n (drop at s)
+be_at n at s b e = be-same n b (drop at s) (λ k h. e k h ∙ sym (get_or-drop at s k 0))
+
+pub le_at : (n at : ℕ) (s b : List ℕ) → ((k : ℕ) → k < n → get_or b k 0 ≡ get_or s (at + k) 0) → le n b ≡ le n (drop at s)
+le_at n at s b e = le_same n b (drop at s) (λ k h. e k h ∙ sym (get_or-drop at s k 0))
+
+pub from_be_16 : (b : List ℕ) → from_be_bytes w16 b ≡ be 2 b
+unfolding be
+from_be_16 b = omega arith
+
+pub from_be_32 : (b : List ℕ) → from_be_bytes w32 b ≡ be 4 b
+unfolding be
+from_be_32 b = omega arith
+
+pub from_be_64 : (b : List ℕ) → from_be_bytes w64 b ≡ be 8 b
+unfolding be
+from_be_64 b = omega arith
+
+pub from_le_32 : (b : List ℕ) → from_le_bytes w32 b ≡ le 4 b
+unfolding le
+from_le_32 b = omega arith
+
+byte-is : (i n : ℕ) → byte_at i n ≡ n / 256 ^ i % 256
+byte-is zero n = ap (λ (y : ℕ). y % 256) (sym (div-one n))
+byte-is (suc i) n = refl
+
+pub high-first : (k n : ℕ) → bytes_high_first k n ≡ to_be k n
+unfolding to_be
+high-first zero n = refl
+high-first (suc k) n = ap₂ (λ (b : ℕ) (t : List ℕ). b ∷ t) (byte-is k n) (high-first k n)
+
+low-from : (i k n : ℕ) → bytes_low_first i k n ≡ to_le k (n / 256 ^ i)
+unfolding to_le
+low-from i zero n = refl
+low-from i (suc k) n =
+    ap₂ (λ (b : ℕ) (t : List ℕ). b ∷ t) (byte-is i n)
+    (low-from (suc i) k n ∙ ap (to_le k) (ap (λ (p : ℕ). n / p) (pow-suc 256 i) ∙ sym (div-div-eq-div-mul n (256 ^ i) 256)))
+
+pub low-first : (k n : ℕ) → bytes_low_first 0 k n ≡ to_le k n
+low-first k n = low-from 0 k n ∙ ap (to_le k) (div-one n)

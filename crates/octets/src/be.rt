@@ -3,40 +3,16 @@ ghost use Rattle.std.specs.Prelude.{◌≡◌, ◌+◌, ◌≤◌, length, drop}
 ghost use Rattle.octets.specs.Numbers.{be, to_be};
 ghost use Rattle.buffers.specs.Buffers.{put};
 
-use buffers::padded;
+use crate::bytes::{bytes_at, bytes_there};
+use buffers::copy;
 
 // ---- bytes that are there
-
-fn load_u8(s: &[u8], at: usize) -> u8
-    requires { at + 1 ≤ length s.now }
-    ensures { result ≡ be 1 (drop at s.now) }
-{
-    s[at]
-}
-
-fn load_u16(s: &[u8], at: usize) -> u16
-    requires { at + 2 ≤ length s.now }
-    ensures { result ≡ be 2 (drop at s.now) }
-{
-    load_u8(s, at + 1) as u16 | (load_u8(s, at) as u16) << 8
-}
-
-// Flat: the compiler makes one load of two of these, and does not where each is made of halves itself.
-fn load_u32(s: &[u8], at: usize) -> u32
-    requires { at + 4 ≤ length s.now }
-    ensures { result ≡ be 4 (drop at s.now) }
-{
-    load_u8(s, at + 3) as u32
-        | (load_u8(s, at + 2) as u32) << 8
-        | (load_u8(s, at + 1) as u32) << 16
-        | (load_u8(s, at) as u32) << 24
-}
 
 pub fn load_u64_be(s: &[u8], at: usize) -> u64
     requires { at + 8 ≤ length s.now }
     ensures { result ≡ be 8 (drop at s.now) }
 {
-    load_u32(s, at + 4) as u64 | (load_u32(s, at) as u64) << 32
+    u64::from_be_bytes(bytes_there(s, at))
 }
 
 // ---- from a string, where a byte past the end counts as 0
@@ -44,68 +20,33 @@ pub fn load_u64_be(s: &[u8], at: usize) -> u64
 pub fn read_u16_be(s: &[u8], at: usize) -> u16
     ensures { result ≡ be 2 (drop at s.now) }
 {
-    if s.len() <= at {
-        return 0;
-    }
-    if 2 <= s.len() - at {
-        return load_u16(s, at);
-    }
-    load_u16(&padded(&s[at..]), 0)
+    u16::from_be_bytes(bytes_at(s, at))
 }
 
 pub fn read_u32_be(s: &[u8], at: usize) -> u32
     ensures { result ≡ be 4 (drop at s.now) }
 {
-    if s.len() <= at {
-        return 0;
-    }
-    if 4 <= s.len() - at {
-        return load_u32(s, at);
-    }
-    load_u32(&padded(&s[at..]), 0)
+    u32::from_be_bytes(bytes_at(s, at))
 }
 
 pub fn read_u64_be(s: &[u8], at: usize) -> u64
     ensures { result ≡ be 8 (drop at s.now) }
 {
-    if s.len() <= at {
-        return 0;
-    }
-    if 8 <= s.len() - at {
-        return load_u64_be(s, at);
-    }
-    load_u64_be(&padded(&s[at..]), 0)
+    u64::from_be_bytes(bytes_at(s, at))
 }
 
 // ---- into a buffer
-
-fn store_u8(out: &mut [u8], at: usize, x: u8)
-    requires { at + 1 ≤ length out.old }
-    ensures { out.new ≡ put out.old at (to_be 1 x) }
-{
-    out[at] = x;
-}
 
 pub fn write_u16_be(out: &mut [u8], at: usize, x: u16)
     requires { at + 2 ≤ length out.old }
     ensures { out.new ≡ put out.old at (to_be 2 x) }
 {
-    store_u8(out, at, (x / 256) as u8);
-    store_u8(out, at + 1, (x % 256) as u8);
-}
-
-fn write_u32_be(out: &mut [u8], at: usize, x: u32)
-    requires { at + 4 ≤ length out.old }
-    ensures { out.new ≡ put out.old at (to_be 4 x) }
-{
-    write_u16_be(out, at, (x / 0x1_0000) as u16);
-    write_u16_be(out, at + 2, (x % 0x1_0000) as u16);
+    copy(out, at, &u16::to_be_bytes(x));
 }
 
 pub fn write_u64_be(out: &mut [u8], at: usize, x: u64)
     requires { at + 8 ≤ length out.old }
     ensures { out.new ≡ put out.old at (to_be 8 x) }
 {
-    write_u32_be(out, at, (x / 0x1_0000_0000) as u32);
-    write_u32_be(out, at + 4, (x % 0x1_0000_0000) as u32);
+    copy(out, at, &u64::to_be_bytes(x));
 }

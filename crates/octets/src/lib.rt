@@ -2,6 +2,7 @@
 #![tactic(auto)]
 
 mod be;
+mod bytes;
 mod le;
 
 pub use be::{load_u64_be, read_u16_be, read_u32_be, read_u64_be, write_u16_be, write_u64_be};

@@ -1,18 +1,53 @@
 -- A plan's words, read and written two by two.
 -- Assumes nothing.
-use mathlib.Core.Path.{◌≡◌, sym, ap, ◌∙◌}
+use mathlib.Core.Path.{◌≡◌, refl, sym, ap, ◌∙◌}
 use mathlib.Core.Bool.{Bool, true, false, ◌&&◌, and-eq-true_iff}
-use mathlib.Core.List.{List, ◌∷◌}
-use Prim.Native.Nat.{ℕ, suc, ◌+◌, ◌-◌, ◌*◌, ◌/◌, ◌%◌, ◌≤◌, ◌<◌}
+use mathlib.Core.List.{List, [], ◌∷◌}
+use Prim.Native.Nat.{ℕ, zero, suc, ◌+◌, ◌-◌, ◌*◌, ◌/◌, ◌%◌, ◌≤◌, ◌<◌}
 use native.Mathlib.Omega.{arith}
 use native.Mathlib.Numerals.{add-one}
 use lib.Dec.{eqb, leb, ltb}
-use lib.ListN.{length, get_or, set, drop, drop_of_length-le}
+use lib.ListN.{length, get_or, set, take, drop, drop_of_length-le}
+use Rattle.std.proofs.lemmas.List.{get_or-drop}
+use Rattle.std.specs.Simd.{first_chunks}
 use lib.Seq.{sets, drop-cons}
 use borrow.Author.Tests.{eq-eqb, ne_eqb, leb-true}
+use Rattle.std.proofs.Common.{rules}
+use Rattle.std.specs.Prelude.{min}
 use Rattle.plan_pieces.specs.Plans.{words, fewest, piece_fits, adds, passes, smaller, made}
 
 -- ---- reading
+
+-- the two words of a piece are where they stand in the plan
+front-first : (w : List ℕ) → get_or (take 2 w) 0 0 ≡ get_or w 0 0
+front-first [] = refl
+front-first (a ∷ w) = refl
+
+front-second : (w : List ℕ) → get_or (take 2 w) 1 0 ≡ get_or w 1 0
+front-second [] = refl
+front-second (a ∷ []) = refl
+front-second (a ∷ (b ∷ w)) = refl
+
+first-in : (n : ℕ) (w : List ℕ) (i : ℕ) → i < n → get_or (get_or (first_chunks 2 n w) i []) 0 0 ≡ get_or w (2 * i) 0
+first-in zero w i l = absurd (omega arith)
+first-in (suc n) w zero l = front-first w
+first-in (suc n) w (suc i) l =
+    let e : 2 + 2 * i ≡ 2 * suc i = omega arith in
+    first-in n (drop 2 w) i (omega arith) ∙ get_or-drop 2 w (2 * i) 0 ∙ ap (λ (k : ℕ). get_or w k 0) e
+
+second-in : (n : ℕ) (w : List ℕ) (i : ℕ) → i < n → get_or (get_or (first_chunks 2 n w) i []) 1 0 ≡ get_or w (2 * i + 1) 0
+second-in zero w i l = absurd (omega arith)
+second-in (suc n) w zero l = front-second w
+second-in (suc n) w (suc i) l =
+    let e : 2 + (2 * i + 1) ≡ 2 * suc i + 1 = omega arith in
+    second-in n (drop 2 w) i (omega arith) ∙ get_or-drop 2 w (2 * i + 1) 0 ∙ ap (λ (k : ℕ). get_or w k 0) e
+
+module _ (w : List ℕ) (pieces : List (List ℕ)) (e : pieces ≡ first_chunks 2 (length w / 2) w) (i : ℕ) (l : i < length w / 2) where
+  pub first-there : get_or (get_or pieces i []) 0 0 ≡ get_or w (2 * i) 0
+  first-there = ap (λ (x : List (List ℕ)). get_or (get_or x i []) 0 0) e ∙ first-in (length w / 2) w i l
+
+  pub second-there : get_or (get_or pieces i []) 1 0 ≡ get_or w (2 * i + 1) 0
+  second-there = ap (λ (x : List (List ℕ)). get_or (get_or x i []) 1 0) e ∙ second-in (length w / 2) w i l
 
 pub fits-within : (most rest x y : ℕ) → piece_fits most rest x y ≡ true → x ≤ rest
 unfolding piece_fits
@@ -80,6 +115,9 @@ module _ (most n : ℕ) (w : List ℕ) where
         ap (adds most rest) (sym (drop_of_length-le w {i = 2 * i} l)) ∙ inv ∙ counted k ek even half
 
 -- ---- writing
+
+pub least : (a b : ℕ) → min a b ≡ smaller a b
+least a b = search rules
 
 module _ (most n k : ℕ) (start : List ℕ) where
   -- what is written, with the plan of what is left, is the whole plan

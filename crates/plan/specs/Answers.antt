@@ -1,5 +1,5 @@
 -- What planning and checking answer, and what is written.
-use Rattle.std.specs.Prelude.{cond, ◌&&◌, ◌||◌, List, ℕ, ◌+◌, ◌-◌, ◌*◌, eqb, leb, ltb, length}
+use Rattle.std.specs.Prelude.{Bool, cond, ◌&&◌, ◌||◌, List, ℕ, ◌+◌, ◌-◌, ◌*◌, eqb, leb, ltb, length, Err, Ok, Result, false, true}
 use Rattle.std.proofs.lemmas.List.Edits.{sets}
 use Rattle.protocol.specs.declared.Refusal.TheVariants.{Settings, Argument, Room}
 use Rattle.socks5.specs.Address.{is_address}
@@ -7,12 +7,7 @@ use Rattle.datagram_parts.specs.declared.Side.TheVariants.{Client}
 use Rattle.datagram_parts.specs.Headers.{fixed_length}
 use Rattle.datagram_parts.specs.Parts.{max_datagram, overhead_of}
 use Rattle.plan_pieces.specs.Plans.{words, fewest, passes, made}
-use Rattle.plan.specs.declared.Capacity.{Capacity}
-use Rattle.plan.specs.declared.Capacity.TheVariants.{Most, Refused as NoCapacity}
-use Rattle.plan.specs.declared.Made.{Made}
-use Rattle.plan.specs.declared.Made.TheVariants.{Datagrams, Refused as NotMade}
-use Rattle.plan.specs.declared.Checked.{Checked}
-use Rattle.plan.specs.declared.Checked.TheVariants.{Passed, Failed, Refused as NotChecked}
+use Rattle.protocol.specs.declared.Refusal.{Refusal}
 
 -- what every datagram of a client has besides piece and padding
 abbrev pub head_with : (overhead address : ℕ) → ℕ
@@ -27,39 +22,39 @@ most_of method address limit = limit - head_of method address
 
 -- ---- refusals 1 and 12, of both functions; n is the length of the report
 
-unfoldable pub limit_answer : (most limit n : ℕ) → Capacity
-limit_answer most limit n = cond (leb limit max_datagram && (eqb n 0 || ltb 0 most)) (Most most) (NoCapacity Argument)
+unfoldable pub limit_answer : (most limit n : ℕ) → Result ℕ Refusal
+limit_answer most limit n = cond (leb limit max_datagram && (eqb n 0 || ltb 0 most)) (Ok most) (Err Argument)
 
-unfoldable pub argument_answer : ℕ → List ℕ → (limit n : ℕ) → Capacity
+unfoldable pub argument_answer : ℕ → List ℕ → (limit n : ℕ) → Result ℕ Refusal
 argument_answer overhead address limit n =
-    cond (is_address address) (limit_answer (limit - head_with overhead (length address)) limit n) (NoCapacity Argument)
+    cond (is_address address) (limit_answer (limit - head_with overhead (length address)) limit n) (Err Argument)
 
-unfoldable pub capacity_answer : ℕ → List ℕ → (limit n : ℕ) → Capacity
+unfoldable pub capacity_answer : ℕ → List ℕ → (limit n : ℕ) → Result ℕ Refusal
 capacity_answer method address limit n =
-    cond (eqb (overhead_of method) 0) (NoCapacity Settings) (argument_answer (overhead_of method) address limit n)
+    cond (eqb (overhead_of method) 0) (Err Settings) (argument_answer (overhead_of method) address limit n)
 
 -- ---- checking
 
-abbrev pub checked_by : Capacity → ℕ → List ℕ → Checked
-checked_by (Most most) n w = cond (passes most n w) Passed Failed
-checked_by (NoCapacity r) n w = NotChecked r
+abbrev pub checked_by : Result ℕ Refusal → ℕ → List ℕ → Result Bool Refusal
+checked_by (Ok most) n w = cond (passes most n w) (Ok true) (Ok false)
+checked_by (Err r) n w = Err r
 
-unfoldable pub check_answer : ℕ → List ℕ → (limit n : ℕ) → List ℕ → Checked
+unfoldable pub check_answer : ℕ → List ℕ → (limit n : ℕ) → List ℕ → Result Bool Refusal
 check_answer method address limit n w = checked_by (capacity_answer method address limit n) n w
 
 -- ---- planning, in so many lent words
 
-unfoldable pub room_answer : (k room : ℕ) → Made
-room_answer k room = cond (leb (2 * k) room) (Datagrams k) (NotMade Room)
+unfoldable pub room_answer : (k room : ℕ) → Result ℕ Refusal
+room_answer k room = cond (leb (2 * k) room) (Ok k) (Err Room)
 
-abbrev pub made_by : Capacity → (n room : ℕ) → Made
-made_by (Most most) n room = room_answer (fewest n most) room
-made_by (NoCapacity r) n room = NotMade r
+abbrev pub made_by : Result ℕ Refusal → (n room : ℕ) → Result ℕ Refusal
+made_by (Ok most) n room = room_answer (fewest n most) room
+made_by (Err r) n room = Err r
 
-unfoldable pub make_answer : ℕ → List ℕ → (limit n room : ℕ) → Made
+unfoldable pub make_answer : ℕ → List ℕ → (limit n room : ℕ) → Result ℕ Refusal
 make_answer method address limit n room = made_by (capacity_answer method address limit n) n room
 
 -- the plan at the front of the lent words, and nothing for a refusal
-abbrev pub make_out : Made → (most n : ℕ) → List ℕ → List ℕ
-make_out (Datagrams k) most n plan = sets plan 0 (words (made most n k))
-make_out (NotMade r) most n plan = plan
+abbrev pub make_out : Result ℕ Refusal → (most n : ℕ) → List ℕ → List ℕ
+make_out (Ok k) most n plan = sets plan 0 (words (made most n k))
+make_out (Err r) most n plan = plan

@@ -7,34 +7,12 @@ ghost use Rattle.plan_pieces.specs.Plans.{words, passes, made};
 ghost use Rattle.plan.specs.Answers.{head_with, most_of, limit_answer, argument_answer, capacity_answer, check_answer, make_answer, make_out};
 
 use datagram_parts::{MAX_DATAGRAM, Side, fixed_length, overhead_of};
-use plan_pieces::{fewest_of, piece_fits, saturating_sub, smaller_of};
+use plan_pieces::{fewest_of, piece_fits};
 use protocol::Refusal;
 
 mod told;
 
 pub use told::{write_checked, write_made};
-
-// What a datagram has room for, piece and padding, or why there is no plan.
-#[derive(Clone, Copy)]
-pub enum Capacity {
-    Most(u64),
-    Refused(Refusal),
-}
-
-// What planning answers: the number of datagrams, or why there is no plan.
-#[derive(Clone, Copy)]
-pub enum Made {
-    Datagrams(usize),
-    Refused(Refusal),
-}
-
-// What checking answers.
-#[derive(Clone, Copy)]
-pub enum Checked {
-    Passed,
-    Failed,
-    Refused(Refusal),
-}
 
 // ---- the arguments
 
@@ -42,45 +20,41 @@ pub enum Checked {
 fn most_of(limit: u64, overhead: usize, address: usize) -> u64
     ensures { result ≡ limit - head_with overhead address }
 {
-    let fixed = fixed_length(Side::Client);
-    saturating_sub(
-        saturating_sub(saturating_sub(limit, overhead), fixed),
-        address,
-    )
+    limit
+        .saturating_sub(overhead as u64)
+        .saturating_sub(fixed_length(Side::Client) as u64)
+        .saturating_sub(address as u64)
 }
 
 // Refusal 12 of a limit that is over the longest datagram, or has no room for one byte of a report that has any.
-fn limit_answer(most: u64, limit: u64, report: u64) -> Capacity
+#[tactic(auto, unfolding(crate::specs::Answers::limit_answer))]
+fn limit_answer(most: u64, limit: u64, report: u64) -> Result<u64, Refusal>
     ensures { result ≡ limit_answer most limit report }
 {
-    if (MAX_DATAGRAM as u64) < limit {
-        return Capacity::Refused(Refusal::Argument);
+    if (MAX_DATAGRAM as u64) < limit || (report != 0 && most == 0) {
+        return Err(Refusal::Argument);
     }
-    if report == 0 {
-        return Capacity::Most(most);
-    }
-    if most == 0 {
-        return Capacity::Refused(Refusal::Argument);
-    }
-    Capacity::Most(most)
+    Ok(most)
 }
 
-fn argument_answer(overhead: usize, address: &[u8], limit: u64, report: u64) -> Capacity
+#[tactic(auto, unfolding(crate::specs::Answers::argument_answer))]
+fn argument_answer(overhead: usize, address: &[u8], limit: u64, report: u64) -> Result<u64, Refusal>
     ensures { result ≡ argument_answer overhead address.now limit report }
 {
-    if socks5::is_address(address) {
-        return limit_answer(most_of(limit, overhead, address.len()), limit, report);
+    if !socks5::is_address(address) {
+        return Err(Refusal::Argument);
     }
-    Capacity::Refused(Refusal::Argument)
+    limit_answer(most_of(limit, overhead, address.len()), limit, report)
 }
 
 // Refusals 1 and 12, in this order, or what a datagram has room for.
-fn capacity_of(method: u64, address: &[u8], limit: u64, report: u64) -> Capacity
+#[tactic(auto, unfolding(crate::specs::Answers::capacity_answer))]
+fn capacity_of(method: u64, address: &[u8], limit: u64, report: u64) -> Result<u64, Refusal>
     ensures { result ≡ capacity_answer method address.now limit report }
 {
     let overhead = overhead_of(method);
     if overhead == 0 {
-        return Capacity::Refused(Refusal::Settings);
+        return Err(Refusal::Settings);
     }
     argument_answer(overhead, address, limit, report)
 }
@@ -91,38 +65,33 @@ fn passes_words(most: u64, report: u64, plan: &[u64]) -> bool
     requires { 0 < report → 0 < most }
     ensures { result ≡ passes most report plan.now }
 {
-    let count = plan.len() / 2;
-    if plan.len() % 2 != 0 {
-        return false;
-    }
-    if count != fewest_of(report, most) {
+    let (pieces, odd) = plan.as_chunks::<2>();
+    if !odd.is_empty() || pieces.len() != fewest_of(report, most) {
         return false;
     }
     let mut rest = report;
-    for i in 0..count {
-        let bytes = plan[2 * i];
-        if piece_fits(most, rest, bytes, plan[2 * i + 1]) {
-            rest -= bytes;
-        } else {
+    for &[bytes, padding] in pieces {
+        if !piece_fits(most, rest, bytes, padding) {
             return false;
         }
+        rest -= bytes;
     }
     rest == 0
 }
 
 // Whether the words are those of a good plan for a report of so many bytes.
-pub fn check(method: u64, address: &[u8], limit: u64, report: u64, plan: &[u64]) -> Checked
+#[tactic(auto, unfolding(crate::specs::Answers::check_answer))]
+pub fn check(
+    method: u64,
+    address: &[u8],
+    limit: u64,
+    report: u64,
+    plan: &[u64],
+) -> Result<bool, Refusal>
     ensures { result ≡ check_answer method address.now limit report plan.now }
 {
-    match capacity_of(method, address, limit, report) {
-        Capacity::Most(most) => {
-            if passes_words(most, report, plan) {
-                return Checked::Passed;
-            }
-            Checked::Failed
-        }
-        Capacity::Refused(r) => Checked::Refused(r),
-    }
+    let most = capacity_of(method, address, limit, report)?;
+    Ok(passes_words(most, report, plan))
 }
 
 // ---- planning
@@ -133,8 +102,9 @@ fn write_plan(plan: &mut [u64], most: u64, report: u64, k: usize)
     ensures { plan.new ≡ sets plan.old 0 (words (made most report k)) }
 {
     let mut rest = report;
+    // An index: of two words beside each other, which pairs lent by an iterator say no plainer.
     for i in 0..k {
-        let bytes = smaller_of(rest, most);
+        let bytes = rest.min(most);
         plan[2 * i] = bytes;
         plan[2 * i + 1] = 0;
         rest -= bytes;
@@ -143,20 +113,23 @@ fn write_plan(plan: &mut [u64], most: u64, report: u64, k: usize)
 
 // Writes a good plan to the front of the lent words, and answers how many datagrams it has. Words behind it stay, and all do
 // where there is no plan.
-pub fn make(method: u64, address: &[u8], limit: u64, report: u64, plan: &mut [u64]) -> Made
+#[tactic(auto, unfolding(crate::specs::Answers::make_answer, crate::specs::Answers::room_answer))]
+pub fn make(
+    method: u64,
+    address: &[u8],
+    limit: u64,
+    report: u64,
+    plan: &mut [u64],
+) -> Result<usize, Refusal>
     ensures answer { result ≡ make_answer method address.now limit report (length plan.old) }
     ensures written { plan.new
         ≡ make_out result (most_of method address.now limit) report plan.old }
 {
-    match capacity_of(method, address, limit, report) {
-        Capacity::Most(most) => {
-            let k = fewest_of(report, most);
-            if plan.len() / 2 < k {
-                return Made::Refused(Refusal::Room);
-            }
-            write_plan(plan, most, report, k);
-            Made::Datagrams(k)
-        }
-        Capacity::Refused(r) => Made::Refused(r),
+    let most = capacity_of(method, address, limit, report)?;
+    let k = fewest_of(report, most);
+    if plan.len() / 2 < k {
+        return Err(Refusal::Room);
     }
+    write_plan(plan, most, report, k);
+    Ok(k)
 }

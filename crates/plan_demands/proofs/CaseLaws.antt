@@ -1,5 +1,6 @@
 -- What the arguments are, by the room that is answered: three cases, and every answer goes through them.
 -- Assumes nothing.
+use Rattle.std.specs.Prelude.{Err, Ok, Result}
 use mathlib.Core.Path.{◌≡◌, refl, sym, ap, ◌∙◌}
 use mathlib.Core.Bool.{Bool, true, false, cond}
 use mathlib.Core.List.{List}
@@ -11,12 +12,11 @@ use borrow.Author.Tests.{leb-true, leb-false, ltb-true, ltb-false, eqb-true, eqb
 use Rattle.protocol.specs.declared.Refusal.TheVariants.{Settings, Argument}
 use Rattle.socks5.specs.Address.{is_address}
 use Rattle.datagram_parts.specs.Parts.{overhead_of}
-use Rattle.plan.specs.declared.Capacity.{Capacity}
-use Rattle.plan.specs.declared.Capacity.TheVariants.{Most, Refused as NoCapacity}
 use Rattle.plan.specs.Answers.{head_of, most_of, limit_answer, capacity_answer}
 use Rattle.plan.proofs.AnswerLaws.{limit-over, limit-none, limit-small, limit-some, no_address, an-address, no-method, a-method}
 use Rattle.plan_demands.specs.Plans.{KnownMethod, besides, Arguments, Lawful}
 use Rattle.plan_demands.proofs.MethodLaws.{overhead-plain, overhead-extended, overhead-some, overhead-tells}
+use Rattle.protocol.specs.declared.Refusal.{Refusal}
 
 false-true : {A : Type 0} → false ≡ true → A
 false-true e = absurd (let z : ◌≡◌ {A = ℕ} 0 1 = cc in omega arith)
@@ -45,9 +45,9 @@ module _ (method : ℕ) (address : List ℕ) (k : KnownMethod method) where
 
 module _ (method : ℕ) (address : List ℕ) (limit n : ℕ) where
   pub data Cases : Type 0 where
-    unknown : (KnownMethod method → ⊥) → capacity_answer method address limit n ≡ NoCapacity Settings → Cases
-    wrong : KnownMethod method → (Arguments method address limit n → ⊥) → capacity_answer method address limit n ≡ NoCapacity Argument → Cases
-    lawful : Lawful method address limit n → capacity_answer method address limit n ≡ Most (limit - besides method address) → Cases
+    unknown : (KnownMethod method → ⊥) → capacity_answer method address limit n ≡ Err Settings → Cases
+    wrong : KnownMethod method → (Arguments method address limit n → ⊥) → capacity_answer method address limit n ≡ Err Argument → Cases
+    lawful : Lawful method address limit n → capacity_answer method address limit n ≡ Ok (limit - besides method address) → Cases
 
   module _ (f : overhead_of method ≡ 0 → ⊥) where
     known : KnownMethod method
@@ -59,7 +59,7 @@ module _ (method : ℕ) (address : List ℕ) (limit n : ℕ) where
     by-limit : is_address address ≡ true → (a b c : Bool) → leb limit 65507 ≡ a → eqb n 0 ≡ b → ltb 0 most ≡ c → Cases
     by-limit ea a b c fa fb fc = go a b c fa fb fc
       where
-        through : (r : Capacity) → r ≡ limit_answer most limit n → capacity_answer method address limit n ≡ r
+        through : (r : Result ℕ Refusal) → r ≡ limit_answer most limit n → capacity_answer method address limit n ≡ r
         through r er =
             sym (a-method method address limit n _ refl f r
             (an-address _ address limit n ea most (sym (besides-most method address known limit)) r er))

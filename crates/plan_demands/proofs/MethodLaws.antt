@@ -1,5 +1,6 @@
 -- The numbers of the five methods.
 -- Assumes nothing.
+use Rattle.std.specs.Prelude.{Option, Some}
 use mathlib.Core.Path.{◌≡◌, refl, sym, ap, ◌∙◌}
 use mathlib.Core.Bool.{Bool, true, false, cond}
 use Prim.Native.Nat.{ℕ, ◌≤◌, ◌<◌}
@@ -9,15 +10,13 @@ use borrow.Author.Tests.{eq-eqb, le-leb, lt-leb, leb-true, leb-false}
 use Rattle.protocol.specs.declared.Cipher.{Cipher}
 use Rattle.protocol.specs.declared.Cipher.TheVariants.{AesGcm, ChaChaPoly}
 use Rattle.protocol.specs.declared.Method.{Method}
-use Rattle.protocol.specs.declared.Numbered.{Numbered}
-use Rattle.protocol.specs.declared.Numbered.TheVariants.{Known}
 use Rattle.protocol.specs.Method.{aes128, aes256, chacha20, chacha12, chacha8, method_of, cipher_in, cipher_of}
 use Rattle.datagram_parts.specs.Parts.{overhead, packet_overhead, overhead_in, overhead_of, nonce_fits}
 use Rattle.datagram_parts.proofs.OverheadLaws.{by_number}
 
 -- 32 bytes by methods 1 and 2, 56 by methods 3 to 5, of which 40 are no plaintext, and 0 where there is no method; only with methods 3
 -- to 5 the nonce is looked at
-pub record MethodBy (n : ℕ) (m : Numbered) : Type 0 where
+pub record MethodBy (n : ℕ) (m : Option Method) : Type 0 where
   pub plain : 1 ≤ n → n ≤ 2 → overhead_in m ≡ 32
   pub extended : 2 < n → n ≤ 5 → overhead_in m ≡ 56
   pub no_text : 1 ≤ n → n ≤ 5 → overhead (cipher_in m) ≡ cond (leb n 2) 32 40
@@ -26,7 +25,7 @@ pub record MethodBy (n : ℕ) (m : Numbered) : Type 0 where
 
 method-by : (n : ℕ) → MethodBy n (method_of n)
 method-by =
-    by_number (λ (n : ℕ) (m : Numbered). MethodBy n m) (with-aes 1 aes128 refl (omega arith) (omega arith))
+    by_number (λ (n : ℕ) (m : Option Method). MethodBy n m) (with-aes 1 aes128 refl (omega arith) (omega arith))
     (with-aes 2 aes256 refl (omega arith) (omega arith)) (with-chacha 3 chacha20 10 refl (omega arith) (omega arith))
     (with-chacha 4 chacha12 6 refl (omega arith) (omega arith)) (with-chacha 5 chacha8 4 refl (omega arith) (omega arith))
     (λ n f. record {
@@ -37,7 +36,7 @@ method-by =
       nonce = λ k e. refl;
     })
   where
-    with-aes : (n : ℕ) (m : Method) → m.cipher ≡ AesGcm → 1 ≤ n → n ≤ 2 → MethodBy n (Known m)
+    with-aes : (n : ℕ) (m : Method) → m.cipher ≡ AesGcm → 1 ≤ n → n ≤ 2 → MethodBy n (Some m)
     with-aes n m c l u = record {
       plain = λ _ _. ap packet_overhead c;
       extended = λ v _. absurd (omega arith);
@@ -46,7 +45,7 @@ method-by =
       nonce = λ k _. ap (λ (x : Cipher). nonce_fits x k) c;
     }
 
-    with-chacha : (n : ℕ) (m : Method) (doubles : ℕ) → m.cipher ≡ ChaChaPoly doubles → 3 ≤ n → n ≤ 5 → MethodBy n (Known m)
+    with-chacha : (n : ℕ) (m : Method) (doubles : ℕ) → m.cipher ≡ ChaChaPoly doubles → 3 ≤ n → n ≤ 5 → MethodBy n (Some m)
     with-chacha n m doubles c l u = record {
       plain = λ _ v. absurd (omega arith);
       extended = λ _ _. ap packet_overhead c;

@@ -1,5 +1,6 @@
 -- The orders of refusals of planning and checking.
 -- Assumes nothing.
+use Rattle.std.specs.Prelude.{Ok}
 use mathlib.Core.Path.{◌≡◌, refl, sym, ap, ap₂, ◌∙◌}
 use mathlib.Core.Bool.{Bool, true, false, cond, not, ◌&&◌, ◌||◌}
 use mathlib.Core.List.{List, [], ◌∷◌}
@@ -9,7 +10,6 @@ use lib.Dec.{leb, ltb}
 use borrow.Author.Tests.{le-leb, le-ltb, leb-true, ltb-true, ltb-false}
 use Rattle.socks5.specs.Address.{is_address}
 use Rattle.plan_pieces.specs.Plans.{fewest, passes}
-use Rattle.plan.specs.declared.Checked.TheVariants.{Passed, Failed}
 use Rattle.plan.specs.Answers.{check_answer, room_answer, make_answer}
 use Rattle.plan.proofs.AnswerLaws.{check-by, make-by}
 use Rattle.protocol.specs.Orders.{Rule, rule, first, refuses}
@@ -95,7 +95,7 @@ module _ (method : ℕ) (address : List ℕ) (limit n : ℕ) where
       sym (ap said_made (make-by method address limit n room _ _ refl e)) ∙ in-room room
       ∙ holds-none _ _ _ count (known_method method l.0) (good l.1)
 
-  told : (b : Bool) → said_checked (cond b Passed Failed) ≡ first [] b
+  told : (b : Bool) → said_checked (cond b (Ok true) (Ok false)) ≡ first [] b
   told true = done true
   told false = done false
 

@@ -1,10 +1,10 @@
 -- A report that goes out by a good plan is received. What the plain book does with the datagrams of one session, in order, is what the
 -- table does.
 -- Assumes nothing.
+use Rattle.std.specs.Prelude.{Ok, None, Some}
 use mathlib.Core.Path.{◌≡◌, refl, sym, ap, ap₂, subst, ◌∙◌}
 use mathlib.Core.Bool.{Bool, true, false, cond, not, ◌&&◌, ◌||◌}
 use mathlib.Core.List.{List, [], ◌∷◌, ◌++◌}
-use mathlib.Core.Option.{none, some}
 use Prim.Native.Nat.{ℕ, zero, suc, ◌+◌, ◌-◌, ◌^◌, ◌≤◌, ◌<◌}
 use native.Mathlib.Omega.{arith}
 use native.Mathlib.Nat.{max-eq_right}
@@ -25,7 +25,6 @@ use Rattle.datagram_parts.specs.declared.Side.TheVariants.{Client}
 use Rattle.datagram_parts.specs.Headers.{main_start, sealed_text}
 use Rattle.datagram_parts.specs.Parts.{overhead, nonce_fits}
 use Rattle.datagram_parts.proofs.LengthLaws.{length-sealed_text}
-use Rattle.datagram_seal.specs.declared.Sealed.TheVariants.{Datagram}
 use Rattle.datagram_seal.specs.Sealing.{sealed_length, seal_answer, datagram}
 use Rattle.datagram_seal.proofs.LengthLaws.{length-datagram}
 use Rattle.datagram_read.specs.declared.Header.{Header}
@@ -75,8 +74,8 @@ module _ (R clock : ℕ) (peer : Peer) (id packet : ℕ) where
     removed = ap (λ (b : Bool). cond b [] (q ∷ [])) same
 
     by-page : (a : Bool) → page_alive R clock q ≡ a
-        → judge_by (cond (true && a) (some q) none) (leb 64 (cond a 1 0 + 0)) clock peer id packet ≡ judge R (q ∷ []) clock peer id packet
-    by-page a f = λ i. judge_by (cond (sym same i && sym f i) (some q) none) (leb 64 (cond (sym f i) 1 0 + 0)) clock peer id packet
+        → judge_by (cond (true && a) (Some q) None) (leb 64 (cond a 1 0 + 0)) clock peer id packet ≡ judge R (q ∷ []) clock peer id packet
+    by-page a f = λ i. judge_by (cond (sym same i && sym f i) (Some q) None) (leb 64 (cond (sym f i) 1 0 + 0)) clock peer id packet
 
     entered-alive : page_alive R clock q ≡ true → Enters R (q ∷ []) clock peer id packet
     entered-alive f = record {
@@ -135,7 +134,7 @@ module _ (method : ℕ) (known : KnownMethod method) (address : List ℕ) (limit
     buffer = replicate limit 0
 
     answered : seal_answer method (length key) (length nonce) (client_at id packet) address x.padding (length payload) (length buffer)
-        ≡ Datagram (length_of method address x)
+        ≡ Ok (length_of method address x)
     answered =
         (λ j. seal_answer method (length key) (length nonce) (client_at id packet) address x.padding (e j) (length-replicate {A = ℕ} limit 0 j))
         ∙ s.sealed (length key) (length nonce) id packet limit fits (on.nonce-serves i) (λ z. omega arith) (omega arith)

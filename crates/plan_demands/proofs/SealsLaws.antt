@@ -1,5 +1,6 @@
 -- Each datagram of a good plan, sealed by a client, is at most the limit and never refused for its length.
 -- Assumes nothing.
+use Rattle.std.specs.Prelude.{Err, Ok, Result}
 use mathlib.Core.Bool.{Bool, true, false}
 use mathlib.Core.List.{List, [], ◌∷◌}
 use mathlib.Core.Path.{◌≡◌, refl, sym, ap, ◌∙◌}
@@ -13,8 +14,6 @@ use Rattle.protocol.specs.Refusal.{refusal_number}
 use Rattle.protocol.specs.Method.{key_fits, cipher_of}
 use Rattle.datagram_parts.specs.declared.Side.TheVariants.{Client}
 use Rattle.datagram_parts.proofs.OverheadLaws.{overhead-cipher}
-use Rattle.datagram_seal.specs.declared.Sealed.{Sealed}
-use Rattle.datagram_seal.specs.declared.Sealed.TheVariants.{Datagram, Refused}
 use Rattle.datagram_seal.specs.Sealing.{nonce_fits, sealed_length, capped, length_answer, seal_answer, datagram}
 use Rattle.datagram_seal.proofs.AnswerLaws.{capped-within, fitting, no_room, counter-used, good-argument, unlawful-key, unlawful-nonce, lawful}
 use Rattle.datagram_seal.proofs.LengthLaws.{length-datagram}
@@ -24,6 +23,7 @@ use Rattle.plan_demands.specs.Plans.{KnownMethod, besides, Lawful}
 use Rattle.plan_demands.specs.Seals.{client_at, Serves, length_of, Seals, EachSeals, PlanSeals}
 use Rattle.plan_demands.proofs.MethodLaws.{overhead-some, nonce-serves}
 use Rattle.plan_demands.proofs.CaseLaws.{besides-head}
+use Rattle.protocol.specs.declared.Refusal.{Refusal}
 
 -- The plan's bytes besides piece and padding are the sealer's own.
 pub head-sealed : (method : ℕ) (address : List ℕ) → KnownMethod method → (padding payload : ℕ)
@@ -31,9 +31,9 @@ pub head-sealed : (method : ℕ) (address : List ℕ) → KnownMethod method →
 unfolding sealed_length
 head-sealed method address k padding payload = let o = overhead-cipher method (overhead-some method k.0 k.1) in omega arith
 
-abbrev refused_number : Sealed → ℕ
-refused_number (Datagram n) = 0
-refused_number (Refused r) = refusal_number r
+abbrev refused_number : Result ℕ Refusal → ℕ
+refused_number (Ok n) = 0
+refused_number (Err r) = refusal_number r
 
 module _ (method : ℕ) (address : List ℕ) (limit n : ℕ) (l : Lawful method address limit n) where
   module _ (x : Piece) (fits : besides method address + x.padding + x.bytes ≤ limit) where
@@ -54,40 +54,40 @@ module _ (method : ℕ) (address : List ℕ) (limit n : ℕ) (l : Lawful method 
     size-capped = let m = l.1.limit-most in let w = size-within in capped-within size (omega arith)
 
     module _ (k nonce id packet room : ℕ) where
-      abbrev answer : Sealed
+      abbrev answer : Result ℕ Refusal
       answer = seal_answer method k nonce (client_at id packet) address x.padding x.bytes room
 
       -- what is answered behind 1 and 12
-      behind : key_fits method k ≡ true → nonce_fits (cipher_of method) nonce ≡ true → (r : Sealed) → r ≡ length_answer packet size room → answer ≡ r
+      behind : key_fits method k ≡ true → nonce_fits (cipher_of method) nonce ≡ true → (r : Result ℕ Refusal) → r ≡ length_answer packet size room → answer ≡ r
       behind e f r er =
           sym
           (lawful method k nonce (client_at id packet) address x.padding x.bytes room (cipher_of method) refl e f r
           (good-argument (cipher_of method) (client_at id packet) address x.padding x.bytes room l.1.one_address refl size size-capped r er))
 
-      sealed : key_fits method k ≡ true → nonce_fits (cipher_of method) nonce ≡ true → (packet ≡ 2 ^ 64 - 1 → ⊥) → size ≤ room → answer ≡ Datagram size
+      sealed : key_fits method k ≡ true → nonce_fits (cipher_of method) nonce ≡ true → (packet ≡ 2 ^ 64 - 1 → ⊥) → size ≤ room → answer ≡ Ok size
       sealed e f g r = behind e f _ (fitting packet size room g size-some r)
 
-      never : answer ≡ Refused Length → ⊥
+      never : answer ≡ Err Length → ⊥
       never e =
           go (key_fits method k) (nonce_fits (cipher_of method) nonce) (eqb packet (2 ^ 64 - 1)) (leb size room) refl refl refl refl
         where
           -- another answer than refusal 2
-          other : (s : Sealed) → answer ≡ s → (refused_number s ≡ 2 → ⊥) → ⊥
+          other : (s : Result ℕ Refusal) → answer ≡ s → (refused_number s ≡ 2 → ⊥) → ⊥
           other s a f = f (ap refused_number (sym a ∙ e))
 
           go : (a b c d : Bool) → key_fits method k ≡ a → nonce_fits (cipher_of method) nonce ≡ b → eqb packet (2 ^ 64 - 1) ≡ c → leb size room ≡ d → ⊥
           go false b c d ea eb ec ed =
-              other (Refused Settings)
+              other (Err Settings)
               (sym (unlawful-key method k nonce (client_at id packet) address x.padding x.bytes room ea)) (λ z. omega arith)
           go true false c d ea eb ec ed =
-              other (Refused Settings)
+              other (Err Settings)
               (sym (unlawful-nonce method k nonce (client_at id packet) address x.padding x.bytes room (cipher_of method) refl ea eb)) (λ z. omega arith)
           go true true true d ea eb ec ed =
-              other (Refused Counter) (behind ea eb _ (counter-used packet _ room (eqb-true packet (2 ^ 64 - 1) ec))) (λ z. omega arith)
+              other (Err Counter) (behind ea eb _ (counter-used packet _ room (eqb-true packet (2 ^ 64 - 1) ec))) (λ z. omega arith)
           go true true false true ea eb ec ed =
-              other (Datagram size) (sealed ea eb (eqb-false packet (2 ^ 64 - 1) ec) (leb-true size room ed)) (λ z. omega arith)
+              other (Ok size) (sealed ea eb (eqb-false packet (2 ^ 64 - 1) ec) (leb-true size room ed)) (λ z. omega arith)
           go true true false false ea eb ec ed =
-              other (Refused Room)
+              other (Err Room)
               (behind ea eb _ (no_room packet _ room (eqb-false packet (2 ^ 64 - 1) ec) size-some (leb-false size room ed))) (λ z. omega arith)
 
     bytes_fit : (key nonce : List ℕ) → Serves method (length nonce) → (id packet time : ℕ) (payload : List ℕ) → length payload ≡ x.bytes

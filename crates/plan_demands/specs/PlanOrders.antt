@@ -1,24 +1,21 @@
 -- The orders of refusals of planning and checking, as lists to be held beside the scope's own line, with its numbers written out.
 -- Assumes nothing.
-use Rattle.std.specs.Prelude.{◌≡◌, Bool, true, false, not, ◌&&◌, ◌||◌, List, [], ◌∷◌, ℕ, ◌+◌, ◌-◌, ◌*◌, leb, ltb}
+use Rattle.std.specs.Prelude.{◌≡◌, Bool, true, false, not, ◌&&◌, ◌||◌, List, [], ◌∷◌, ℕ, ◌+◌, ◌-◌, ◌*◌, leb, ltb, Err, Ok, Result}
 use Rattle.socks5.specs.Address.{is_address}
 use Rattle.plan_pieces.specs.Plans.{fewest, passes}
-use Rattle.plan.specs.declared.Made.{Made}
-use Rattle.plan.specs.declared.Made.TheVariants.{Datagrams, Refused as NotMade}
-use Rattle.plan.specs.declared.Checked.{Checked}
-use Rattle.plan.specs.declared.Checked.TheVariants.{Passed, Failed, Refused as NotChecked}
 use Rattle.plan.specs.Answers.{check_answer, make_answer}
 use Rattle.protocol.specs.Orders.{Rule, rule, Said, gives, first, refuses_with}
 use Rattle.plan_demands.specs.Plans.{besides}
+use Rattle.protocol.specs.declared.Refusal.{Refusal}
 
-abbrev pub said_made : Made → Said ℕ
-said_made (Datagrams k) = gives k
-said_made (NotMade r) = refuses_with r
+abbrev pub said_made : Result ℕ Refusal → Said ℕ
+said_made (Ok k) = gives k
+said_made (Err r) = refuses_with r
 
-abbrev pub said_checked : Checked → Said Bool
-said_checked Passed = gives true
-said_checked Failed = gives false
-said_checked (NotChecked r) = refuses_with r
+abbrev pub said_checked : Result Bool Refusal → Said Bool
+said_checked (Ok true) = gives true
+said_checked (Ok false) = gives false
+said_checked (Err r) = refuses_with r
 
 -- a method outside 1 to 5
 abbrev pub other_method : ℕ → Bool

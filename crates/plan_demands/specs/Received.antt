@@ -1,8 +1,7 @@
 -- A report that goes out by a good plan: its datagrams, sealed in order by one client and opened in order by a server with room and
 -- time, show the report. By all five methods, whatever nonces that serve.
 -- Assumes nothing.
-use Rattle.std.specs.Prelude.{true, cond, List, [], ◌∷◌, ◌++◌, ◌≡◌, ℕ, suc, ◌+◌, ◌-◌, ◌^◌, ◌≤◌, ◌<◌, leb, length, take, drop}
-use Rattle.std.proofs.Math.Option.{none}
+use Rattle.std.specs.Prelude.{true, cond, List, [], ◌∷◌, ◌++◌, ◌≡◌, ℕ, suc, ◌+◌, ◌-◌, ◌^◌, ◌≤◌, ◌<◌, leb, length, take, drop, None}
 use Rattle.octets.specs.Buffers.{Octets}
 use Rattle.protocol.specs.Method.{key_fits, cipher_of}
 use Rattle.protocol.specs.Time.{time_valid}
@@ -46,7 +45,7 @@ module _ (method : ℕ) (key address : List ℕ) (id first : ℕ) (trip : ℕ �
   abbrev pub call_for : ℕ → Piece → List ℕ → Call
   call_for i x payload =
       call_of (trip i).clock (trip i).peer
-      (datagram (cipher_of method) key (trip i).nonce (client_at id (first + i)) (trip i).time address x.padding payload) (trip i).out none
+      (datagram (cipher_of method) key (trip i).nonce (client_at id (first + i)) (trip i).time address x.padding payload) (trip i).out None
 
   -- for the pieces from datagram i on, of what is left of the report
   abbrev pub calls_from : ℕ → List Piece → List ℕ → List Call

@@ -1,11 +1,10 @@
 -- The datagrams of a good plan, sealed by a client with a nonce that serves. Numbers are written out.
 -- Assumes nothing.
-use Rattle.std.specs.Prelude.{true, List, [], ◌∷◌, ◌≡◌, ℕ, ◌-◌, ◌^◌, ◌≤◌, ◌<◌, length}
+use Rattle.std.specs.Prelude.{true, List, [], ◌∷◌, ◌≡◌, ℕ, ◌-◌, ◌^◌, ◌≤◌, ◌<◌, length, Err, Ok}
 use Rattle.protocol.specs.declared.Refusal.TheVariants.{Length}
 use Rattle.protocol.specs.Method.{key_fits, cipher_of}
 use Rattle.datagram_parts.specs.declared.Side.TheVariants.{Client}
 use Rattle.datagram_seal.specs.declared.Sender.{Sender}
-use Rattle.datagram_seal.specs.declared.Sealed.TheVariants.{Datagram, Refused}
 use Rattle.datagram_seal.specs.Sealing.{sealed_length, seal_answer, datagram}
 use Rattle.plan_pieces.specs.Plans.{Piece}
 use Rattle.plan_demands.specs.Plans.{Lawful, GoodPlan}
@@ -29,10 +28,10 @@ pub record Seals (method : ℕ) (address : List ℕ) (limit : ℕ) (x : Piece) :
       → length (datagram (cipher_of method) key nonce (client_at id packet) time address x.padding payload) ≤ limit
   -- never refused for its length, whatever the key, the nonce, the session and the room
   pub never-2 : (k nonce id packet room : ℕ)
-      → seal_answer method k nonce (client_at id packet) address x.padding x.bytes room ≡ Refused Length → ⊥
+      → seal_answer method k nonce (client_at id packet) address x.padding x.bytes room ≡ Err Length → ⊥
   -- sealed, with a key of the method, a nonce that serves, a packet ID left, and room for the limit
   pub sealed : (k nonce id packet room : ℕ) → key_fits method k ≡ true → Serves method nonce → (packet ≡ 2 ^ 64 - 1 → ⊥) → limit ≤ room
-      → seal_answer method k nonce (client_at id packet) address x.padding x.bytes room ≡ Datagram (length_of method address x)
+      → seal_answer method k nonce (client_at id packet) address x.padding x.bytes room ≡ Ok (length_of method address x)
 
 abbrev pub EachSeals : ℕ → List ℕ → ℕ → List Piece → Type 0
 EachSeals method address limit [] = Unit {0}

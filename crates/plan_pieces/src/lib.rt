@@ -9,11 +9,7 @@ ghost use Rattle.plan_pieces.specs.Plans.{fewest, piece_fits, smaller};
 pub fn saturating_sub(a: u64, b: usize) -> u64
     ensures { result ≡ a - b }
 {
-    let less = b as u64;
-    if a < less {
-        return 0;
-    }
-    a - less
+    a.saturating_sub(b as u64)
 }
 
 // How many datagrams a report takes.
@@ -24,31 +20,19 @@ pub fn fewest_of(report: u64, most: u64) -> usize
     if report == 0 {
         return 0;
     }
-    ((report - 1) / most + 1) as usize
+    report.div_ceil(most) as usize
 }
 
 // Whether a piece with its padding fits a datagram and what is left of the report. The sum of the two could wrap.
 pub fn piece_fits(most: u64, rest: u64, bytes: u64, padding: u64) -> bool
     ensures { result ≡ piece_fits most rest bytes padding }
 {
-    if bytes == 0 {
-        return false;
-    }
-    if rest < bytes {
-        return false;
-    }
-    if most < bytes {
-        return false;
-    }
-    padding <= most - bytes
+    bytes != 0 && bytes <= rest && bytes <= most && padding <= most - bytes
 }
 
 pub fn smaller_of(a: u64, b: u64) -> u64
     ensures value { result ≡ smaller a b }
     ensures bound { result ≤ a }
 {
-    if a <= b {
-        return a;
-    }
-    b
+    a.min(b)
 }

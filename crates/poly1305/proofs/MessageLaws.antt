@@ -3,46 +3,50 @@
 use mathlib.Core.Path.{◌≡◌, refl, ap, ap₂, sym, ◌∙◌}
 use mathlib.Core.List.{List, ◌++◌, append-nil}
 use Prim.Native.Nat.{ℕ, zero, suc, ◌+◌, ◌*◌, ◌-◌, ◌%◌, ◌/◌, ◌^◌, ◌<◌, ◌≤◌}
-use native.Mathlib.Nat.{sub-zero}
 use native.Mathlib.Omega.{arith}
 use lib.ListN.{length, take, drop, replicate, length-append, length-drop, length-replicate}
-use lib.Seq.{drop-drop, take_all, take-append-le, drop-append-le, drop_at, length-take-le}
+use lib.Seq.{drop-drop, take_all, take_at, take-append-le, drop-append-le, drop_at}
 use Rattle.octets.specs.Buffers.{block_count}
 use Rattle.octets.proofs.NumberLaws.{length-to_le}
 use Rattle.octets.specs.Numbers.{to_le}
-use Rattle.poly1305.specs.Limbs.{digits}
+use Rattle.poly1305.specs.declared.limbs.Limbs.{Limbs}
+use Rattle.poly1305.specs.Limbs.{Loose, digits, value}
 use Rattle.poly1305.specs.Poly1305.{prime, mod_p, block_number, poly_from, poly, zero_padded, padded, lengths, mac_data}
 
 -- ---- a loop over whole blocks
 
 -- a whole block has no byte that is lacking
-whole-block : (s : List ℕ) → 16 ≤ length s → zero_padded (take 16 s) ≡ take 16 s
+whole-block : (x : List ℕ) → length x ≡ 16 → zero_padded (take 16 x) ≡ x
 unfolding zero_padded
-whole-block s h =
-    let e : 16 - length (take 16 s) ≡ 0 = omega (arith, length-take-le 16 s h) in
-    ap (λ (n : ℕ). take 16 s ++ replicate n 0) e ∙ append-nil (take 16 s)
+whole-block x e =
+    let t : take 16 x ≡ x = take_all 16 x (omega arith) in
+    let none : 16 - length x ≡ 0 = omega arith in
+    ap (λ (y : List ℕ). y ++ replicate (16 - length y) 0) t ∙ ap (λ (n : ℕ). x ++ replicate n 0) none ∙ append-nil x
 
-pub blocks_step : (r a : ℕ) (s : List ℕ) (n i : ℕ) → i < n → 16 * n ≤ length s
-    → poly_from (n - i) r a (drop (16 * i) s)
-    ≡ poly_from (n - (i + 1)) r (mod_p ((a + block_number (zero_padded (take 16 (drop (16 * i) s)))) * r)) (drop (16 * (i + 1)) s)
+-- the whole blocks of s are the block x and those of t
+pub blocks_next : (r a : ℕ) (s x t : List ℕ) → s ≡ x ++ t → length x ≡ 16
+    → poly_from (length s / 16) r a s ≡ poly_from (length t / 16) r (mod_p ((a + block_number (zero_padded (take 16 x))) * r)) t
 unfolding poly_from
-blocks_step r a s n i l h =
-    let e : n - i ≡ suc (n - (i + 1)) = omega arith in
-    let d : 16 * i + 16 ≡ 16 * (i + 1) = omega arith in
-    let w : 16 ≤ length (drop (16 * i) s) = omega (arith, length-drop (16 * i) s) in
-    ap (λ (k : ℕ). poly_from k r a (drop (16 * i) s)) e
-    ∙ ap₂ (λ (b t : List ℕ). poly_from (n - (i + 1)) r (mod_p ((a + block_number b) * r)) t)
-    (sym (whole-block (drop (16 * i) s) w)) (drop-drop 16 (16 * i) s ∙ ap (λ (k : ℕ). drop k s) d)
+blocks_next r a s x t e l =
+    let n : length s / 16 ≡ suc (length t / 16) = omega (arith, ap length e, length-append x t) in
+    let first : take 16 s ≡ zero_padded (take 16 x) = ap (take 16) e ∙ take_at x t 16 l ∙ sym (whole-block x l) in
+    ap (λ (k : ℕ). poly_from k r a s) n
+    ∙ ap₂ (λ (b u : List ℕ). poly_from (length t / 16) r (mod_p ((a + block_number b) * r)) u) first (ap (drop 16) e ∙ drop_at x t 16 l)
 
-pub blocks_end : (r a : ℕ) (s : List ℕ) (n i : ℕ) → i ≡ n → poly_from (n - i) r a (drop (16 * i) s) ≡ a
+pub blocks_none : (r a : ℕ) (t : List ℕ) → length t < 16 → poly_from (length t / 16) r a t ≡ a
 unfolding poly_from
-blocks_end r a s n i e =
-    let k : n - i ≡ 0 = omega arith in
-    ap (λ (j : ℕ). poly_from j r a (drop (16 * i) s)) k
+blocks_none r a t h =
+    let n : length t / 16 ≡ 0 = omega arith in
+    ap (λ (k : ℕ). poly_from k r a t) n
 
-pub blocks_start : (r : ℕ) (s : List ℕ) (n : ℕ) → poly_from (n - 0) r (mod_p (digits (2 ^ 26) 0 0 0 0 0)) s ≡ poly_from n r 0 s
-unfolding mod_p prime digits
-blocks_start r s n = ap (λ (k : ℕ). poly_from k r 0 s) (sub-zero n)
+-- five limbs that are 0
+module _ (l : Limbs) (e : (l.l0 ≡ 0) × ((l.l1 ≡ 0) × ((l.l2 ≡ 0) × ((l.l3 ≡ 0) × (l.l4 ≡ 0))))) where
+  pub zero-loose : Loose l
+  zero-loose = record { b0 = omega (arith, e.0); b1 = omega (arith, e.1.0); b2 = omega (arith, e.1.1.0); b3 = omega (arith, e.1.1.1.0); b4 = omega (arith, e.1.1.1.1) }
+
+  pub zero-value : mod_p (value l) ≡ 0
+  unfolding mod_p prime digits
+  zero-value = λ i. mod_p (digits (2 ^ 26) (e.0 i) (e.1.0 i) (e.1.1.0 i) (e.1.1.1.0 i) (e.1.1.1.1 i))
 
 -- ---- n blocks and one more
 
@@ -68,28 +72,28 @@ front (suc n) r a s t h =
 -- ---- all of a message, from what its whole blocks gave
 
 module _ (r a : ℕ) (s : List ℕ) (whole : a ≡ poly_from (length s / 16) r 0 s) where
-  pub poly-whole : length s ≤ length s / 16 * 16 → a ≡ poly r s
+  pub poly-whole : length s % 16 ≡ 0 → a ≡ poly r s
   unfolding poly
   poly-whole h = let e : length s / 16 ≡ block_count s = omega arith in whole ∙ ap (λ (n : ℕ). poly_from n r 0 s) e
 
-  pub poly-short : (t : List ℕ) → length s / 16 * 16 < length s → t ≡ drop (length s / 16 * 16) s → mod_p ((a + block_number t) * r) ≡ poly r s
+  pub poly-short : (t : List ℕ) → (length s % 16 ≡ 0 → ⊥) → t ≡ drop (length s - length s % 16) s → mod_p ((a + block_number t) * r) ≡ poly r s
   unfolding poly
   poly-short t h e =
       let n = length s / 16 in
-      let at : length s / 16 * 16 ≡ 16 * n = omega arith in
-      let c : n + 1 ≡ block_count s = omega arith in
+      let at : length s - length s % 16 ≡ 16 * n = omega arith in
+      let c : n + 1 ≡ block_count s = omega (arith, h) in
       let l : length (drop (16 * n) s) ≤ 16 = omega (arith, length-drop (16 * n) s) in
       (λ i. mod_p ((whole i + block_number ((e ∙ ap (λ (k : ℕ). drop k s) at ∙ sym (take_all 16 (drop (16 * n) s) l)) i)) * r))
       ∙ sym (behind n r 0 s) ∙ ap (λ (k : ℕ). poly_from k r 0 s) c
 
   -- the same with zeros up to a whole block
-  pub padded-whole : length s ≤ length s / 16 * 16 → a ≡ poly r (padded s)
+  pub padded-whole : length s % 16 ≡ 0 → a ≡ poly r (padded s)
   unfolding padded
   padded-whole h =
       let e : (16 - length s % 16) % 16 ≡ 0 = omega arith in
       poly-whole h ∙ ap (poly r) (sym (ap (λ (n : ℕ). s ++ replicate n 0) e ∙ append-nil s))
 
-  pub padded-short : (t : List ℕ) → length s / 16 * 16 < length s → t ≡ drop (length s / 16 * 16) s
+  pub padded-short : (t : List ℕ) → (length s % 16 ≡ 0 → ⊥) → t ≡ drop (length s - length s % 16) s
       → mod_p ((a + block_number (zero_padded (take 16 t))) * r) ≡ poly r (padded s)
   unfolding padded zero_padded poly
   padded-short t h e =
@@ -97,7 +101,7 @@ module _ (r a : ℕ) (s : List ℕ) (whole : a ≡ poly_from (length s / 16) r 0
       let k = (16 - length s % 16) % 16 in
       let z = replicate {A = ℕ} k 0 in
       let u = drop (16 * n) s in
-      let at : length s / 16 * 16 ≡ 16 * n = omega arith in
+      let at : length s - length s % 16 ≡ 16 * n = omega arith in
       let lu : length u ≤ 16 = omega (arith, length-drop (16 * n) s) in
       let kz : 16 - length u ≡ k = omega (arith, length-drop (16 * n) s) in
       let lz : length z ≡ k = length-replicate {A = ℕ} k 0 in

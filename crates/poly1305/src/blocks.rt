@@ -42,17 +42,9 @@ fn whole(r: Limbs, s: &[u8]) -> Limbs
     ensures loose { Loose result }
     ensures result_value { mod_p (value result) ≡ poly_from (length s.now / 16) (value r) 0 s.now }
 {
-    let n = s.len() / 16;
-    let mut a = Limbs {
-        l0: 0,
-        l1: 0,
-        l2: 0,
-        l3: 0,
-        l4: 0,
-    };
-    for i in 0..n {
-        let t = limbs::step(a, first(&s[16 * i..]), r);
-        a = t;
+    let mut a = Limbs::default();
+    for block in s.chunks_exact(16) {
+        a = limbs::step(a, first(block), r);
     }
     a
 }
@@ -64,25 +56,26 @@ pub fn all(r: Limbs, s: &[u8]) -> Limbs
     ensures result_value { mod_p (value result) ≡ poly (value r) s.now }
 {
     let a = whole(r, s);
-    let at = s.len() / 16 * 16;
-    if at < s.len() {
-        return limbs::step(a, short(&s[at..]), r);
+    let rest = s.chunks_exact(16).remainder();
+    if rest.is_empty() {
+        return a;
     }
-    a
+    limbs::step(a, short(rest), r)
 }
 
-// The accumulator after all of s and zeros up to a whole block.
+// The accumulator after all of s and zeros up to a whole block. It reads its last block otherwise than `all`: of a function over a
+// closure for that, the contract would be longer than these two.
 fn all_padded(r: Limbs, s: &[u8]) -> Limbs
     requires { Below (2 ^ 26) r }
     ensures loose { Loose result }
     ensures result_value { mod_p (value result) ≡ poly (value r) (padded s.now) }
 {
     let a = whole(r, s);
-    let at = s.len() / 16 * 16;
-    if at < s.len() {
-        return limbs::step(a, first(&s[at..]), r);
+    let rest = s.chunks_exact(16).remainder();
+    if rest.is_empty() {
+        return a;
     }
-    a
+    limbs::step(a, first(rest), r)
 }
 
 // The AEAD's last block: the lengths of the additional data, of which there are none, and of the ciphertext.

@@ -3,7 +3,7 @@ ghost use Rattle.std.specs.Prelude.{◌≡◌, ◌+◌, ◌*◌, ◌^◌, ◌<�
 ghost use Rattle.poly1305.specs.Poly1305.{mod_p};
 ghost use Rattle.poly1305.specs.Limbs.{Split, Below, Loose, Sum, Chained, value, from_words, low_word, high_word};
 
-#[derive(Clone, Copy)]
+#[derive(Clone, Copy, Default)]
 pub struct Limbs {
     pub l0: u64,
     pub l1: u64,
@@ -80,7 +80,7 @@ pub fn plus(a: Limbs, b: Limbs) -> Limbs
     }
 }
 
-// A limb of a product.
+// A limb of a product. Five numbers and no Limbs, so that a call is a line.
 fn dot(h: Limbs, x0: u64, x1: u64, x2: u64, x3: u64, x4: u64) -> u64
     requires below { Below (2 ^ 28) h }
     requires x0_bound { (x0 < 2 ^ 29) × (x1 < 2 ^ 29) × (x2 < 2 ^ 29) × (x3 < 2 ^ 29) × (x4 < 2 ^ 29) }

@@ -1,4 +1,3 @@
 pub mod MethodLaws
-pub mod TimeLaws
 pub mod SubkeyLaws
 pub mod OrderLaws

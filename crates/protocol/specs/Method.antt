@@ -1,11 +1,9 @@
 -- SIP022, sections 2 and 4: the methods, by the numbers that the host gives them. Key length, salt length, rounds and cipher are
 -- written here once.
-use Rattle.std.specs.Prelude.{Bool, false, cond, List, [], ◌∷◌, ℕ, ◌/◌, eqb}
+use Rattle.std.specs.Prelude.{Bool, false, cond, List, [], ◌∷◌, ℕ, ◌/◌, eqb, None, Option, Some}
 use Rattle.protocol.specs.declared.Cipher.{Cipher}
 use Rattle.protocol.specs.declared.Cipher.TheVariants.{AesGcm, ChaChaPoly}
 use Rattle.protocol.specs.declared.Method.{Method}
-use Rattle.protocol.specs.declared.Numbered.{Numbered}
-use Rattle.protocol.specs.declared.Numbered.TheVariants.{Known, Unknown}
 
 -- 2022-blake3-aes-128-gcm
 abbrev pub aes128 : Method
@@ -39,42 +37,42 @@ abbrev pub max_key : ℕ
 max_key = 32
 
 -- the method of a number, compared as the whole number
-abbrev pub numbered_among : ℕ → List Method → Numbered
-numbered_among n [] = Unknown
-numbered_among n (m ∷ ms) = cond (eqb n m.number) (Known m) (numbered_among n ms)
+abbrev pub numbered_among : ℕ → List Method → Option Method
+numbered_among n [] = None
+numbered_among n (m ∷ ms) = cond (eqb n m.number) (Some m) (numbered_among n ms)
 
-unfoldable pub method_of : ℕ → Numbered
+unfoldable pub method_of : ℕ → Option Method
 method_of n = numbered_among n methods
 
 -- ---- what the method of a number asks for
 
 -- a key of its own length
-abbrev pub asks : Numbered → ℕ → Bool
-asks (Known m) k = eqb m.key k
-asks Unknown k = false
+abbrev pub asks : Option Method → ℕ → Bool
+asks (Some m) k = eqb m.key k
+asks None k = false
 
 unfoldable pub key_fits : ℕ → ℕ → Bool
 key_fits method k = asks (method_of method) k
 
 -- the lengths of its key and its salt; 0 where there is no such method
-abbrev pub key_in : Numbered → ℕ
-key_in (Known m) = m.key
-key_in Unknown = 0
+abbrev pub key_in : Option Method → ℕ
+key_in (Some m) = m.key
+key_in None = 0
 
 unfoldable pub key_length : ℕ → ℕ
 key_length method = key_in (method_of method)
 
-abbrev pub salt_in : Numbered → ℕ
-salt_in (Known m) = m.salt
-salt_in Unknown = 0
+abbrev pub salt_in : Option Method → ℕ
+salt_in (Some m) = m.salt
+salt_in None = 0
 
 unfoldable pub salt_length : ℕ → ℕ
 salt_length method = salt_in (method_of method)
 
 -- its cipher; AES where there is no such method, which no key fits
-abbrev pub cipher_in : Numbered → Cipher
-cipher_in (Known m) = m.cipher
-cipher_in Unknown = AesGcm
+abbrev pub cipher_in : Option Method → Cipher
+cipher_in (Some m) = m.cipher
+cipher_in None = AesGcm
 
 unfoldable pub cipher_of : ℕ → Cipher
 cipher_of method = cipher_in (method_of method)

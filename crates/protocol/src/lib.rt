@@ -28,13 +28,6 @@ pub struct Method {
 // The longest key, and so the longest salt and subkey.
 pub const MAX_KEY: usize = 32;
 
-// The method of a number, if there is one.
-#[derive(Clone, Copy)]
-pub enum Numbered {
-    Known(Method),
-    Unknown,
-}
-
 impl Method {
     pub const AES_128_GCM: u64 = 1;
 
@@ -77,10 +70,10 @@ impl Method {
         ensures { result ≡ chacha number rounds }
     {
         Self {
-            number: number,
+            number,
             key: 32,
             salt: 32,
-            rounds: rounds,
+            rounds,
             cipher: Cipher::ChaChaPoly(rounds / 2),
         }
     }
@@ -106,66 +99,51 @@ impl Method {
         Self::chacha_poly1305(Self::CHACHA8_POLY1305, 8)
     }
 
-    pub fn numbered(number: u64) -> Numbered
+    #[tactic(auto, unfolding(crate::specs::Method::method_of))]
+    pub fn numbered(number: u64) -> Option<Method>
         ensures { result ≡ method_of number }
     {
-        if number == Self::AES_128_GCM {
-            return Numbered::Known(Self::aes_128_gcm());
+        match number {
+            Self::AES_128_GCM => Some(Self::aes_128_gcm()),
+            Self::AES_256_GCM => Some(Self::aes_256_gcm()),
+            Self::CHACHA20_POLY1305 => Some(Self::chacha20_poly1305()),
+            Self::CHACHA12_POLY1305 => Some(Self::chacha12_poly1305()),
+            Self::CHACHA8_POLY1305 => Some(Self::chacha8_poly1305()),
+            _ => None,
         }
-        if number == Self::AES_256_GCM {
-            return Numbered::Known(Self::aes_256_gcm());
-        }
-        if number == Self::CHACHA20_POLY1305 {
-            return Numbered::Known(Self::chacha20_poly1305());
-        }
-        if number == Self::CHACHA12_POLY1305 {
-            return Numbered::Known(Self::chacha12_poly1305());
-        }
-        if number == Self::CHACHA8_POLY1305 {
-            return Numbered::Known(Self::chacha8_poly1305());
-        }
-        Numbered::Unknown
     }
 }
 
 // Whether there is a method of this number and the key has its length.
+#[tactic(auto, unfolding(crate::specs::Method::key_fits))]
 pub fn key_fits(method: u64, key: usize) -> bool
     ensures { result ≡ key_fits method key }
 {
-    match Method::numbered(method) {
-        Numbered::Known(m) => m.key == key,
-        Numbered::Unknown => false,
-    }
+    Method::numbered(method).is_some_and(|m| m.key == key)
 }
 
 // The length of a method's key; 0 where there is no such method.
+#[tactic(auto, unfolding(crate::specs::Method::key_length))]
 pub fn key_length(method: u64) -> usize
     ensures { result ≡ key_length method }
 {
-    match Method::numbered(method) {
-        Numbered::Known(m) => m.key,
-        Numbered::Unknown => 0,
-    }
+    Method::numbered(method).map_or(0, |m| m.key)
 }
 
 // The length of a method's salt; 0 where there is no such method.
+#[tactic(auto, unfolding(crate::specs::Method::salt_length))]
 pub fn salt_length(method: u64) -> usize
     ensures { result ≡ salt_length method }
 {
-    match Method::numbered(method) {
-        Numbered::Known(m) => m.salt,
-        Numbered::Unknown => 0,
-    }
+    Method::numbered(method).map_or(0, |m| m.salt)
 }
 
 // The cipher of a method; AES where there is no such method, which no key fits.
+#[tactic(auto, unfolding(crate::specs::Method::cipher_of))]
 pub fn cipher_of(method: u64) -> Cipher
     ensures { result ≡ cipher_of method }
 {
-    match Method::numbered(method) {
-        Numbered::Known(m) => m.cipher,
-        Numbered::Unknown => Cipher::AesGcm,
-    }
+    Method::numbered(method).map_or(Cipher::AesGcm, |m| m.cipher)
 }
 
 // Why a call was refused. More carries the number of bytes wanted in all, UnknownSetting the setting's number.
@@ -216,21 +194,8 @@ impl Refusal {
         ensures { result ≡ added self }
     {
         match self {
-            Refusal::Settings => 0,
-            Refusal::Length => 0,
-            Refusal::Room => 0,
-            Refusal::NotAuthentic => 0,
-            Refusal::Malformed => 0,
-            Refusal::WrongType => 0,
-            Refusal::WrongTime => 0,
-            Refusal::Replay => 0,
-            Refusal::Full => 0,
-            Refusal::More(n) => n,
-            Refusal::Counter => 0,
-            Refusal::Argument => 0,
-            Refusal::Binding => 0,
-            Refusal::Empty => 0,
-            Refusal::UnknownSetting(n) => n,
+            Refusal::More(n) | Refusal::UnknownSetting(n) => n,
+            _ => 0,
         }
     }
 
@@ -238,35 +203,19 @@ impl Refusal {
     pub fn ends_stream(self) -> bool
         ensures { result ≡ ends_stream self }
     {
-        match self {
-            Refusal::Settings => false,
-            Refusal::Length => false,
-            Refusal::Room => false,
-            Refusal::NotAuthentic => true,
-            Refusal::Malformed => true,
-            Refusal::WrongType => false,
-            Refusal::WrongTime => false,
-            Refusal::Replay => false,
-            Refusal::Full => false,
-            Refusal::More(_) => false,
-            Refusal::Counter => false,
-            Refusal::Argument => false,
-            Refusal::Binding => false,
-            Refusal::Empty => true,
-            Refusal::UnknownSetting(_) => false,
-        }
+        matches!(
+            self,
+            Refusal::NotAuthentic | Refusal::Malformed | Refusal::Empty
+        )
     }
 }
 
-// Whether a timestamp is within 30 seconds of the clock, on either side. The difference is taken the way round that does not
-// wrap.
+// Whether a timestamp is within 30 seconds of the clock, on either side.
+#[tactic(auto, unfolding(crate::specs::Time::time_valid))]
 pub fn time_valid(time: u64, clock: u64) -> bool
     ensures { result ≡ time_valid time clock }
 {
-    if time <= clock {
-        return clock - time <= 30;
-    }
-    time - clock <= 30
+    time.abs_diff(clock) <= 30
 }
 
 // The subkey of a key and a salt, as long as the key, to the front of a lent buffer with room for the longest.

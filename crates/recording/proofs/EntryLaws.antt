@@ -29,14 +29,6 @@ pub uncounted : (s : List ℕ) → length s < 4 → false ≡ is_well_formed s
 unfolding is_well_formed
 uncounted s h = rw (lt-leb 4 (length s) h)
 
-pub too_many : (s : List ℕ) → 4 ≤ length s → 4096 < count s → false ≡ is_well_formed s
-unfolding is_well_formed
-too_many s h g = rw (le-leb 4 (length s) h, lt-leb (count s) 4096 g)
-
-pub cut_short : (s : List ℕ) → 4 ≤ length s → count s ≤ 4096 → length s < place_of (count s) → false ≡ is_well_formed s
-unfolding is_well_formed
-cut_short s h g k = rw (le-leb 4 (length s) h, le-leb (count s) 4096 g, lt-leb (place_of (count s)) (length s) k)
-
 pub by_entries : (s : List ℕ) → 4 ≤ length s → count s ≤ 4096 → place_of (count s) ≤ length s
     → are_good s (count s) 0 (place_of (count s)) ≡ is_well_formed s
 unfolding is_well_formed

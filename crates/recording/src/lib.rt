@@ -49,13 +49,7 @@ pub fn count(s: &[u8]) -> u32
 fn is_good(e: Entry, place: usize) -> bool
     ensures { result ≡ is_good e place }
 {
-    if e.offset as usize != place {
-        return false;
-    }
-    if e.len as usize > MAX_BODY {
-        return false;
-    }
-    e.direction <= UNKNOWN
+    e.offset as usize == place && e.len as usize <= MAX_BODY && e.direction <= UNKNOWN
 }
 
 // Whether all n entries are good, and their bodies end within the recording.
@@ -63,15 +57,13 @@ fn are_good(s: &[u8], n: usize) -> bool
     requires { (n ≤ 4096) × (place_of n ≤ length s.now) }
     ensures { result ≡ are_good s.now n 0 (place_of n) }
 {
-    let mut i: usize = 0;
     let mut place: usize = 4 + 15 * n;
-    while i < n {
+    for i in 0..n {
         let e = read_entry(s, 4 + 15 * i);
         if !is_good(e, place) {
             return false;
         }
         place += e.len as usize;
-        i += 1;
     }
     place <= s.len()
 }
@@ -83,11 +75,5 @@ pub fn is_well_formed(s: &[u8]) -> bool
         return false;
     }
     let n = count(s) as usize;
-    if n > MAX_ENTRIES {
-        return false;
-    }
-    if s.len() < 4 + 15 * n {
-        return false;
-    }
-    are_good(s, n)
+    n <= MAX_ENTRIES && 4 + 15 * n <= s.len() && are_good(s, n)
 }

@@ -1,5 +1,4 @@
-// A reader keeps a recording and a place in it. Its functions take it apart and call one on the slice and the place, and
-// `read_entry` serves every other caller. A struct that holds a reference is proved by hand, so they are few and short.
+// A reader keeps a recording and a place in it.
 ghost use Rattle.std.specs.Prelude.{◌≡◌, ◌+◌, ◌≤◌, length};
 ghost use Rattle.recording.specs.Format.{entry_at};
 
@@ -11,29 +10,31 @@ pub struct Reader<'a> {
     pub at: usize,
 }
 
-// Stands at the first entry.
-pub fn new<'a>(recording: &'a [u8]) -> Reader<'a>
-    ensures { (result.recording ≡ recording.entry) × (result.at ≡ 4) }
-{
-    Reader { recording, at: 4 }
-}
-
-// The same recording at another place.
-pub fn seek<'a>(r: Reader<'a>, at: usize) -> Reader<'a>
-    ensures { (result.recording ≡ r.entry.recording) × (result.at ≡ at) }
-{
-    Reader {
-        recording: r.recording,
-        at,
+impl<'a> Reader<'a> {
+    // Stands at the first entry.
+    pub fn new(recording: &'a [u8]) -> Reader<'a>
+        ensures { (result.recording ≡ recording.entry) × (result.at ≡ 4) }
+    {
+        Reader { recording, at: 4 }
     }
-}
 
-// The entry at the reader's place.
-pub fn read<'a>(r: Reader<'a>) -> Entry
-    requires { r.at + 15 ≤ length r.recording.now }
-    ensures { result ≡ entry_at r.entry.recording.now r.entry.at }
-{
-    entry_at(r.recording, r.at)
+    // The same recording at another place.
+    pub fn seek(self, at: usize) -> Reader<'a>
+        ensures { (result.recording ≡ self.entry.recording) × (result.at ≡ at) }
+    {
+        Reader {
+            recording: self.recording,
+            at,
+        }
+    }
+
+    // The entry at the reader's place.
+    pub fn read(self) -> Entry
+        requires { self.at + 15 ≤ length self.recording.now }
+        ensures { result ≡ entry_at self.entry.recording.now self.entry.at }
+    {
+        entry_at(self.recording, self.at)
+    }
 }
 
 // The entry at a place of a recording, by a reader.
@@ -41,5 +42,5 @@ pub fn read_entry(s: &[u8], at: usize) -> Entry
     requires { at + 15 ≤ length s.now }
     ensures { result ≡ entry_at s.now at }
 {
-    read(seek(new(s), at))
+    Reader::new(s).seek(at).read()
 }

@@ -1,8 +1,8 @@
 -- What stands after the calls about sending sessions and datagrams, case by case. Assumes nothing.
+use Rattle.std.specs.Prelude.{Err, Ok, Result, Option}
 use Prim.Native.Nat.{ℕ, ◌+◌}
 use mathlib.Core.Bool.{Bool, true, false, cond, ◌&&◌}
 use mathlib.Core.List.{List}
-use mathlib.Core.Option.{Option}
 use mathlib.Core.Path.{◌≡◌, sym, ap, ◌∙◌}
 use lib.Dec.{eqb}
 use lib.ListN.{length, get_or, set}
@@ -16,12 +16,6 @@ use Rattle.session_record.specs.declared.Peer.{Peer}
 use Rattle.session_book.specs.Call.{Answer}
 use Rattle.datagram_read.specs.declared.Header.{Header}
 use Rattle.datagram_seal.specs.declared.Sender.{Sender}
-use Rattle.datagram_seal.specs.declared.Begun.{Begun}
-use Rattle.datagram_seal.specs.declared.Begun.TheVariants.{Ready, Refused as NotBegun}
-use Rattle.datagram_seal.specs.declared.Sealed.{Sealed}
-use Rattle.datagram_seal.specs.declared.Sealed.TheVariants.{Datagram, Refused}
-use Rattle.datagram_read.specs.declared.Opened.{Opened}
-use Rattle.datagram_read.specs.declared.Opened.TheVariants.{Datagram as OpenedDatagram, Refused as NotOpened}
 use Rattle.datagram_seal.specs.Sealing.{seal_answer, packets_of, datagram, seal_out}
 use Rattle.datagram_open.specs.Deciding.{answer_of, open_answer, open_out, open_table}
 use Rattle.words.specs.Answers.{answer_words, header_words}
@@ -31,7 +25,7 @@ use Rattle.words.proofs.LentLaws.{filled}
 
 -- ---- beginning a session in lent words
 
-module _ (x : Begun) (w : List ℕ) where
+module _ (x : Result Sender Refusal) (w : List ℕ) where
   tested-size : (b : Bool) → eqb (length w) session_size ≡ b → cond b (begun_words x w) (record { number = 1; session = w }) ≡ begins x w
   unfolding begins
   tested-size b e = sym (ap (λ (z : Bool). cond z (begun_words x w) (record { number = 1; session = w })) e)
@@ -40,22 +34,22 @@ module _ (x : Begun) (w : List ℕ) where
   not-lent n = tested-size false (ne_eqb (length w) session_size n)
 
   module _ (e : length w ≡ session_size) where
-    lent : (y : Begun) → x ≡ y → begun_words y w ≡ begins x w
-    lent y f = sym (ap (λ (z : Begun). begun_words z w) f) ∙ tested-size true (eq-eqb (length w) session_size e)
+    lent : (y : Result Sender Refusal) → x ≡ y → begun_words y w ≡ begins x w
+    lent y f = sym (ap (λ (z : Result Sender Refusal). begun_words z w) f) ∙ tested-size true (eq-eqb (length w) session_size e)
 
-    pub ready : (s : Sender) (vs left : List ℕ) → x ≡ Ready s → vs ≡ session_words s → left ≡ sets w 0 vs
+    pub ready : (s : Sender) (vs left : List ℕ) → x ≡ Ok s → vs ≡ session_words s → left ≡ sets w 0 vs
         → record { number = 0; session = left } ≡ begins x w
     ready s vs left f g h =
         ap (λ (z : List ℕ). record { number = 0; session = z }) (h ∙ ap (λ (v : List ℕ). sets w 0 v) g ∙ filled w (session_words s) e)
-        ∙ lent (Ready s) f
+        ∙ lent (Ok s) f
 
-    pub not-begun : (r : Refusal) (n : ℕ) → x ≡ NotBegun r → n ≡ refusal_number r → record { number = n; session = w } ≡ begins x w
-    not-begun r n f g = ap (λ (z : ℕ). record { number = z; session = w }) g ∙ lent (NotBegun r) f
+    pub not-begun : (r : Refusal) (n : ℕ) → x ≡ Err r → n ≡ refusal_number r → record { number = n; session = w } ≡ begins x w
+    not-begun r n f g = ap (λ (z : ℕ). record { number = z; session = w }) g ∙ lent (Err r) f
 
 -- ---- sealing
 
 module _ (method : ℕ) (key nonce session : List ℕ) (clock : ℕ) (address : List ℕ) (padding : ℕ) (payload out answer : List ℕ) where
-  abbrev A : Sealed
+  abbrev A : Result ℕ Refusal
   A = seal_answer method (length key) (length nonce) (session_in session) address padding (length payload) (length out)
 
   abbrev text : List ℕ
@@ -81,38 +75,38 @@ module _ (method : ℕ) (key nonce session : List ℕ) (clock : ℕ) (address : 
     pub no-session : b ≡ false → untouched ≡ S
     no-session f = tested false (by-session ∙ f)
 
-    module _ (f : b ≡ true) (y : Sealed) (h : y ≡ A) where
-      decided : (z : Sealed) → y ≡ z → sealed z text session out answer ≡ S
-      decided z i = ap (λ (v : Sealed). sealed v text session out answer) (sym i ∙ h) ∙ tested true (by-session ∙ f)
+    module _ (f : b ≡ true) (y : Result ℕ Refusal) (h : y ≡ A) where
+      decided : (z : Result ℕ Refusal) → y ≡ z → sealed z text session out answer ≡ S
+      decided z i = ap (λ (v : Result ℕ Refusal). sealed v text session out answer) (sym i ∙ h) ∙ tested true (by-session ∙ f)
 
-      pub a-datagram : (n p : ℕ) (o : List ℕ) → y ≡ Datagram n → p ≡ get_or session 3 0 + packets_of y → o ≡ seal_out y text out
+      pub a-datagram : (n p : ℕ) (o : List ℕ) → y ≡ Ok n → p ≡ get_or session 3 0 + packets_of y → o ≡ seal_out y text out
           → record { number = 0; session = set session 3 p; out = o; answer = set answer 0 n } ≡ S
       a-datagram n p o i j l =
-          let q : p ≡ get_or session 3 0 + 1 = j ∙ ap (λ (z : Sealed). get_or session 3 0 + packets_of z) i in
-          let m : o ≡ put out 0 text = l ∙ ap (λ (z : Sealed). seal_out z text out) i in
-          (λ k. record { number = 0; session = set session 3 (q k); out = m k; answer = set answer 0 n }) ∙ decided (Datagram n) i
+          let q : p ≡ get_or session 3 0 + 1 = j ∙ ap (λ (z : Result ℕ Refusal). get_or session 3 0 + packets_of z) i in
+          let m : o ≡ put out 0 text = l ∙ ap (λ (z : Result ℕ Refusal). seal_out z text out) i in
+          (λ k. record { number = 0; session = set session 3 (q k); out = m k; answer = set answer 0 n }) ∙ decided (Ok n) i
 
-      pub a-refusal : (r : Refusal) (n : ℕ) (o : List ℕ) → y ≡ Refused r → n ≡ refusal_number r → o ≡ seal_out y text out
+      pub a-refusal : (r : Refusal) (n : ℕ) (o : List ℕ) → y ≡ Err r → n ≡ refusal_number r → o ≡ seal_out y text out
           → record { number = n; session = session; out = o; answer = answer } ≡ S
       a-refusal r n o i j l =
-          let m : o ≡ out = l ∙ ap (λ (z : Sealed). seal_out z text out) i in
-          (λ k. record { number = j k; session = session; out = m k; answer = answer }) ∙ decided (Refused r) i
+          let m : o ≡ out = l ∙ ap (λ (z : Result ℕ Refusal). seal_out z text out) i in
+          (λ k. record { number = j k; session = session; out = m k; answer = answer }) ∙ decided (Err r) i
 
 -- ---- opening
 
-pub told-header : (x : Opened) (h : Header) (vs answer left : List ℕ) → x ≡ OpenedDatagram h → vs ≡ header_words h → left ≡ sets answer 0 vs
+pub told-header : (x : Result Header Refusal) (h : Header) (vs answer left : List ℕ) → x ≡ Ok h → vs ≡ header_words h → left ≡ sets answer 0 vs
     → length answer ≡ answer_words → (0 ≡ opened_number (answer_of x)) × (left ≡ opened_words (answer_of x) answer)
 told-header x h vs answer left e f g l = (
-  sym (ap (λ (z : Opened). opened_number (answer_of z)) e),
+  sym (ap (λ (z : Result Header Refusal). opened_number (answer_of z)) e),
   g ∙ ap (λ (v : List ℕ). sets answer 0 v) f ∙ filled answer (header_words h) l
-      ∙ sym (ap (λ (z : Opened). opened_words (answer_of z) answer) e),
+      ∙ sym (ap (λ (z : Result Header Refusal). opened_words (answer_of z) answer) e),
 )
 
-pub told-refusal : (x : Opened) (r : Refusal) (n : ℕ) (answer : List ℕ) → x ≡ NotOpened r → n ≡ refusal_number r
+pub told-refusal : (x : Result Header Refusal) (r : Refusal) (n : ℕ) (answer : List ℕ) → x ≡ Err r → n ≡ refusal_number r
     → (n ≡ opened_number (answer_of x)) × (answer ≡ opened_words (answer_of x) answer)
 told-refusal x r n answer e f = (
-  f ∙ sym (ap (λ (z : Opened). opened_number (answer_of z)) e),
-  sym (ap (λ (z : Opened). opened_words (answer_of z) answer) e),
+  f ∙ sym (ap (λ (z : Result Header Refusal). opened_number (answer_of z)) e),
+  sym (ap (λ (z : Result Header Refusal). opened_words (answer_of z) answer) e),
 )
 
 module _ (method : ℕ) (key : List ℕ) (client : Option ℕ) (clock : ℕ) (peer : Peer) (s table out answer : List ℕ) where
@@ -140,7 +134,7 @@ module _ (method : ℕ) (key : List ℕ) (client : Option ℕ) (clock : ℕ) (pe
   unfolding opens_told
   relays l = sym (by_length true (eq-eqb (length answer) answer_words l))
 
-  pub told : (x : Opened) (n : ℕ) (t o a : List ℕ) → length answer ≡ answer_words
+  pub told : (x : Result Header Refusal) (n : ℕ) (t o a : List ℕ) → length answer ≡ answer_words
       → answer_of x ≡ open_answer method key client clock peer s table out
       → o ≡ open_out method key client clock peer s table out → t ≡ open_table method key client clock peer s table out
       → n ≡ opened_number (answer_of x) → a ≡ opened_words (answer_of x) answer → record { number = n; table = t; out = o; answer = a } ≡ O

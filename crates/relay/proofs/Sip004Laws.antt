@@ -1,4 +1,5 @@
 -- What stands after the calls about datagrams of SIP004, case by case. Assumes nothing.
+use Rattle.std.specs.Prelude.{Err, Ok, Result}
 use Prim.Native.Nat.{ℕ}
 use mathlib.Core.Bool.{Bool, true, false, cond}
 use mathlib.Core.List.{List}
@@ -8,10 +9,6 @@ use lib.ListN.{length, set}
 use borrow.Author.Tests.{eq-eqb, ne_eqb}
 use Rattle.protocol.specs.declared.Refusal.{Refusal}
 use Rattle.protocol.specs.Refusal.{refusal_number}
-use Rattle.sip004.specs.declared.Sealed.{Sealed}
-use Rattle.sip004.specs.declared.Sealed.TheVariants.{Datagram, Refused as NotSealed}
-use Rattle.sip004.specs.declared.Opened.{Opened}
-use Rattle.sip004.specs.declared.Opened.TheVariants.{Text, Refused as NotOpened}
 use Rattle.sip004.specs.Datagram.{seal_out, open_out}
 use Rattle.words.specs.Answers.{answer_words}
 use Rattle.relay.specs.Sip004.{AfterDatagram, tells, sealed_told, opened_told}
@@ -28,35 +25,35 @@ module _ (x : AfterDatagram) (out answer : List ℕ) where
   told e = by_length true (eq-eqb (length answer) answer_words e)
 
 -- y is what the sealer answered, and o what it left
-module _ (x y : Sealed) (text out answer o : List ℕ) (e : length answer ≡ answer_words) (f : y ≡ x) (g : o ≡ seal_out y text out) where
+module _ (x y : Result ℕ Refusal) (text out answer o : List ℕ) (e : length answer ≡ answer_words) (f : y ≡ x) (g : o ≡ seal_out y text out) where
   abbrev S : AfterDatagram
   S = tells (sealed_told x text out answer) out answer
 
-  seal-told : (z : Sealed) → y ≡ z → sealed_told z text out answer ≡ S
-  seal-told z h = ap (λ (v : Sealed). sealed_told v text out answer) (sym h ∙ f) ∙ told (sealed_told x text out answer) out answer e
+  seal-told : (z : Result ℕ Refusal) → y ≡ z → sealed_told z text out answer ≡ S
+  seal-told z h = ap (λ (v : Result ℕ Refusal). sealed_told v text out answer) (sym h ∙ f) ∙ told (sealed_told x text out answer) out answer e
 
-  pub a-datagram : (n : ℕ) → y ≡ Datagram n → record { number = 0; out = o; answer = set answer 0 n } ≡ S
+  pub a-datagram : (n : ℕ) → y ≡ Ok n → record { number = 0; out = o; answer = set answer 0 n } ≡ S
   a-datagram n h =
-      ap (λ (v : List ℕ). record { number = 0; out = v; answer = set answer 0 n }) (g ∙ ap (λ (v : Sealed). seal_out v text out) h)
-      ∙ seal-told (Datagram n) h
+      ap (λ (v : List ℕ). record { number = 0; out = v; answer = set answer 0 n }) (g ∙ ap (λ (v : Result ℕ Refusal). seal_out v text out) h)
+      ∙ seal-told (Ok n) h
 
-  pub no-datagram : (r : Refusal) (n : ℕ) → y ≡ NotSealed r → n ≡ refusal_number r → record { number = n; out = o; answer = answer } ≡ S
+  pub no-datagram : (r : Refusal) (n : ℕ) → y ≡ Err r → n ≡ refusal_number r → record { number = n; out = o; answer = answer } ≡ S
   no-datagram r n h i =
-      (λ k. record { number = i k; out = (g ∙ ap (λ (v : Sealed). seal_out v text out) h) k; answer = answer }) ∙ seal-told (NotSealed r) h
+      (λ k. record { number = i k; out = (g ∙ ap (λ (v : Result ℕ Refusal). seal_out v text out) h) k; answer = answer }) ∙ seal-told (Err r) h
 
 -- the same of the opener
-module _ (x y : Opened) (text out answer o : List ℕ) (e : length answer ≡ answer_words) (f : y ≡ x) (g : o ≡ open_out y text out) where
+module _ (x y : Result ℕ Refusal) (text out answer o : List ℕ) (e : length answer ≡ answer_words) (f : y ≡ x) (g : o ≡ open_out y text out) where
   abbrev O : AfterDatagram
   O = tells (opened_told x text out answer) out answer
 
-  open_told : (z : Opened) → y ≡ z → opened_told z text out answer ≡ O
-  open_told z h = ap (λ (v : Opened). opened_told v text out answer) (sym h ∙ f) ∙ told (opened_told x text out answer) out answer e
+  open_told : (z : Result ℕ Refusal) → y ≡ z → opened_told z text out answer ≡ O
+  open_told z h = ap (λ (v : Result ℕ Refusal). opened_told v text out answer) (sym h ∙ f) ∙ told (opened_told x text out answer) out answer e
 
-  pub a-text : (n : ℕ) → y ≡ Text n → record { number = 0; out = o; answer = set answer 0 n } ≡ O
+  pub a-text : (n : ℕ) → y ≡ Ok n → record { number = 0; out = o; answer = set answer 0 n } ≡ O
   a-text n h =
-      ap (λ (v : List ℕ). record { number = 0; out = v; answer = set answer 0 n }) (g ∙ ap (λ (v : Opened). open_out v text out) h)
-      ∙ open_told (Text n) h
+      ap (λ (v : List ℕ). record { number = 0; out = v; answer = set answer 0 n }) (g ∙ ap (λ (v : Result ℕ Refusal). open_out v text out) h)
+      ∙ open_told (Ok n) h
 
-  pub no_text : (r : Refusal) (n : ℕ) → y ≡ NotOpened r → n ≡ refusal_number r → record { number = n; out = o; answer = answer } ≡ O
+  pub no_text : (r : Refusal) (n : ℕ) → y ≡ Err r → n ≡ refusal_number r → record { number = n; out = o; answer = answer } ≡ O
   no_text r n h i =
-      (λ k. record { number = i k; out = (g ∙ ap (λ (v : Opened). open_out v text out) h) k; answer = answer }) ∙ open_told (NotOpened r) h
+      (λ k. record { number = i k; out = (g ∙ ap (λ (v : Result ℕ Refusal). open_out v text out) h) k; answer = answer }) ∙ open_told (Err r) h

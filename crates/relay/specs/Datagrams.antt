@@ -1,21 +1,18 @@
 -- What stands after each call about tables, sending sessions and datagrams: its number, and what it leaves in all that it was
 -- lent to write. A lent session or answer of the wrong length, and a session of another side than 0 and 1, are refusal 1.
-use Rattle.std.specs.Prelude.{Bool, cond, ◌&&◌, List, ℕ, ◌+◌, eqb, length, get_or, set}
-use Rattle.std.proofs.Math.Option.{Option}
+use Rattle.std.specs.Prelude.{Bool, cond, ◌&&◌, List, ℕ, ◌+◌, eqb, length, get_or, set, Err, Ok, Result, Option}
 use Rattle.octets.specs.Buffers.{put}
 use Rattle.protocol.specs.Method.{cipher_of}
 use Rattle.protocol.specs.Refusal.{refusal_number}
 use Rattle.session_record.specs.declared.Peer.{Peer}
 use Rattle.session_book.specs.Call.{Answer, refused, opened}
 use Rattle.datagram_read.specs.declared.Header.{Header}
-use Rattle.datagram_seal.specs.declared.Begun.{Begun}
-use Rattle.datagram_seal.specs.declared.Begun.TheVariants.{Ready, Refused as NotBegun}
-use Rattle.datagram_seal.specs.declared.Sealed.{Sealed}
-use Rattle.datagram_seal.specs.declared.Sealed.TheVariants.{Datagram, Refused}
 use Rattle.datagram_seal.specs.Sealing.{seal_answer, datagram}
 use Rattle.datagram_open.specs.Deciding.{open_answer, open_out, open_table}
 use Rattle.words.specs.Answers.{answer_words, header_words}
 use Rattle.words.specs.States.{session_size, session_lawful, session_in, session_words}
+use Rattle.datagram_seal.specs.declared.Sender.{Sender}
+use Rattle.protocol.specs.declared.Refusal.{Refusal}
 
 -- 0 where what was asked for is lawful, and refusal 1
 abbrev pub settings_number : Bool → ℕ
@@ -27,11 +24,11 @@ pub record AfterBegin : Type 0 where
   pub number : ℕ
   pub session : List ℕ
 
-abbrev pub begun_words : Begun → List ℕ → AfterBegin
-begun_words (Ready s) session = record { number = 0; session = session_words s }
-begun_words (NotBegun r) session = record { number = refusal_number r; session = session }
+abbrev pub begun_words : Result Sender Refusal → List ℕ → AfterBegin
+begun_words (Ok s) session = record { number = 0; session = session_words s }
+begun_words (Err r) session = record { number = refusal_number r; session = session }
 
-unfoldable pub begins : Begun → List ℕ → AfterBegin
+unfoldable pub begins : Result Sender Refusal → List ℕ → AfterBegin
 begins x session = cond (eqb (length session) session_size) (begun_words x session) (record { number = 1; session = session })
 
 -- ---- sealing
@@ -43,10 +40,10 @@ pub record AfterSeal : Type 0 where
   pub answer : List ℕ
 
 -- a datagram is written, the session is one packet ID further, and the answer is the datagram's length
-abbrev pub sealed : Sealed → (text session out answer : List ℕ) → AfterSeal
-sealed (Datagram n) text session out answer =
+abbrev pub sealed : Result ℕ Refusal → (text session out answer : List ℕ) → AfterSeal
+sealed (Ok n) text session out answer =
     record { number = 0; session = set session 3 (get_or session 3 0 + 1); out = put out 0 text; answer = set answer 0 n }
-sealed (Refused r) text session out answer = record { number = refusal_number r; session = session; out = out; answer = answer }
+sealed (Err r) text session out answer = record { number = refusal_number r; session = session; out = out; answer = answer }
 
 module _ (method : ℕ) (key nonce session : List ℕ) (clock : ℕ) (address : List ℕ) (padding : ℕ) (payload out answer : List ℕ) where
   unfoldable pub seals_datagram : AfterSeal

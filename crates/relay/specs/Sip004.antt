@@ -1,12 +1,8 @@
 -- What stands after each call about SIP004, the 2017 edition: its number, and what it leaves in all that it was lent to write. A lent
 -- stream or answer of the wrong length is refusal 1.
-use Rattle.std.specs.Prelude.{cond, List, ℕ, eqb, length, set}
+use Rattle.std.specs.Prelude.{cond, List, ℕ, eqb, length, set, Err, Ok, Result}
 use Rattle.octets.specs.Buffers.{put}
 use Rattle.protocol.specs.Refusal.{refusal_number}
-use Rattle.sip004.specs.declared.Sealed.{Sealed}
-use Rattle.sip004.specs.declared.Sealed.TheVariants.{Datagram, Refused as NotSealed}
-use Rattle.sip004.specs.declared.Opened.{Opened}
-use Rattle.sip004.specs.declared.Opened.TheVariants.{Text, Refused as NotOpened}
 use Rattle.sip004.specs.Datagram.{datagram, seal_answer, payload_of, open_answer}
 use Rattle.sip004_stream.specs.Streams.{framing_of, sender_begun, receiver_begun}
 use Rattle.words.specs.Answers.{answer_words}
@@ -14,6 +10,7 @@ use Rattle.words.specs.States.{method_in}
 use Rattle.stream_answers.specs.Beginning.{AfterBegin, begins, sender_told, receiver_told}
 use Rattle.stream_answers.specs.Chunks as chunks
 use Rattle.stream_answers.specs.Chunks.{AfterChunk}
+use Rattle.protocol.specs.declared.Refusal.{Refusal}
 
 -- ---- datagrams: a length that is answered is the answer's first word, and a refusal writes none
 
@@ -26,9 +23,9 @@ pub record AfterDatagram : Type 0 where
 unfoldable pub tells : AfterDatagram → (out answer : List ℕ) → AfterDatagram
 tells x out answer = cond (eqb (length answer) answer_words) x (record { number = 1; out = out; answer = answer })
 
-abbrev pub sealed_told : Sealed → (text out answer : List ℕ) → AfterDatagram
-sealed_told (Datagram n) text out answer = record { number = 0; out = put out 0 text; answer = set answer 0 n }
-sealed_told (NotSealed r) text out answer = record { number = refusal_number r; out = out; answer = answer }
+abbrev pub sealed_told : Result ℕ Refusal → (text out answer : List ℕ) → AfterDatagram
+sealed_told (Ok n) text out answer = record { number = 0; out = put out 0 text; answer = set answer 0 n }
+sealed_told (Err r) text out answer = record { number = refusal_number r; out = out; answer = answer }
 
 abbrev pub seals_datagram : ℕ → (key salt payload out answer : List ℕ) → AfterDatagram
 seals_datagram method key salt payload out answer =
@@ -36,9 +33,9 @@ seals_datagram method key salt payload out answer =
     (sealed_told (seal_answer method (length key) (length salt) (length payload) (length out)) (datagram key salt payload) out answer)
     out answer
 
-abbrev pub opened_told : Opened → (text out answer : List ℕ) → AfterDatagram
-opened_told (Text n) text out answer = record { number = 0; out = put out 0 text; answer = set answer 0 n }
-opened_told (NotOpened r) text out answer = record { number = refusal_number r; out = out; answer = answer }
+abbrev pub opened_told : Result ℕ Refusal → (text out answer : List ℕ) → AfterDatagram
+opened_told (Ok n) text out answer = record { number = 0; out = put out 0 text; answer = set answer 0 n }
+opened_told (Err r) text out answer = record { number = refusal_number r; out = out; answer = answer }
 
 abbrev pub opens_datagram : ℕ → (key s out answer : List ℕ) → AfterDatagram
 opens_datagram method key s out answer =

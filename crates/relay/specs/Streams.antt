@@ -1,21 +1,21 @@
 -- What stands after each call about streams of SIP022: its number, and what it leaves in all that it was lent to write. A lent stream or
 -- answer of the wrong length, and a stream at another turn than the call's, are refusal 1.
-use Rattle.std.specs.Prelude.{cond, List, ℕ, length}
+use Rattle.std.specs.Prelude.{cond, List, ℕ, length, Result}
 use Rattle.protocol.specs.Method.{cipher_of}
 use Rattle.protocol.specs.declared.Refusal.{Refusal}
 use Rattle.stream_pieces.specs.Framing.{framing_of}
-use Rattle.stream_open_request.specs.declared.RequestOpened.{RequestOpened}
-use Rattle.stream_open_response.specs.declared.ResponseOpened.{ResponseOpened}
 use Rattle.stream_open.specs.declared.Receiver.{Receiver}
 use Rattle.stream_seal_heads.specs.HeadSealing.{request_answer, request, response_answer, response}
 use Rattle.stream_open_request.specs.Requests.{opened_request, request_pool}
-use Rattle.stream_open_variable.specs.declared.VariableOpened.{VariableOpened}
 use Rattle.stream_open_variable.specs.Variable.{variable_answer, variable_out, variable_next}
 use Rattle.stream_open_response.specs.Responses.{opened_response}
 use Rattle.words.specs.States.{method_in, receiver_in}
 use Rattle.stream_answers.specs.Told.{request_number, request_answer as request_told, request_stream, variable_number, variable_told, variable_stream, response_number, response_answer as response_told, response_stream}
 use Rattle.stream_answers.specs.Chunks as chunks
 use Rattle.stream_answers.specs.Chunks.{fits, AfterChunk, seals, opens}
+use Rattle.stream_open_request.specs.declared.Request.{Request}
+use Rattle.stream_open_variable.specs.declared.VariableHeader.{VariableHeader}
+use Rattle.stream_open_response.specs.declared.Response.{Response}
 
 -- ---- sealing, and opening a chunk or a variable header
 
@@ -51,7 +51,7 @@ pub record AfterRequest : Type 0 where
 
 module _ (method : ℕ) (key : List ℕ) (clock : ℕ) (s pool stream answer : List ℕ) where
   -- x is what is answered where stream and answer fit
-  abbrev pub request_left : RequestOpened → AfterRequest
+  abbrev pub request_left : Result (Request × Receiver) Refusal → AfterRequest
   request_left x = record {
     number = request_number x;
     pool = request_pool method key clock s pool;
@@ -65,7 +65,7 @@ module _ (method : ℕ) (key : List ℕ) (clock : ℕ) (s pool stream answer : L
       (record { number = 1; pool = pool; stream = stream; answer = answer })
 
 -- its variable header: x is what is answered
-abbrev pub variable_left : VariableOpened → Receiver → (s out stream answer : List ℕ) → AfterChunk
+abbrev pub variable_left : Result VariableHeader Refusal → Receiver → (s out stream answer : List ℕ) → AfterChunk
 variable_left x state s out stream answer = record {
   number = variable_number x;
   out = variable_out state s out;
@@ -87,7 +87,7 @@ pub record AfterResponse : Type 0 where
   pub answer : List ℕ
 
 -- x is what is answered where stream and answer fit
-abbrev pub response_left : ResponseOpened → (stream answer : List ℕ) → AfterResponse
+abbrev pub response_left : Result (Response × Receiver) Refusal → (stream answer : List ℕ) → AfterResponse
 response_left x stream answer = record { number = response_number x; stream = response_stream x stream; answer = response_told x answer }
 
 module _ (method : ℕ) (key : List ℕ) (clock : ℕ) (request_salt s stream answer : List ℕ) where

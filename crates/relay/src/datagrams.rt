@@ -1,8 +1,6 @@
 // Session tables, sending sessions and datagrams.
-ghost use Rattle.std.specs.Prelude.{◌≡◌, length};
-ghost use Rattle.std.proofs.Math.Option.{none, some};
+ghost use Rattle.std.specs.Prelude.{◌≡◌, length, None, Some};
 ghost use Rattle.session_table.specs.Table.{make_lawful, made};
-ghost use Rattle.datagram_seal.specs.declared.Begun.TheVariants.{Ready};
 ghost use Rattle.datagram_seal.specs.Sealing.{client_sender};
 ghost use Rattle.reply_session.specs.Beginning.{reply_begun};
 ghost use Rattle.datagram_open.specs.Deciding.{answer_of};
@@ -11,8 +9,9 @@ ghost use Rattle.relay.specs.Datagrams.{settings_number, begins, seals_datagram,
 ghost use Rattle.relay.specs.Datagrams.{caller_of};
 
 use super::SETTINGS;
-use datagram_read::Opened;
-use datagram_seal::{Begun, Sealed, Sender};
+use datagram_read::Header;
+use datagram_seal::Sender;
+use protocol::Refusal;
 use session_table::Peer;
 use words::{ANSWER, SESSION, header_words, is_session, session_in, session_words};
 
@@ -29,28 +28,27 @@ pub fn relay_table_new(retention: u64, table: &mut [u64]) -> u64
 
 // ---- sending sessions
 
-fn begin(begun: Begun, session: &mut [u64]) -> u64
+fn begin(begun: Result<Sender, Refusal>, session: &mut [u64]) -> u64
     ensures { record { number = result; session = session.new } ≡ begins begun session.old }
 {
     if session.len() != SESSION {
         return SETTINGS;
     }
     match begun {
-        Begun::Ready(sender) => {
-            let words = session_words(sender);
-            records::write(session, 0, &words);
+        Ok(sender) => {
+            records::write(session, 0, &session_words(sender));
             0
         }
-        Begun::Refused(refusal) => refusal.number(),
+        Err(refusal) => refusal.number(),
     }
 }
 
 // Begins a client's sending session, in 4 words.
 pub fn relay_session_begin_client(id: u64, session: &mut [u64]) -> u64
     ensures { record { number = result; session = session.new }
-        ≡ begins (Ready (client_sender id)) session.old }
+        ≡ begins (Ok (client_sender id)) session.old }
 {
-    begin(Begun::Ready(Sender::client(id)), session)
+    begin(Ok(Sender::client(id)), session)
 }
 
 // Begins a server's, in reply to a client's session: with an ID that no session alive in the table has, nor the client's. The table
@@ -90,43 +88,37 @@ pub fn relay_datagram_seal(
         ≡ seals_datagram method key.now nonce.now session.old clock address.now padding
         payload.now out.old answer.old }
 {
-    if answer.len() != ANSWER {
+    if answer.len() != ANSWER || !is_session(session) {
         return SETTINGS;
     }
-    if is_session(session) {
-        let sender = session_in(session);
-        let done = datagram_seal::seal(
-            method, key, nonce, sender, clock, address, padding, payload, out,
-        );
-        let sealed = done.answer;
-        let next = done.sender;
-        return match sealed {
-            Sealed::Datagram(n) => {
-                session[3] = next.packet;
-                answer[0] = n as u64;
-                0
-            }
-            Sealed::Refused(refusal) => refusal.number(),
-        };
+    let sender = session_in(session);
+    let done = datagram_seal::seal(
+        method, key, nonce, sender, clock, address, padding, payload, out,
+    );
+    match done.answer {
+        Ok(n) => {
+            session[3] = done.sender.packet;
+            answer[0] = n as u64;
+            0
+        }
+        Err(refusal) => refusal.number(),
     }
-    SETTINGS
 }
 
 // ---- opening
 
 // Gives an opened datagram's header to the caller.
-fn write_opened(opened: Opened, answer: &mut [u64]) -> u64
+fn write_opened(opened: Result<Header, Refusal>, answer: &mut [u64]) -> u64
     requires { length answer.old ≡ answer_words }
     ensures value { result ≡ opened_number (answer_of opened) }
     ensures answer_after { answer.new ≡ opened_words (answer_of opened) answer.old }
 {
     match opened {
-        Opened::Datagram(header) => {
-            let words = header_words(header);
-            records::write(answer, 0, &words);
+        Ok(header) => {
+            records::write(answer, 0, &header_words(header));
             0
         }
-        Opened::Refused(refusal) => refusal.number(),
+        Err(refusal) => refusal.number(),
     }
 }
 
@@ -144,7 +136,7 @@ pub fn relay_datagram_open_server(
     answer: &mut [u64],
 ) -> u64
     ensures { record { number = result; table = table.new; out = out.new; answer = answer.new }
-        ≡ opens_datagram method key.now none clock (caller_of first second port) datagram.now
+        ≡ opens_datagram method key.now None clock (caller_of first second port) datagram.now
         table.old out.old answer.old }
 {
     if answer.len() != ANSWER {
@@ -174,7 +166,7 @@ pub fn relay_datagram_open_client(
     answer: &mut [u64],
 ) -> u64
     ensures { record { number = result; table = table.new; out = out.new; answer = answer.new }
-        ≡ opens_datagram method key.now (some client) clock (caller_of first second port) datagram.now
+        ≡ opens_datagram method key.now (Some client) clock (caller_of first second port) datagram.now
         table.old out.old answer.old }
 {
     if answer.len() != ANSWER {

@@ -3,7 +3,6 @@ ghost use Rattle.std.specs.Prelude.{◌≡◌};
 ghost use Rattle.relay.specs.Sip004.{seals_datagram, opens_datagram, begins_sealing, begins_opening, seals_chunk, opens_chunk};
 
 use super::SETTINGS;
-use sip004::{Opened, Sealed};
 use sip004_stream::framing_of;
 use stream_answers::{open_on, seal_on, write_receiver, write_sender};
 use words::{ANSWER, method_in};
@@ -26,11 +25,11 @@ pub fn relay_sip004_datagram_seal(
         return SETTINGS;
     }
     match sip004::seal(method, key, salt, payload, out) {
-        Sealed::Datagram(n) => {
+        Ok(n) => {
             answer[0] = n as u64;
             0
         }
-        Sealed::Refused(refusal) => refusal.number(),
+        Err(refusal) => refusal.number(),
     }
 }
 
@@ -49,11 +48,11 @@ pub fn relay_sip004_datagram_open(
         return SETTINGS;
     }
     match sip004::open(method, key, datagram, out) {
-        Opened::Text(n) => {
+        Ok(n) => {
             answer[0] = n as u64;
             0
         }
-        Opened::Refused(refusal) => refusal.number(),
+        Err(refusal) => refusal.number(),
     }
 }
 

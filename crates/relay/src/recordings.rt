@@ -5,7 +5,7 @@ ghost use Rattle.relay.specs.Recordings.{compares_recordings, mends_recording};
 use super::SETTINGS;
 use words::ANSWER;
 
-// The number of refusal 3.
+// The number of refusal 3, as C is given it.
 const ROOM: u64 = 3;
 
 // Writes the text of two recordings side by side to the front of the lent buffer. The answer is its length.

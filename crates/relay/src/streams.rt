@@ -42,13 +42,13 @@ pub fn relay_stream_seal_request(
         ≡ seals_request method key.now salt.now clock address.now padding
         payload.now out.old stream.old answer.old }
 {
-    if fits(stream.len(), answer.len()) {
-        let sealed = stream_seal_heads::seal_request(
-            method, key, salt, clock, address, padding, payload, out,
-        );
-        return write_sealed(sealed, stream, answer);
+    if !fits(stream.len(), answer.len()) {
+        return SETTINGS;
     }
-    SETTINGS
+    let sealed = stream_seal_heads::seal_request(
+        method, key, salt, clock, address, padding, payload, out,
+    );
+    write_sealed(sealed, stream, answer)
 }
 
 // Seals the head of a response, with its first payload, to the front of the lent buffer and begins its stream.
@@ -67,19 +67,19 @@ pub fn relay_stream_seal_response(
         ≡ seals_response method key.now salt.now request_salt.now clock
         payload.now out.old stream.old answer.old }
 {
-    if fits(stream.len(), answer.len()) {
-        let sealed = stream_seal_heads::seal_response(
-            method,
-            key,
-            salt,
-            request_salt,
-            clock,
-            payload,
-            out,
-        );
-        return write_sealed(sealed, stream, answer);
+    if !fits(stream.len(), answer.len()) {
+        return SETTINGS;
     }
-    SETTINGS
+    let sealed = stream_seal_heads::seal_response(
+        method,
+        key,
+        salt,
+        request_salt,
+        clock,
+        payload,
+        out,
+    );
+    write_sealed(sealed, stream, answer)
 }
 
 // Seals a length with its payload to the front of the lent buffer and moves the stream two counters further.
@@ -112,11 +112,11 @@ pub fn relay_stream_open_request(
         ≡ opens_request method key.now clock bytes.now pool.old stream.old
         answer.old }
 {
-    if fits(stream.len(), answer.len()) {
-        let opened = stream_open_request::open_request(method, key, clock, bytes, pool);
-        return write_request(opened, stream, answer);
+    if !fits(stream.len(), answer.len()) {
+        return SETTINGS;
     }
-    SETTINGS
+    let opened = stream_open_request::open_request(method, key, clock, bytes, pool);
+    write_request(opened, stream, answer)
 }
 
 // Opens the variable header of a request to the front of the lent buffer, on the stream that its front began.
@@ -129,14 +129,11 @@ pub fn relay_stream_open_variable(
     ensures { record { number = result; out = out.new; stream = stream.new; answer = answer.new }
         ≡ opens_variable stream.old bytes.now out.old answer.old }
 {
-    if answer.len() != ANSWER {
+    if answer.len() != ANSWER || !is_receiver(stream) {
         return SETTINGS;
     }
-    if is_receiver(stream) {
-        let step = stream_open_variable::open_variable(receiver_in(stream), bytes, out);
-        return write_variable(step, stream, answer);
-    }
-    SETTINGS
+    let step = stream_open_variable::open_variable(receiver_in(stream), bytes, out);
+    write_variable(step, stream, answer)
 }
 
 // Opens the head of a response to the request of a salt, and begins its stream. Its first payload is the next step's.
@@ -153,11 +150,11 @@ pub fn relay_stream_open_response(
         ≡ opens_response method key.now clock request_salt.now bytes.now
         stream.old answer.old }
 {
-    if fits(stream.len(), answer.len()) {
-        let opened = stream_open_response::open_response(method, key, clock, request_salt, bytes);
-        return write_response(opened, stream, answer);
+    if !fits(stream.len(), answer.len()) {
+        return SETTINGS;
     }
-    SETTINGS
+    let opened = stream_open_response::open_response(method, key, clock, request_salt, bytes);
+    write_response(opened, stream, answer)
 }
 
 // ---- steps

@@ -1,8 +1,6 @@
 // Session tables, sending sessions and datagrams.
-ghost use Rattle.std.specs.Prelude.{◌≡◌};
-ghost use Rattle.std.proofs.Math.Option.{none, some};
+ghost use Rattle.std.specs.Prelude.{◌≡◌, None, Some};
 ghost use Rattle.session_table.specs.Table.{make_lawful, made};
-ghost use Rattle.datagram_seal.specs.declared.Begun.TheVariants.{Ready};
 ghost use Rattle.datagram_seal.specs.Sealing.{client_sender};
 ghost use Rattle.reply_session.specs.Beginning.{reply_begun};
 ghost use Rattle.relay.specs.Datagrams.{settings_number, begins, seals_datagram, opens_datagram};
@@ -19,7 +17,7 @@ pub extern "C" fn relay_table_new(retention: u64, table: &mut [u64]) -> u64
 #[unsafe(no_mangle)]
 pub extern "C" fn relay_session_begin_client(id: u64, session: &mut [u64]) -> u64
     ensures { record { number = result; session = session.new }
-        ≡ begins (Ready (client_sender id)) session.old }
+        ≡ begins (Ok (client_sender id)) session.old }
 {
     relay::datagrams::relay_session_begin_client(id, session)
 }
@@ -74,7 +72,7 @@ pub extern "C" fn relay_datagram_open_server(
     answer: &mut [u64],
 ) -> u64
     ensures { record { number = result; table = table.new; out = out.new; answer = answer.new }
-        ≡ opens_datagram method key.now none clock (caller_of first second port) datagram.now
+        ≡ opens_datagram method key.now None clock (caller_of first second port) datagram.now
         table.old out.old answer.old }
 {
     relay::datagrams::relay_datagram_open_server(
@@ -97,7 +95,7 @@ pub extern "C" fn relay_datagram_open_client(
     answer: &mut [u64],
 ) -> u64
     ensures { record { number = result; table = table.new; out = out.new; answer = answer.new }
-        ≡ opens_datagram method key.now (some client) clock (caller_of first second port) datagram.now
+        ≡ opens_datagram method key.now (Some client) clock (caller_of first second port) datagram.now
         table.old out.old answer.old }
 {
     relay::datagrams::relay_datagram_open_client(

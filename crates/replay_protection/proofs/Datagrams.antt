@@ -1,9 +1,9 @@
 -- Datagrams once, by one side, and the run that breaks it at 59, with what the openers' arguments decide.
 -- Assumes nothing.
+use Rattle.std.specs.Prelude.{Err, Ok, Result, None, Option, Some}
 use mathlib.Core.Path.{◌≡◌, refl, sym, ap, ◌∙◌}
 use mathlib.Core.Bool.{true, and-eq-true_iff}
 use mathlib.Core.List.{List, []}
-use mathlib.Core.Option.{Option, none, some}
 use Prim.Native.Nat.{ℕ, ◌+◌, ◌≤◌}
 use native.Mathlib.Omega.{arith}
 use lib.Dec.{leb, lit<}
@@ -27,11 +27,8 @@ use Rattle.datagram_parts.proofs.LengthLaws.{length-sealed_text}
 use Rattle.datagram_parts.proofs.OverheadLaws.{start-most}
 use Rattle.datagram_seal.proofs.AnswerLaws.{sealable}
 use Rattle.datagram_seal.specs.declared.Sender.{Sender}
-use Rattle.datagram_seal.specs.declared.Sealed.TheVariants.{Datagram as Written}
 use Rattle.datagram_seal.specs.Sealing.{nonce_fits, client_sender, sealed_length, capped, length_answer, argument_answer, seal_answer}
 use Rattle.datagram_read.specs.declared.Header.{Header}
-use Rattle.datagram_read.specs.declared.Opened.{Opened}
-use Rattle.datagram_read.specs.declared.Opened.TheVariants.{Datagram, Refused}
 use Rattle.datagram_read.specs.Opening.{plain_of, session_of, packet_of, time_of, read_answer, read_out}
 use Rattle.datagram_read.proofs.ReadLaws.{answer-tells, header-session, header-packet}
 use Rattle.datagram_open.specs.Deciding.{expected, opener_of, decided_by, decide, call_of, open_answer}
@@ -41,6 +38,7 @@ use Rattle.demands.proofs.DatagramWays.{not-both, Way, unlawful, early as decide
 use Rattle.demands.proofs.DatagramReadBack.{sent_back}
 use Rattle.demands.proofs.DatagramSealing.{one-target, sealed-opens}
 use Rattle.replay_protection.specs.Datagrams.{DatagramsOnce, OneSideOnly, Twice, text, sent, first, again, SealedBreaks, SealedBreaksAt59, sample_address, Sample, SampleBreaks}
+use Rattle.protocol.specs.declared.Refusal.{Refusal}
 
 -- ---- what a datagram that reaches the window has of its bytes
 
@@ -63,11 +61,11 @@ module _ (method : ℕ) (key : List ℕ) where
   abbrev stamp_of : List ℕ → ℕ
   stamp_of s = time_of (main_start cipher) (plain_of cipher key s)
 
-  by_answer : (c : Call) (a : Opened) → read_answer method key (expected c.client) c.clock c.datagram c.output ≡ a
+  by_answer : (c : Call) (a : Result Header Refusal) → read_answer method key (expected c.client) c.clock c.datagram c.output ≡ a
       → (o : List ℕ) (id p : ℕ) (header : Header) (plain : List ℕ) → decided_by a o (plain_of cipher key c.datagram) ≡ reaches id p header plain
       → StampedAs (session_of cipher key) (packet_of cipher key) stamp_of c id p
   unfolding time_valid
-  by_answer c (Datagram h) ea o id p header plain e =
+  by_answer c (Ok h) ea o id p header plain e =
       let s = c.datagram in
       let d = answer-tells method key (expected c.client) c.clock s c.output h ea in
       let valid = (and-eq-true_iff (leb (stamp_of s) (c.clock + 30)) _).0 d.main.timely in
@@ -77,7 +75,7 @@ module _ (method : ℕ) (key : List ℕ) where
         not-ahead = leb-true (stamp_of s) (c.clock + 30) valid.0;
         not_behind = leb-true c.clock (stamp_of s + 30) valid.1;
       }
-  by_answer c (Refused r) ea o id p header plain e = absurd (let z : ◌≡◌ {A = ℕ} 0 1 = ap reached e in omega arith)
+  by_answer c (Err r) ea o id p header plain e = absurd (let z : ◌≡◌ {A = ℕ} 0 1 = ap reached e in omega arith)
 
   stamped : Stamped (decide method key)
   unfolding decide
@@ -112,13 +110,13 @@ type-of method key client clock peer s t out h e = go (way method key client clo
 pub one-side-only : OneSideOnly
 one-side-only method key s clock peer t out h e client later from table buffer g f =
     let z : ◌≡◌ {A = ℕ} 0 1 =
-    sym (type-of method key none clock peer s t out h e) ∙ type-of method key (some client) later from s table buffer g f in
+    sym (type-of method key None clock peer s t out h e) ∙ type-of method key (Some client) later from s table buffer g f in
     omega arith
 
 -- ---- at 59
 
 module _ (method : ℕ) (key nonce : List ℕ) (sender : Sender) (address : List ℕ) (padding : ℕ) (payload : List ℕ) (space n : ℕ)
-    (answered : seal_answer method (length key) (length nonce) sender address padding (length payload) space ≡ Written n) (fit : Fitting key sender 1030) where
+    (answered : seal_answer method (length key) (length nonce) sender address padding (length payload) space ≡ Ok n) (fit : Fitting key sender 1030) where
   abbrev plain : List ℕ
   plain = text method key nonce sender address padding payload
 
@@ -128,7 +126,7 @@ module _ (method : ℕ) (key nonce : List ℕ) (sender : Sender) (address : List
   abbrev buffer : List ℕ
   buffer = replicate space 0
 
-  there : seal_answer method (length key) (length nonce) sender address padding (length payload) (length buffer) ≡ Written n
+  there : seal_answer method (length key) (length nonce) sender address padding (length payload) (length buffer) ≡ Ok n
   there =
       ap (seal_answer method (length key) (length nonce) sender address padding (length payload)) (length-replicate {A = ℕ} space 0) ∙ answered
 
@@ -156,7 +154,7 @@ module _ (method : ℕ) (key nonce : List ℕ) (sender : Sender) (address : List
       fit.client-fits fit.time-fits one.address one.found clock valid out room in
       (λ i. decided_by (read_answer method key (expected-opener sender.side i) clock bytes out)
       (read_out method key (expected-opener sender.side i) clock bytes out) (plain-sent i))
-      ∙ ap (λ (a : Opened). decided_by a (read_out method key sender.side clock bytes out) plain) read.0
+      ∙ ap (λ (a : Result Header Refusal). decided_by a (read_out method key sender.side clock bytes out) plain) read.0
 
   at-1000 : time_valid 1030 1000 ≡ true
   unfolding time_valid
@@ -188,15 +186,15 @@ sealed-breaks-at-59 method key nonce sender address padding payload space n answ
 abbrev nobody : Peer
 nobody = record { first = 0; second = 0; port = 0 }
 
-sealed-1 : seal_answer 1 16 0 (client_sender 7) sample_address 0 0 48 ≡ Written 48
+sealed-1 : seal_answer 1 16 0 (client_sender 7) sample_address 0 0 48 ≡ Ok 48
 unfolding seal_answer argument_answer length_answer capped sealed_length is_address parse_at name_at key_fits cipher_of method_of
 sealed-1 = refl
 
-sealed-3 : seal_answer 3 32 24 (client_sender 7) sample_address 0 0 72 ≡ Written 72
+sealed-3 : seal_answer 3 32 24 (client_sender 7) sample_address 0 0 72 ≡ Ok 72
 unfolding seal_answer argument_answer length_answer capped sealed_length is_address parse_at name_at key_fits cipher_of method_of
 sealed-3 = refl
 
-module _ (method k : ℕ) (nonce : List ℕ) (n : ℕ) (answered : seal_answer method (length {A = ℕ} (replicate k 0)) (length nonce) (client_sender 7) sample_address 0 0 n ≡ Written n) where
+module _ (method k : ℕ) (nonce : List ℕ) (n : ℕ) (answered : seal_answer method (length {A = ℕ} (replicate k 0)) (length nonce) (client_sender 7) sample_address 0 0 n ≡ Ok n) where
   abbrev key : List ℕ
   key = replicate k 0
 

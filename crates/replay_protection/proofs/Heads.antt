@@ -1,5 +1,6 @@
 -- A head whose salt the pool has forgotten is stale, so no head is accepted twice.
 -- Assumes nothing.
+use Rattle.std.specs.Prelude.{Err, Ok, Result}
 use mathlib.Core.Path.{◌≡◌, refl, sym, ap₂, subst}
 use mathlib.Core.Logic.{◌≢◌}
 use mathlib.Core.Bool.{Bool, true, false, cond, false≢true, and-eq-true_iff}
@@ -15,28 +16,27 @@ use Rattle.stream_pieces.specs.Pieces.{open_at, salted_key}
 use Rattle.stream_heads.specs.Heads.{fixed_of}
 use Rattle.stream_open.specs.declared.Receiver.{Receiver}
 use Rattle.stream_open_request.specs.declared.Request.{Request}
-use Rattle.stream_open_request.specs.declared.RequestOpened.{RequestOpened}
-use Rattle.stream_open_request.specs.declared.RequestOpened.TheVariants.{Accepted, Refused}
 use Rattle.demands.specs.StreamsKeep.{salt_of, time_in}
 use Rattle.demands.specs.SaltsStay.{FrontCall, HeadCall, opens-front, opens-variable, Held, front_answer, leaves, held_after, ForwardCalls}
 use Rattle.demands.proofs.BeyondUnread.{beginning, part}
 use Rattle.demands.proofs.RequestTells.{request-tells}
 use Rattle.demands.proofs.SaltsStay.{salt-stays}
 use Rattle.replay_protection.specs.Heads.{is_accepted, kept_for, KeptLongEnough, front_size, front, accepted_fronts, HeadsOnce}
+use Rattle.protocol.specs.declared.Refusal.{Refusal}
 
 pub kept-long-enough : KeptLongEnough
 kept-long-enough = omega arith
 
 -- ---- an accepted call
 
-record Opened (a : RequestOpened) : Type 0 where
+record Opened (a : Result (Request × Receiver) Refusal) : Type 0 where
   head : Request
   stream : Receiver
-  is : a ≡ Accepted head stream
+  is : a ≡ Ok (head, stream)
 
-opened : (a : RequestOpened) → is_accepted a ≡ true → Opened a
-opened (Accepted h st) e = record { head = h; stream = st; is = refl }
-opened (Refused r) e = absurd (false≢true e)
+opened : (a : Result (Request × Receiver) Refusal) → is_accepted a ≡ true → Opened a
+opened (Ok (h, st)) e = record { head = h; stream = st; is = refl }
+opened (Err r) e = absurd (false≢true e)
 
 module _ (method : ℕ) (key : List ℕ) where
   -- the time that a head says

@@ -1,8 +1,7 @@
 -- No datagram is accepted twice, though its session may have been forgotten and begun again between; none is accepted by both sides;
 -- and every sealed datagram is one that would be accepted twice with a retention of 59 seconds. About what the openers' contracts say.
 -- Assumes nothing.
-use Rattle.std.specs.Prelude.{◌≡◌, List, [], ◌∷◌, ℕ, ◌≤◌, ◌<◌, ◌^◌, length, replicate}
-use Rattle.std.proofs.Math.Option.{none, some}
+use Rattle.std.specs.Prelude.{◌≡◌, List, [], ◌∷◌, ℕ, ◌≤◌, ◌<◌, ◌^◌, length, replicate, Ok, Some, None}
 use Rattle.session_record.specs.declared.Peer.{Peer}
 use Rattle.session_table.specs.Table.{new_table}
 use Rattle.session_book.specs.Call.{Call, opened}
@@ -11,11 +10,9 @@ use Rattle.session_book.specs.Demand3.{Each, Forward, PortFits}
 use Rattle.session_book.specs.Once.{Once, Breaks}
 use Rattle.protocol.specs.Method.{cipher_of}
 use Rattle.socks5.specs.declared.Address.{Address}
-use Rattle.socks5.specs.declared.Parsed.TheVariants.{Found}
 use Rattle.socks5.specs.Address.{parse_at}
 use Rattle.datagram_parts.specs.Headers.{main_start, sealed_text}
 use Rattle.datagram_seal.specs.declared.Sender.{Sender}
-use Rattle.datagram_seal.specs.declared.Sealed.TheVariants.{Datagram as Written}
 use Rattle.datagram_seal.specs.Sealing.{client_sender, seal_answer, datagram}
 use Rattle.datagram_read.specs.declared.Header.{Header}
 use Rattle.datagram_open.specs.Deciding.{opener_of, decide, call_of, open_answer}
@@ -37,8 +34,8 @@ DatagramsOnce =
 abbrev pub OneSideOnly : Type 0
 OneSideOnly =
     (method : ℕ) (key s : List ℕ)
-    → (clock : ℕ) (peer : Peer) (t out : List ℕ) (h : Header) → open_answer method key none clock peer s t out ≡ opened h
-    → (client later : ℕ) (from : Peer) (table buffer : List ℕ) (g : Header) → open_answer method key (some client) later from s table buffer ≡ opened g
+    → (clock : ℕ) (peer : Peer) (t out : List ℕ) (h : Header) → open_answer method key None clock peer s t out ≡ opened h
+    → (client later : ℕ) (from : Peer) (table buffer : List ℕ) (g : Header) → open_answer method key (Some client) later from s table buffer ≡ opened g
     → ⊥
 
 -- ---- at 59
@@ -72,7 +69,7 @@ module _ (method : ℕ) (key nonce : List ℕ) (sender : Sender) (address : List
   -- accepted by both calls where the retention is 59; where it is 60 the second is a repeat
   pub record SealedBreaks (o : Twice text) : Type 0 where
     pub target : Address
-    pub target-sealed : parse_at address 0 ≡ Found target
+    pub target-sealed : parse_at address 0 ≡ Some target
     pub breaks : Breaks (decide method key) (first o) (again o)
         (header_of (main_start (cipher_of method)) sender.side sender.id sender.packet 1030 padding (length address) target) text
 
@@ -80,7 +77,7 @@ module _ (method : ℕ) (key nonce : List ℕ) (sender : Sender) (address : List
 abbrev pub SealedBreaksAt59 : Type 0
 SealedBreaksAt59 =
     (method : ℕ) (key nonce : List ℕ) (sender : Sender) (address : List ℕ) (padding : ℕ) (payload : List ℕ) (space n : ℕ)
-    → seal_answer method (length key) (length nonce) sender address padding (length payload) space ≡ Written n → Fitting key sender 1030
+    → seal_answer method (length key) (length nonce) sender address padding (length payload) space ≡ Ok n → Fitting key sender 1030
     → (o : Twice (text method key nonce sender address padding payload)) → SealedBreaks method key nonce sender address padding payload o
 
 -- two of them: a client's to "a", port 80, without padding and payload, by methods 1 and 3, with a key and a nonce of zeros

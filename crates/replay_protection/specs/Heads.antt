@@ -1,16 +1,17 @@
 -- No request head is accepted twice by its first call: salt and fixed part, on any pool. About what that call's contract says.
 -- Assumes nothing.
-use Rattle.std.specs.Prelude.{◌≢◌, Bool, true, false, cond, List, [], ◌∷◌, ℕ, ◌+◌, ◌≤◌, take}
+use Rattle.std.specs.Prelude.{◌≢◌, Bool, true, false, cond, List, [], ◌∷◌, ℕ, ◌+◌, ◌≤◌, take, Err, Ok, Result}
 use Rattle.session_book.specs.Demand3.{Pairs}
 use Rattle.protocol.specs.Method.{salt_length}
 use Rattle.salt_pool.specs.Pool.{keep_time}
-use Rattle.stream_open_request.specs.declared.RequestOpened.{RequestOpened}
-use Rattle.stream_open_request.specs.declared.RequestOpened.TheVariants.{Accepted, Refused}
 use Rattle.demands.specs.SaltsStay.{HeadCall, opens-front, opens-variable, Held, front_answer, leaves, ForwardCalls}
+use Rattle.stream_open_request.specs.declared.Request.{Request}
+use Rattle.stream_open.specs.declared.Receiver.{Receiver}
+use Rattle.protocol.specs.declared.Refusal.{Refusal}
 
-abbrev pub is_accepted : RequestOpened → Bool
-is_accepted (Accepted h st) = true
-is_accepted (Refused r) = false
+abbrev pub is_accepted : Result (Request × Receiver) Refusal → Bool
+is_accepted (Ok (h, st)) = true
+is_accepted (Err r) = false
 
 -- the seconds for which a pool has to keep a salt: a head's time is valid for 30 before the clock and for 30 after it
 abbrev pub kept_for : ℕ

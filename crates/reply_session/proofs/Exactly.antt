@@ -1,9 +1,9 @@
 -- When exactly a reply session begins: by the cases of its answer. Assumes nothing.
+use Rattle.std.specs.Prelude.{Err, Ok, Result, None, Option, Some}
 use mathlib.Core.Path.{◌≡◌, refl, sym, ap, ◌∙◌}
 use mathlib.Core.Logic.{◌≢◌}
 use mathlib.Core.Bool.{Bool, true, false, ◌&&◌, true≢false, and-eq-true_iff}
 use mathlib.Core.List.{List}
-use mathlib.Core.Option.{Option, none, some}
 use Prim.Native.Nat.{ℕ, zero-le}
 use native.Mathlib.Omega.{arith}
 use lib.Dec.{eqb}
@@ -13,12 +13,12 @@ use Rattle.protocol.specs.declared.Refusal.TheVariants.{Settings, Argument}
 use Rattle.protocol.specs.Refusal.{refusal_number}
 use Rattle.session_table.specs.Sizes.{capacity}
 use Rattle.session_table.specs.Table.{retention, lawful, record_at, live, holds, session_place, is_place, taken}
-use Rattle.datagram_seal.specs.declared.Begun.{Begun}
-use Rattle.datagram_seal.specs.declared.Begun.TheVariants.{Ready, Refused}
 use Rattle.datagram_seal.specs.Sealing.{server_sender}
 use Rattle.reply_session.specs.Beginning.{reply_begun}
 use Rattle.reply_session.specs.Exactly.{AllOthers, BeginsExactly, ReplyBeginsExactly}
 use Rattle.reply_session.proofs.BeginLaws.{unlawful, own-client, others-client, free}
+use Rattle.datagram_seal.specs.declared.Sender.{Sender}
+use Rattle.protocol.specs.declared.Refusal.{Refusal}
 
 -- ---- the table
 
@@ -32,8 +32,8 @@ module _ (t : List ℕ) (clock id : ℕ) where
   taken-by e others = go (session_place t clock id) refl
     where
       go : (o : Option ℕ) → session_place t clock id ≡ o → ⊥
-      go none f = true≢false (sym e ∙ ap is_place f)
-      go (some i) f =
+      go None f = true≢false (sym e ∙ ap is_place f)
+      go (Some i) f =
           let k = lowest-found holder 0 capacity i f in
           let both = (and-eq-true_iff (live (retention t) clock (record_at t i)) (eqb (record_at t i).id id)).0 k.2 in
           others i (omega (arith, k.1)) both.0 (eqb-true (record_at t i).id id both.1)
@@ -44,22 +44,22 @@ module _ (t : List ℕ) (clock id : ℕ) where
   all_others e = go (session_place t clock id) refl
     where
       go : (o : Option ℕ) → session_place t clock id ≡ o → AllOthers t clock id
-      go (some i) f = absurd (true≢false (sym (ap is_place f) ∙ e))
-      go none f = λ i l a same.
+      go (Some i) f = absurd (true≢false (sym (ap is_place f) ∙ e))
+      go None f = λ i l a same.
           true≢false
           (sym (λ k. a k && eq-eqb (record_at t i).id id same k) ∙ lowest-none holder 0 capacity f i zero-le (omega arith))
 
 -- ---- the answer
 
-abbrev number_of : Begun → ℕ
-number_of (Ready s) = 0
-number_of (Refused r) = refusal_number r
+abbrev number_of : Result Sender Refusal → ℕ
+number_of (Ok s) = 0
+number_of (Err r) = refusal_number r
 
 -- the three that there are
 data Cases (t : List ℕ) (clock id client : ℕ) : Type 0 where
-  not-lawful : lawful t ≡ false → reply_begun t clock id client ≡ Refused Settings → Cases t clock id client
-  clashes : lawful t ≡ true → (AllOthers t clock id → id ≢ client → ⊥) → reply_begun t clock id client ≡ Refused Argument → Cases t clock id client
-  begins : lawful t ≡ true → AllOthers t clock id → id ≢ client → reply_begun t clock id client ≡ Ready (server_sender id client) → Cases t clock id client
+  not-lawful : lawful t ≡ false → reply_begun t clock id client ≡ Err Settings → Cases t clock id client
+  clashes : lawful t ≡ true → (AllOthers t clock id → id ≢ client → ⊥) → reply_begun t clock id client ≡ Err Argument → Cases t clock id client
+  begins : lawful t ≡ true → AllOthers t clock id → id ≢ client → reply_begun t clock id client ≡ Ok (server_sender id client) → Cases t clock id client
 
 module _ (t : List ℕ) (clock id client : ℕ) where
   cases : Cases t clock id client
@@ -73,11 +73,11 @@ module _ (t : List ℕ) (clock id client : ℕ) where
       go true false false el es eu =
           let n = eqb-false id client es in begins el (all_others t clock id eu) n (free t clock id client el n eu)
 
-  abbrev answer : Begun
+  abbrev answer : Result Sender Refusal
   answer = reply_begun t clock id client
 
   -- answers of different numbers are not equal
-  differ : (a b : Begun) → answer ≡ a → answer ≡ b → number_of a ≡ number_of b
+  differ : (a b : Result Sender Refusal) → answer ≡ a → answer ≡ b → number_of a ≡ number_of b
   differ a b e f = ap number_of (sym e ∙ f)
 
   exactly : Cases t clock id client → BeginsExactly t clock id client answer

@@ -6,26 +6,24 @@ ghost use Rattle.std.specs.Prelude.{◌≡◌};
 ghost use Rattle.reply_session.specs.Beginning.{reply_begun};
 
 use datagram_parts::Side;
-use datagram_seal::{Begun, Sender};
+use datagram_seal::Sender;
 use protocol::Refusal;
 
 // Begins at packet ID 0, or refuses: 1 for a table that is not lawful, then 12 for an ID that its own client or any client session
 // alive at the clock has. The table is that of the clients' sessions, and is only read.
-pub fn begin_reply(id: u64, client: u64, clock: u64, table: &[u64]) -> Begun
+#[tactic(auto, unfolding(crate::specs::Beginning::reply_begun))]
+pub fn begin_reply(id: u64, client: u64, clock: u64, table: &[u64]) -> Result<Sender, Refusal>
     ensures { result ≡ reply_begun table.now clock id client }
 {
-    if session_table::is_lawful(table) {
-        if id == client {
-            return Begun::Refused(Refusal::Argument);
-        }
-        if session_table::is_taken(table, clock, id) {
-            return Begun::Refused(Refusal::Argument);
-        }
-        return Begun::Ready(Sender {
-            side: Side::Server(client),
-            id: id,
-            packet: 0,
-        });
+    if !session_table::is_lawful(table) {
+        return Err(Refusal::Settings);
     }
-    Begun::Refused(Refusal::Settings)
+    if id == client || session_table::is_taken(table, clock, id) {
+        return Err(Refusal::Argument);
+    }
+    Ok(Sender {
+        side: Side::Server(client),
+        id,
+        packet: 0,
+    })
 }

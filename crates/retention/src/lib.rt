@@ -15,20 +15,14 @@ const DEFAULT: u64 = 300;
 pub fn in_range(retention: u64) -> bool
     ensures { result ≡ in_range retention }
 {
-    if retention < LEAST {
-        return false;
-    }
-    retention <= GREATEST
+    (LEAST..=GREATEST).contains(&retention)
 }
 
 // The retention of a table that is made with this one.
 pub fn made(retention: u64) -> u64
     ensures { result ≡ made_retention retention }
 {
-    if retention == 0 {
-        return DEFAULT;
-    }
-    retention
+    if retention == 0 { DEFAULT } else { retention }
 }
 
 // Whether a table can be made with this retention.

@@ -1,5 +1,4 @@
 -- Laws of the salt pool's definitions.
-pub mod PlaceLaws
 pub mod PoolLaws
 pub mod StoreLaws
 pub mod MeetLaws

@@ -7,8 +7,9 @@ use mathlib.Core.Logic.{◌≢◌}
 use mathlib.Core.Path.{◌≡◌, refl, sym, ap, ◌∙◌, subst}
 use lib.ListN.{length, get_or}
 use Rattle.records.proofs.CurrentLaws.{earlier}
-use Rattle.salt_pool.specs.declared.Met.{Met}
-use Rattle.salt_pool.specs.declared.Met.TheVariants.{Room, Replay, Full}
+use Rattle.salt_pool.specs.Pool.{Met}
+use Rattle.std.specs.Prelude.{Ok, Err}
+use Rattle.salt_pool.specs.Pool.{Replay, Full}
 use Rattle.salt_pool.specs.Pool.{capacity, keep_time, pool_words, start, salt_words, kept, meet, store}
 use Rattle.salt_pool.specs.Runs.{Keeps, Item, next_by, next, run, Until, Forward, NeverTwice, NeverTwiceForward}
 use Rattle.salt_pool.proofs.StoreLaws.{length-store, kept-other, salt-other, keeps-itself}
@@ -17,7 +18,7 @@ use Rattle.salt_pool.proofs.MeetLaws.{is-replay, room-free, room-below}
 -- ---- one salt stored
 
 pub stored-kept : (t : List ℕ) (i clock : ℕ) (salt : List ℕ) (c : ℕ) → i < capacity → length t ≡ pool_words → c ≤ clock + keep_time
-    → meet (store t i clock salt) c salt ≡ Replay
+    → meet (store t i clock salt) c salt ≡ Err Replay
 stored-kept t i clock salt c l e h = is-replay (store t i clock salt) c salt i (keeps-itself t i clock salt l e c h)
 
 -- what is kept was kept before
@@ -34,7 +35,7 @@ stays t k j c d salt other h free l =
     apart e = true≢false (sym (kept-earlier t c d k l h.1) ∙ ap (kept t d) e ∙ free)
 
 pub stays-replay : (t : List ℕ) (k j c d : ℕ) (salt other : List ℕ) → Keeps t c salt k → kept t d j ≡ false → d ≤ c
-    → meet (store t j d other) c salt ≡ Replay
+    → meet (store t j d other) c salt ≡ Err Replay
 stays-replay t k j c d salt other h free l = is-replay (store t j d other) c salt k (stays t k j c d salt other h free l)
 
 -- ---- many
@@ -48,9 +49,9 @@ length-next t x = go (meet t x.clock x.salt) x.stored
     pick i false = refl
 
     go : (m : Met) (b : Bool) → length (next_by m t x) ≡ length t
-    go (Room i) b = pick i x.stored
-    go Replay b = refl
-    go Full b = refl
+    go (Ok i) b = pick i x.stored
+    go (Err Replay) b = refl
+    go (Err Full) b = refl
 
 length_run : (t : List ℕ) (xs : List Item) → length (run t xs) ≡ length t
 length_run t [] = refl
@@ -69,16 +70,16 @@ keeps-next t x c salt k l h = go (meet t x.clock x.salt) refl
     pick i free false = h
 
     go : (m : Met) → meet t x.clock x.salt ≡ m → Keeps (next_by m t x) c salt k
-    go (Room i) e = pick i (room-free t x.clock x.salt i e).1.1 x.stored
-    go Replay e = h
-    go Full e = h
+    go (Ok i) e = pick i (room-free t x.clock x.salt i e).1.1 x.stored
+    go (Err Replay) e = h
+    go (Err Full) e = h
 
 keeps-run : (t : List ℕ) (xs : List Item) (c : ℕ) (salt : List ℕ) (k : ℕ) → Until c xs → Keeps t c salt k → Keeps (run t xs) c salt k
 keeps-run t [] c salt k u h = h
 keeps-run t (x ∷ xs) c salt k u h = keeps-run (next t x) xs c salt k u.1 (keeps-next t x c salt k u.0 h)
 
 -- the one that is stored
-next-stored : (t : List ℕ) (x : Item) (i : ℕ) → meet t x.clock x.salt ≡ Room i → x.stored ≡ true
+next-stored : (t : List ℕ) (x : Item) (i : ℕ) → meet t x.clock x.salt ≡ Ok i → x.stored ≡ true
     → next t x ≡ store t i x.clock x.salt
 unfolding next
 next-stored t x i m s =

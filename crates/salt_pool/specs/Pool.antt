@@ -1,14 +1,12 @@
 -- The salt pool as words: the method, then a record for each salt. Any words have a meaning; past the end a word reads as 0.
-use Rattle.std.specs.Prelude.{ℕ, ◌+◌, ◌*◌, Bool, true, false, cond, not, ◌&&◌, ◌||◌, List, [], ◌∷◌, leb, eqb, length, get_or, drop, replicate}
-use Rattle.std.proofs.Math.Option.{Option, none, some}
+use Rattle.std.specs.Prelude.{Result, Ok, Err, ℕ, ◌+◌, ◌*◌, Bool, true, false, cond, not, ◌&&◌, ◌||◌, List, [], ◌∷◌, leb, eqb, length, get_or, drop, replicate, None, Option, Some}
 use Rattle.std.proofs.lemmas.List.Edits.{sets}
 use Rattle.octets.specs.Numbers.{be}
-use Rattle.protocol.specs.declared.Numbered.{Numbered}
-use Rattle.protocol.specs.declared.Numbered.TheVariants.{Known, Unknown}
 use Rattle.protocol.specs.Method.{method_of}
 use Rattle.records.specs.Records.{current, lowest_from}
-use Rattle.salt_pool.specs.declared.Met.{Met}
-use Rattle.salt_pool.specs.declared.Met.TheVariants.{Room, Replay, Full}
+use Rattle.records.specs.declared.admission.NotAdmitted.{NotAdmitted}
+use Rattle.protocol.specs.declared.Method.{Method}
+pub use Rattle.records.specs.declared.admission.NotAdmitted.TheVariants.{Replay, Full}
 
 -- the most salts that are kept at a time
 abbrev pub capacity : ℕ
@@ -36,9 +34,9 @@ lawful t method = eqb (length t) pool_words && eqb (get_or t 0 0) method
 
 -- ---- making: the method and zeros
 
-abbrev pub known : Numbered → Bool
-known (Known m) = true
-known Unknown = false
+abbrev pub known : Option Method → Bool
+known (Some m) = true
+known None = false
 
 abbrev pub make_lawful : ℕ → List ℕ → Bool
 make_lawful method t = eqb (length t) pool_words && known (method_of method)
@@ -78,10 +76,14 @@ free_place t clock = lowest_from (λ i. not (kept t clock i)) 0 capacity
 
 -- ---- what a salt meets
 
+-- room for it in a record, itself, or no room
+abbrev pub Met : Type 0
+Met = Result ℕ NotAdmitted
+
 abbrev pub meet_by : Option ℕ → Option ℕ → Met
-meet_by (some i) free = Replay
-meet_by none (some i) = Room i
-meet_by none none = Full
+meet_by (Some i) free = Err Replay
+meet_by None (Some i) = Ok i
+meet_by None None = Err Full
 
 unfoldable pub meet : List ℕ → (clock : ℕ) → List ℕ → Met
 meet t clock salt = meet_by (salt_place t clock (salt_words salt) (length salt)) (free_place t clock)

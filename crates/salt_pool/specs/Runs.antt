@@ -1,8 +1,9 @@
 -- What the pool's answers mean, and salts one after the other: a salt that was stored is a replay as long as it is kept.
 -- Assumes nothing.
 use Rattle.std.specs.Prelude.{ℕ, ◌+◌, ◌<◌, ◌≤◌, Bool, true, false, cond, List, [], ◌∷◌, ◌++◌, ◌↔◌, ◌≡◌, length}
-use Rattle.salt_pool.specs.declared.Met.{Met}
-use Rattle.salt_pool.specs.declared.Met.TheVariants.{Room, Replay, Full}
+use Rattle.salt_pool.specs.Pool.{Met}
+use Rattle.std.specs.Prelude.{Ok, Err}
+use Rattle.salt_pool.specs.Pool.{Replay, Full}
 use Rattle.salt_pool.specs.Pool.{capacity, keep_time, pool_words, salt_words, kept, same_salt, meet, store}
 
 -- ---- the answers
@@ -24,9 +25,9 @@ AllKept t clock = (i : ℕ) → i < capacity → kept t clock i ≡ true
 
 -- when a salt meets each of the three
 pub record MeetsExactly (t : List ℕ) (clock : ℕ) (salt : List ℕ) : Type 0 where
-  pub replay : (meet t clock salt ≡ Replay) ↔ ((i : ℕ) × Keeps t clock salt i)
-  pub room : (i : ℕ) → (meet t clock salt ≡ Room i) ↔ (Unkept t clock salt × LowestFree t clock i)
-  pub full : (meet t clock salt ≡ Full) ↔ (Unkept t clock salt × AllKept t clock)
+  pub replay : (meet t clock salt ≡ Err Replay) ↔ ((i : ℕ) × Keeps t clock salt i)
+  pub room : (i : ℕ) → (meet t clock salt ≡ Ok i) ↔ (Unkept t clock salt × LowestFree t clock i)
+  pub full : (meet t clock salt ≡ Err Full) ↔ (Unkept t clock salt × AllKept t clock)
 
 -- ---- runs
 
@@ -38,9 +39,9 @@ pub record Item : Type 0 where
 
 -- the pool after one
 abbrev pub next_by : Met → List ℕ → Item → List ℕ
-next_by (Room i) t x = cond x.stored (store t i x.clock x.salt) t
-next_by Replay t x = t
-next_by Full t x = t
+next_by (Ok i) t x = cond x.stored (store t i x.clock x.salt) t
+next_by (Err Replay) t x = t
+next_by (Err Full) t x = t
 
 unfoldable pub next : List ℕ → Item → List ℕ
 next t x = next_by (meet t x.clock x.salt) t x
@@ -67,13 +68,13 @@ Forward c (x ∷ xs) = (c ≤ x.clock) × Forward x.clock xs
 abbrev pub NeverTwice : Type 0
 NeverTwice =
     (t : List ℕ) (before between : List Item) (x : Item) (i c : ℕ) → length t ≡ pool_words
-    → meet (run t before) x.clock x.salt ≡ Room i → x.stored ≡ true → Until c between → c ≤ x.clock + keep_time
-    → meet (run t (before ++ x ∷ between)) c x.salt ≡ Replay
+    → meet (run t before) x.clock x.salt ≡ Ok i → x.stored ≡ true → Until c between → c ≤ x.clock + keep_time
+    → meet (run t (before ++ x ∷ between)) c x.salt ≡ Err Replay
 
 -- The same where y arrives with the salt of x, and the clock never went back in between.
 abbrev pub NeverTwiceForward : Type 0
 NeverTwiceForward =
     (t : List ℕ) (before between : List Item) (x y : Item) (i : ℕ) → length t ≡ pool_words
-    → meet (run t before) x.clock x.salt ≡ Room i → x.stored ≡ true → Forward x.clock (between ++ y ∷ [])
+    → meet (run t before) x.clock x.salt ≡ Ok i → x.stored ≡ true → Forward x.clock (between ++ y ∷ [])
     → y.salt ≡ x.salt → y.clock ≤ x.clock + keep_time
-    → meet (run t (before ++ x ∷ between)) y.clock y.salt ≡ Replay
+    → meet (run t (before ++ x ∷ between)) y.clock y.salt ≡ Err Replay

@@ -2,11 +2,12 @@
 // have a meaning, so nothing here assumes an invariant of the pool.
 #![tactic(auto)]
 
-ghost use Rattle.std.specs.Prelude.{◌≡◌, ◌<◌, length};
-ghost use Rattle.std.proofs.Math.Option.{get_or};
+ghost use Rattle.std.specs.Prelude.{◌≡◌, ◌<◌, ◌&&◌, length};
+ghost use Rattle.records.specs.Records.{Finds};
 ghost use Rattle.salt_pool.specs.Pool.{capacity, pool_words, lawful, make_lawful, made, salt_words, kept, same_salt, salt_place, free_place, meet as meet_of, store as store_of};
 
-use protocol::{Method, Numbered};
+use protocol::Method;
+pub use records::NotAdmitted;
 
 pub const SALTS: usize = 256;
 
@@ -28,16 +29,9 @@ const SALT_2: usize = 4;
 
 const SALT_3: usize = 5;
 
-// What a salt meets: room for it in a record, itself, or no room.
-#[derive(Clone, Copy)]
-pub enum Met {
-    Room(usize),
-    Replay,
-    Full,
-}
-
 // ---- the records
 
+#[tactic(auto, unfolding(crate::specs::Pool::kept))]
 fn is_kept(pool: &[u64], clock: u64, r: usize) -> bool
     requires { (length pool.now ≡ pool_words) × (r < capacity) }
     ensures { result ≡ kept pool.now clock r }
@@ -59,56 +53,38 @@ fn salt_words(salt: &[u8]) -> [u64; 4]
 }
 
 // Whether record r has the salt, of n bytes.
+#[tactic(auto, unfolding(crate::specs::Pool::same_salt))]
 fn has_salt(pool: &[u64], r: usize, w: [u64; 4], n: usize) -> bool
     requires { (length pool.now ≡ pool_words) × (r < capacity) }
     ensures { result ≡ same_salt w n pool.now r }
 {
     let at = 1 + r * WORDS;
-    if pool[at + SALT_0] != w[0] {
-        return false;
-    }
-    if pool[at + SALT_1] != w[1] {
-        return false;
-    }
-    if n <= 16 {
-        return true;
-    }
-    if pool[at + SALT_2] != w[2] {
-        return false;
-    }
-    pool[at + SALT_3] == w[3]
+    let first = pool[at + SALT_0] == w[0] && pool[at + SALT_1] == w[1];
+    first && (n <= 16 || pool[at + SALT_2] == w[2] && pool[at + SALT_3] == w[3])
 }
 
-// The record that keeps the salt, or SALTS.
-fn find(pool: &[u64], clock: u64, w: [u64; 4], n: usize) -> usize
-    requires { length pool.now ≡ pool_words }
-    ensures { result ≡ get_or (salt_place pool.now clock w n) capacity }
+// Whether record r keeps the salt.
+fn keeps(pool: &[u64], clock: u64, r: usize, w: [u64; 4], n: usize) -> bool
+    requires { (length pool.now ≡ pool_words) × (r < capacity) }
+    ensures { result ≡ (kept pool.now clock r && same_salt w n pool.now r) }
 {
-    let mut r: usize = 0;
-    while r < SALTS {
-        if is_kept(pool, clock, r) {
-            if has_salt(pool, r, w, n) {
-                return r;
-            }
-        }
-        r += 1;
-    }
-    r
+    is_kept(pool, clock, r) && has_salt(pool, r, w, n)
 }
 
-// The lowest record that is not kept, or SALTS.
-fn find_room(pool: &[u64], clock: u64) -> usize
+// The record that keeps the salt.
+fn find(pool: &[u64], clock: u64, w: [u64; 4], n: usize) -> Option<usize>
     requires { length pool.now ≡ pool_words }
-    ensures { result ≡ get_or (free_place pool.now clock) capacity }
+    ensures { Finds capacity (salt_place pool.now clock w n) result }
 {
-    let mut r: usize = 0;
-    while r < SALTS {
-        if !is_kept(pool, clock, r) {
-            return r;
-        }
-        r += 1;
-    }
-    r
+    (0..SALTS).find(|r| keeps(pool, clock, *r, w, n))
+}
+
+// The lowest record that is not kept.
+fn find_room(pool: &[u64], clock: u64) -> Option<usize>
+    requires { length pool.now ≡ pool_words }
+    ensures { Finds capacity (free_place pool.now clock) result }
+{
+    (0..SALTS).find(|r| !is_kept(pool, clock, *r))
 }
 
 // ---- the pool
@@ -117,26 +93,18 @@ fn find_room(pool: &[u64], clock: u64) -> usize
 pub fn is_lawful(pool: &[u64], method: u64) -> bool
     ensures { result ≡ lawful pool.now method }
 {
-    if pool.len() != POOL {
-        return false;
-    }
-    pool[0] == method
+    pool.len() == POOL && pool[0] == method
 }
 
-// What a salt of 16 or 32 bytes meets. Nothing is written.
-pub fn look_up(pool: &[u64], clock: u64, salt: &[u8]) -> Met
+// The record for a salt of 16 or 32 bytes that is new. Nothing is written.
+pub fn look_up(pool: &[u64], clock: u64, salt: &[u8]) -> Result<usize, NotAdmitted>
     requires { length pool.now ≡ pool_words }
     ensures { result ≡ meet_of pool.now clock salt.now }
 {
-    let w = salt_words(salt);
-    if find(pool, clock, w, salt.len()) < SALTS {
-        return Met::Replay;
+    if find(pool, clock, salt_words(salt), salt.len()).is_some() {
+        return Err(NotAdmitted::Replay);
     }
-    let r = find_room(pool, clock);
-    if r < SALTS {
-        return Met::Room(r);
-    }
-    Met::Full
+    find_room(pool, clock).ok_or(NotAdmitted::Full)
 }
 
 // Writes a salt into record r, its time the clock. Every other word stays.
@@ -158,11 +126,11 @@ pub fn make(method: u64, pool: &mut [u64]) -> bool
         return false;
     }
     match Method::numbered(method) {
-        Numbered::Known(_) => {
+        Some(_) => {
             records::clear(pool);
             pool[0] = method;
             true
         }
-        Numbered::Unknown => false,
+        None => false,
     }
 }

@@ -1,10 +1,10 @@
 -- The book accepts no byte string twice: a page outlives the 60 seconds in which one of its datagrams is timely.
 -- Assumes nothing.
+use Rattle.std.specs.Prelude.{None, Option, Some}
 use mathlib.Core.Path.{◌≡◌, refl, sym, ap, ◌∙◌, subst, subst₂}
 use mathlib.Core.Logic.{◌≢◌}
 use mathlib.Core.Bool.{Bool, true, false, cond, ◌||◌, false≢true, and-false}
 use mathlib.Core.List.{List, [], ◌∷◌}
-use mathlib.Core.Option.{Option, none, some}
 use Prim.Native.Nat.{ℕ, suc, ◌+◌, ◌≤◌}
 use native.Mathlib.Omega.{arith}
 use lib.Dec.{ltb, eqb}
@@ -21,7 +21,7 @@ use Rattle.session_book.proofs.Swap.{made, page-turn, accept-alive, new-alive}
 -- At the reading v the book has a page alive for the ID, which accepted p, and has had a datagram at t or later.
 record Knows (R : ℕ) (b : List Page) (v t id p : ℕ) : Type 0 where
   it : Page
-  is_it : page R v id b ≡ some it
+  is_it : page R v id b ≡ Some it
   has : member p it.accepted ≡ true
   below : p ≤ it.h
   since : t ≤ it.last
@@ -141,7 +141,7 @@ module _ {H : Type 0} (decide : Call → Decision H) (stamped : Stamped decide) 
 
       by : (o : Option Page) → page R c.clock i b ≡ o → (z : Bool) → is_opened (tell (judge_by o z c.clock c.peer i x) c hd pl).answer ≡ true
           → Knows R (turn (judge_by o z c.clock c.peer i x) i b) c.clock c.clock i x
-      by (some q) e z f = pick (fresh q x) f
+      by (Some q) e z f = pick (fresh q x) f
         where
           now : Page
           now = accept c.clock c.peer i x q
@@ -158,8 +158,8 @@ module _ {H : Type 0} (decide : Call → Decision H) (stamped : Stamped decide) 
                 since = omega arith;
               }
           pick false f = absurd (false≢true f)
-      by none e true f = absurd (false≢true f)
-      by none e false f =
+      by None e true f = absurd (false≢true f)
+      by None e false f =
           let now = new_page c.clock c.peer i x in
           record {
             it = now;

@@ -1,10 +1,12 @@
 -- The third part of demand 3: the counts of a session alive are those of its calls since it began. Call by call, for the pages of
 -- the book, which the table follows. Assumes nothing.
+use Rattle.std.specs.Prelude.{None, Option, Some}
+use Rattle.std.specs.Option.{option_map}
+use Rattle.std.proofs.lemmas.Option.{none-some, same_Some}
 use mathlib.Core.Path.{◌≡◌, refl, sym, ap, ap₂, ◌∙◌, subst, subst₂}
 use mathlib.Core.Logic.{◌≢◌}
 use mathlib.Core.Bool.{Bool, true, false, cond, ◌&&◌, true≢false, and-false}
 use mathlib.Core.List.{List, [], ◌∷◌, ◌++◌, append-nil, append_assoc}
-use mathlib.Core.Option.{Option, none, some, none-ne-some, some-ne-none, some-injective, map}
 use Prim.Native.Nat.{ℕ, ◌+◌, ◌-◌, ◌^◌, ◌≤◌, min}
 use native.Mathlib.Omega.{arith}
 use lib.Dec.{eqb}
@@ -149,7 +151,7 @@ module _ {H : Type 0} (decide : Call → Decision H) (belongs : Call → Option 
 
   -- the pages alive have the counts of their sessions' calls
   abbrev Counted : List Call → (reading : ℕ) → Type 0
-  Counted pre u = (id : ℕ) (q : Page) → page R u id (book_at pre) ≡ some q → CountsCalls decide belongs R pre id q.acceptances q.repeats
+  Counted pre u = (id : ℕ) (q : Page) → page R u id (book_at pre) ≡ Some q → CountsCalls decide belongs R pre id q.acceptances q.repeats
 
   module _ (pre : List Call) (u : ℕ) (s : State R u (table_at pre) (book_at pre)) (ih : Counted pre u) (c : Call) (h : u ≤ c.clock) (port : PortFits c)
       (id : ℕ) (q : Page) where
@@ -166,7 +168,7 @@ module _ {H : Type 0} (decide : Call → Decision H) (belongs : Call → Option 
     Goal = CountsCalls decide belongs R (pre ++ c ∷ []) id q.acceptances q.repeats
 
     -- the session that is alive at this reading, in the table
-    session : table_session t w id ≡ map view_of_page (page R w id b)
+    session : table_session t w id ≡ option_map view_of_page (page R w id b)
     session = sessions-later R u w t b s h id
 
     -- the table answers as the book
@@ -177,7 +179,7 @@ module _ {H : Type 0} (decide : Call → Decision H) (belongs : Call → Option 
         ∙ ap (λ (o : Outcome H). o.answer) (step (decide c) R u t b c s h port).0
 
     -- a page alive now was so before this call
-    old : (p : Page) → page R w id b ≡ some p → CountsCalls decide belongs R pre id p.acceptances p.repeats
+    old : (p : Page) → page R w id b ≡ Some p → CountsCalls decide belongs R pre id p.acceptances p.repeats
     old p e = ih id p (page-earlier R u w id b p h (s.related.distinct id) e)
 
     counted-as : (so : Answer H → Bool) (x : Bool) (a : Answer H) → names (belongs c) id ≡ x → (table_outcome decide t c).answer ≡ a
@@ -185,7 +187,7 @@ module _ {H : Type 0} (decide : Call → Decision H) (belongs : Call → Option 
     counted-as so x a ex ea = ap₂ (λ (y : Bool) (z : Answer H). one (y && so z)) ex ea
 
     -- a refusal other than 8 counts nowhere
-    refused-early : (n : ℕ) → n ≢ 8 → (table_outcome decide t c).answer ≡ refused n → page R w id b ≡ some q → Goal
+    refused-early : (n : ℕ) → n ≢ 8 → (table_outcome decide t c).answer ≡ refused n → page R w id b ≡ Some q → Goal
     refused-early n not8 ea e =
         unmoved decide belongs R pre id _ _ (old q e) c (λ g. true≢false (sym g.accepted ∙ ap is_opened ea))
         (counted-as is_opened (names (belongs c) id) (refused n) refl ea ∙ ap one (and-false (names (belongs c) id)))
@@ -193,16 +195,16 @@ module _ {H : Type 0} (decide : Call → Decision H) (belongs : Call → Option 
         ∙ ap (λ (x : Bool). one (names (belongs c) id && x)) (ne_eqb n 8 not8) ∙ ap one (and-false (names (belongs c) id)))
 
     -- nor does a call of another session
-    of-another : (i : ℕ) → belongs c ≡ some i → i ≢ id → page R w id b ≡ some q → Goal
+    of-another : (i : ℕ) → belongs c ≡ Some i → i ≢ id → page R w id b ≡ Some q → Goal
     of-another i e n f =
-        unmoved decide belongs R pre id _ _ (old q f) c (λ g. n (some-injective _ _ (sym e ∙ g.its_own)))
+        unmoved decide belongs R pre id _ _ (old q f) c (λ g. n (same_Some _ _ (sym e ∙ g.its_own)))
         (counted-as is_opened false _ other refl) (counted-as is_repeat false _ other refl)
       where
         other : names (belongs c) id ≡ false
         other = ap (λ (o : Option ℕ). names o id) e ∙ ne_eqb i id n
 
     -- a call of this session that reaches the window
-    module _ (p : ℕ) (hd : H) (pl : List ℕ) (own : belongs c ≡ some id) where
+    module _ (p : ℕ) (hd : H) (pl : List ℕ) (own : belongs c ≡ Some id) where
       named-so : names (belongs c) id ≡ true
       named-so = ap (λ (o : Option ℕ). names o id) own ∙ eq-eqb id id refl
 
@@ -210,18 +212,18 @@ module _ {H : Type 0} (decide : Call → Decision H) (belongs : Call → Option 
       at r = CountsCalls decide belongs R (pre ++ c ∷ []) id r.acceptances r.repeats
 
       -- the page found is the one that was put there
-      put-there : (r : Page) → r.id ≡ id → page_alive R w r ≡ true → page R w id (r ∷ without id b) ≡ some q → at r → Goal
-      put-there r e a f g = subst at (some-injective _ _ (sym (page-head R w id r (without id b) e a) ∙ f)) g
+      put-there : (r : Page) → r.id ≡ id → page_alive R w r ≡ true → page R w id (r ∷ without id b) ≡ Some q → at r → Goal
+      put-there r e a f g = subst at (same_Some _ _ (sym (page-head R w id r (without id b) e a) ∙ f)) g
 
-      module _ (r : Page) (e : page R w id b ≡ some r) where
+      module _ (r : Page) (e : page R w id b ≡ Some r) where
         alive : page_alive R w r ≡ true
         alive = page-alive R w id b r e
 
         begun : Begins decide belongs R pre c id → ⊥
-        begun g = some-ne-none _ (sym (session ∙ ap (map view_of_page) e) ∙ g.none-alive)
+        begun g = none-some _ (sym (sym (session ∙ ap (option_map view_of_page) e) ∙ g.none-alive))
 
         has-page : (y : Bool) → (table_outcome decide t c).answer ≡ (tell (cond y (enters (accept w c.peer id p r)) (replay (refuse id p r))) c hd pl).answer
-            → page R w id (turn (cond y (enters (accept w c.peer id p r)) (replay (refuse id p r))) id b) ≡ some q → Goal
+            → page R w id (turn (cond y (enters (accept w c.peer id p r)) (replay (refuse id p r))) id b) ≡ Some q → Goal
         has-page true ea f =
             put-there (accept w c.peer id p r) refl (accept-alive R w c.peer id p r alive) f
             (accepted-more decide belongs R pre id _ _ (old r e) c begun
@@ -232,41 +234,41 @@ module _ {H : Type 0} (decide : Call → Decision H) (belongs : Call → Option 
             (counted-as is_opened true (refused 8) named-so ea) (counted-as is_repeat true (refused 8) named-so ea))
 
       -- the session begins here
-      begins-here : page R w id b ≡ none → (table_outcome decide t c).answer ≡ opened hd → at (new_page w c.peer id p)
+      begins-here : page R w id b ≡ None → (table_outcome decide t c).answer ≡ opened hd → at (new_page w c.peer id p)
       begins-here e ea =
           record {
             before = pre;
             first = c;
             since = [];
             split = refl;
-            begins = record { its_own = own; none-alive = session ∙ ap (map view_of_page) e; accepted = ap is_opened ea };
+            begins = record { its_own = own; none-alive = session ∙ ap (option_map view_of_page) e; accepted = ap is_opened ea };
             not-again = λ s₁ s₂ d f _. not-nil s₁ s₂ d f;
             accepted-so = omega arith;
             repeated-so = omega arith;
           }
 
       by-page : (o : Option Page) (x : Bool) → page R w id b ≡ o → (table_outcome decide t c).answer ≡ (tell (judge_by o x w c.peer id p) c hd pl).answer
-          → page R w id (turn (judge_by o x w c.peer id p) id b) ≡ some q → Goal
-      by-page (some r) x e ea f = has-page r e (fresh r p) ea f
-      by-page none true e ea f = absurd (none-ne-some _ (sym e ∙ f))
-      by-page none false e ea f = put-there (new_page w c.peer id p) refl (new-alive R w c.peer id p) f (begins-here e ea)
+          → page R w id (turn (judge_by o x w c.peer id p) id b) ≡ Some q → Goal
+      by-page (Some r) x e ea f = has-page r e (fresh r p) ea f
+      by-page None true e ea f = absurd (none-some _ (sym e ∙ f))
+      by-page None false e ea f = put-there (new_page w c.peer id p) refl (new-alive R w c.peer id p) f (begins-here e ea)
 
-    by-decision : (d : Decision H) → decide c ≡ d → (table_outcome decide t c).answer ≡ (outcome_by d R b c).answer → page R w id (next_by d R b c) ≡ some q → Goal
+    by-decision : (d : Decision H) → decide c ≡ d → (table_outcome decide t c).answer ≡ (outcome_by d R b c).answer → page R w id (next_by d R b c) ≡ Some q → Goal
     by-decision (early n o) e ea f = refused-early n (no8 c n o e) ea f
     by-decision (reaches i p hd pl) e ea f = by_name (eqb i id) refl
       where
         by_name : (x : Bool) → eqb i id ≡ x → Goal
         by_name true g =
             let same : i ≡ id = eqb-true i id g in
-            by-page p hd pl (named c i p hd pl e ∙ ap some same) (page R w id b) (crowded R w b) refl
+            by-page p hd pl (named c i p hd pl e ∙ ap Some same) (page R w id b) (crowded R w b) refl
             (subst (λ (j : ℕ). (table_outcome decide t c).answer ≡ (tell (judge R b w c.peer j p) c hd pl).answer) same ea)
-            (subst (λ (j : ℕ). page R w id (turn (judge R b w c.peer j p) j b) ≡ some q) same f)
+            (subst (λ (j : ℕ). page R w id (turn (judge R b w c.peer j p) j b) ≡ Some q) same f)
         by_name false g =
             let other : i ≢ id = eqb-false i id g in
             of-another i (named c i p hd pl e) other
             (sym (page-turn R w i id (judge R b w c.peer i p) (made R b w c.peer i p) b other) ∙ f)
 
-    after_call : page R w id (book_next decide R b c) ≡ some q → Goal
+    after_call : page R w id (book_next decide R b c) ≡ Some q → Goal
     after_call e = by-decision (decide c) refl answers e
 
   -- ---- a run
@@ -301,16 +303,16 @@ calls-counted decide belongs named no8 R least greatest cs ports forward id v e 
   where
     k : Behind decide belongs named no8 R least greatest cs (last_reading cs)
     k =
-        behind decide belongs named no8 R least greatest cs [] 0 (new-state R, λ i q f. absurd (none-ne-some _ f)) ports
+        behind decide belongs named no8 R least greatest cs [] 0 (new-state R, λ i q f. absurd (none-some _ f)) ports
         (each-zero (clocks cs), forward)
 
     session : table_session (table_after decide (new_table R) cs) (last_reading cs) id
-        ≡ map view_of_page (page R (last_reading cs) id (book_after decide R [] cs))
+        ≡ option_map view_of_page (page R (last_reading cs) id (book_after decide R [] cs))
     session = sessions R (last_reading cs) (table_after decide (new_table R) cs) (book_after decide R [] cs) k.0 id
 
     go : (o : Option Page) → page R (last_reading cs) id (book_after decide R [] cs) ≡ o
         → CountsCalls decide belongs R cs id v.accepted v.repeats
-    go none f = absurd (none-ne-some _ (sym (session ∙ ap (map view_of_page) f) ∙ e))
-    go (some q) f =
+    go None f = absurd (none-some _ (sym (session ∙ ap (option_map view_of_page) f) ∙ e))
+    go (Some q) f =
         subst (λ (x : View). CountsCalls decide belongs R cs id x.accepted x.repeats)
-        (some-injective _ _ (sym (session ∙ ap (map view_of_page) f) ∙ e)) (k.1 id q f)
+        (same_Some _ _ (sym (session ∙ ap (option_map view_of_page) f) ∙ e)) (k.1 id q f)

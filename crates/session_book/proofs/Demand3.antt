@@ -1,6 +1,6 @@
 -- Demand 3, all its parts, for whatever the arguments of a call decide. Assumes nothing.
+use Rattle.std.specs.Prelude.{Option}
 use Prim.Native.Nat.{ℕ}
-use mathlib.Core.Option.{Option}
 use Rattle.session_book.specs.Call.{Call, Decision}
 use Rattle.session_book.specs.Demand3.{Named, FollowsBook, Rearrangement}
 use Rattle.session_book.specs.Counts.{NoEarlyEight, CallsCounted}

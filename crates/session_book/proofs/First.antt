@@ -1,8 +1,10 @@
 -- The first half of demand 3: every run of the table is a run of the book. Assumes nothing.
+use Rattle.std.specs.Prelude.{None, Option, Some}
+use Rattle.std.specs.Option.{option_map}
+use Rattle.std.proofs.lemmas.Option.{none-some}
 use mathlib.Core.Path.{◌≡◌, refl, sym, ap, ap₂, ◌∙◌, subst, fun_ext}
 use mathlib.Core.Bool.{Bool, true, false, cond, not, ◌&&◌, true≢false}
 use mathlib.Core.List.{List, [], ◌∷◌}
-use mathlib.Core.Option.{Option, none, some, none-ne-some, map}
 use Prim.Native.Nat.{ℕ, zero, suc, ◌-◌, ◌≤◌, zero-le}
 use native.Mathlib.Omega.{arith}
 use lib.Dec.{leb, ltb, eqb}
@@ -38,7 +40,7 @@ new-state R =
       retains = refl;
       related = record {
         forth = λ i l e. absurd (true≢false (sym e ∙ new-dead R 0 i));
-        back = λ id q e. absurd (none-ne-some _ e);
+        back = λ id q e. absurd (none-some _ e);
         unique = λ i j id _ _ e _. absurd (true≢false (sym (holds-live R 0 id (record_at (new_table R) i) e) ∙ new-dead R 0 i));
         counts = λ u _. nothing (λ i. live R u (record_at (new_table R) i)) 0 capacity (new-dead R u);
         distinct = λ id. zero-le;
@@ -95,20 +97,20 @@ session-same r q m = λ k. record { h = m.h k; marked = marked k; last = m.last 
 pub sessions : (R u : ℕ) (t : List ℕ) (b : List Page) → State R u t b → (id : ℕ) → table_session t u id ≡ book_session R b u id
 unfolding session_place
 sessions R u t b s id =
-    subst (λ (r : ℕ). map (λ i. view_of_record (record_at t i)) (lowest (λ i. holds r u id (record_at t i))) ≡ book_session R b u id) (sym s.retains)
+    subst (λ (r : ℕ). option_map (λ i. view_of_record (record_at t i)) (lowest (λ i. holds r u id (record_at t i))) ≡ book_session R b u id) (sym s.retains)
     (go (lowest (λ i. holds R u id (record_at t i))) refl)
   where
-    go : (o : Option ℕ) → lowest (λ i. holds R u id (record_at t i)) ≡ o → map (λ i. view_of_record (record_at t i)) o ≡ book_session R b u id
-    go (some i) e =
+    go : (o : Option ℕ) → lowest (λ i. holds R u id (record_at t i)) ≡ o → option_map (λ i. view_of_record (record_at t i)) o ≡ book_session R b u id
+    go (Some i) e =
         let k = lowest-found (λ i. holds R u id (record_at t i)) 0 capacity i e in
         let f = s.related.forth i (omega (arith, k.1)) (holds-live R u id (record_at t i) k.2) in
-        ap {B = Option View} some (session-same (record_at t i) f.it f.matches)
-        ∙ sym (ap (map view_of_page) (ap (λ (n : ℕ). page R u n b) (sym (holds-id R u id (record_at t i) k.2)) ∙ f.is_it))
-    go none e = pick (page R u id b) refl
+        ap {B = Option View} Some (session-same (record_at t i) f.it f.matches)
+        ∙ sym (ap (option_map view_of_page) (ap (λ (n : ℕ). page R u n b) (sym (holds-id R u id (record_at t i) k.2)) ∙ f.is_it))
+    go None e = pick (page R u id b) refl
       where
-        pick : (o : Option Page) → page R u id b ≡ o → none ≡ book_session R b u id
-        pick none f = sym (ap (map view_of_page) f)
-        pick (some q) f =
+        pick : (o : Option Page) → page R u id b ≡ o → None ≡ book_session R b u id
+        pick None f = sym (ap (option_map view_of_page) f)
+        pick (Some q) f =
             let k = s.related.back id q f in
             absurd (true≢false (sym k.has ∙ lowest-none (λ i. holds R u id (record_at t i)) 0 capacity e k.at zero-le (omega (arith, k.inside))))
 

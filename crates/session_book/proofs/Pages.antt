@@ -1,9 +1,10 @@
 -- The book's pages: lookup, count and removal, and books that differ only in the order of their pages. Assumes nothing.
+use Rattle.std.specs.Prelude.{None, Some}
+use Rattle.std.proofs.lemmas.Option.{none-some, same_Some}
 use mathlib.Core.Path.{◌≡◌, refl, sym, ap, ap₂, ◌∙◌, subst}
 use mathlib.Core.Logic.{◌≢◌}
 use mathlib.Core.Bool.{Bool, true, false, cond, ◌&&◌, and-eq-true_iff}
 use mathlib.Core.List.{List, [], ◌∷◌}
-use mathlib.Core.Option.{none, some, none-ne-some, some-ne-none, some-injective}
 use Prim.Native.Nat.{ℕ, ◌+◌, ◌≤◌, zero-le}
 use native.Mathlib.Omega.{arith}
 use lib.Dec.{eqb}
@@ -19,7 +20,7 @@ page-without R t id id' (q ∷ b) n = go (eqb q.id id') refl (page-without R t i
     go : (x : Bool) → eqb q.id id' ≡ x → page R t id (without id' b) ≡ page R t id b
         → page R t id (cond x (without id' b) (q ∷ without id' b)) ≡ page R t id (q ∷ b)
     go true e ih = rw (ne_eqb q.id id (λ h. n (sym (eqb-true _ _ e) ∙ h))) ih
-    go false e ih = ap (cond (eqb q.id id && page_alive R t q) (some q)) ih
+    go false e ih = ap (cond (eqb q.id id && page_alive R t q) (Some q)) ih
 
 pub without-comm : (i j : ℕ) (b : List Page) → without i (without j b) ≡ without j (without i b)
 without-comm i j [] = refl
@@ -52,47 +53,47 @@ living-split R t id (q ∷ b) = go (eqb q.id id) refl (living-split R t id b)
     go true e ih = omega arith
     go false e ih = omega arith
 
-pub living_of-none : (R t id : ℕ) (b : List Page) → page R t id b ≡ none → living_of R t id b ≡ 0
+pub living_of-none : (R t id : ℕ) (b : List Page) → page R t id b ≡ None → living_of R t id b ≡ 0
 living_of-none R t id [] e = refl
 living_of-none R t id (q ∷ b) e = go (living_of-none R t id b) (eqb q.id id && page_alive R t q) e
   where
-    go : (page R t id b ≡ none → living_of R t id b ≡ 0) → (x : Bool) → cond x (some q) (page R t id b) ≡ none → one x + living_of R t id b ≡ 0
-    go ih true f = absurd (some-ne-none _ f)
+    go : (page R t id b ≡ None → living_of R t id b ≡ 0) → (x : Bool) → cond x (Some q) (page R t id b) ≡ None → one x + living_of R t id b ≡ 0
+    go ih true f = absurd (none-some _ (sym f))
     go ih false f = omega (arith, ih f)
 
-pub living_of-some : (R t id : ℕ) (b : List Page) (q : Page) → page R t id b ≡ some q → 1 ≤ living_of R t id b
-living_of-some R t id [] p e = absurd (none-ne-some _ e)
+pub living_of-some : (R t id : ℕ) (b : List Page) (q : Page) → page R t id b ≡ Some q → 1 ≤ living_of R t id b
+living_of-some R t id [] p e = absurd (none-some _ e)
 living_of-some R t id (q ∷ b) p e = go (living_of-some R t id b p) (eqb q.id id && page_alive R t q) e
   where
-    go : (page R t id b ≡ some p → 1 ≤ living_of R t id b) → (x : Bool) → cond x (some q) (page R t id b) ≡ some p → 1 ≤ one x + living_of R t id b
+    go : (page R t id b ≡ Some p → 1 ≤ living_of R t id b) → (x : Bool) → cond x (Some q) (page R t id b) ≡ Some p → 1 ≤ one x + living_of R t id b
     go ih true f = omega arith
     go ih false f = omega (arith, ih f)
 
-pub page-alive : (R t id : ℕ) (b : List Page) (q : Page) → page R t id b ≡ some q → page_alive R t q ≡ true
-page-alive R t id [] q e = absurd (none-ne-some _ e)
+pub page-alive : (R t id : ℕ) (b : List Page) (q : Page) → page R t id b ≡ Some q → page_alive R t q ≡ true
+page-alive R t id [] q e = absurd (none-some _ e)
 page-alive R t id (x ∷ b) q e = go (page-alive R t id b q) (eqb x.id id && page_alive R t x) refl e
   where
-    go : (page R t id b ≡ some q → page_alive R t q ≡ true) → (y : Bool) → eqb x.id id && page_alive R t x ≡ y
-        → cond y (some x) (page R t id b) ≡ some q → page_alive R t q ≡ true
-    go ih true f g = ap (λ (w : Page). page_alive R t w) (sym (some-injective _ _ g)) ∙ ((and-eq-true_iff (eqb x.id id) _).0 f).1
+    go : (page R t id b ≡ Some q → page_alive R t q ≡ true) → (y : Bool) → eqb x.id id && page_alive R t x ≡ y
+        → cond y (Some x) (page R t id b) ≡ Some q → page_alive R t q ≡ true
+    go ih true f g = ap (λ (w : Page). page_alive R t w) (sym (same_Some _ _ g)) ∙ ((and-eq-true_iff (eqb x.id id) _).0 f).1
     go ih false f g = ih g
 
 -- a page in front
-pub page-head : (R t id : ℕ) (q : Page) (b : List Page) → q.id ≡ id → page_alive R t q ≡ true → page R t id (q ∷ b) ≡ some q
-page-head R t id q b e a = ap₂ (λ (x y : Bool). cond (x && y) (some q) (page R t id b)) (eq-eqb q.id id e) a
+pub page-head : (R t id : ℕ) (q : Page) (b : List Page) → q.id ≡ id → page_alive R t q ≡ true → page R t id (q ∷ b) ≡ Some q
+page-head R t id q b e a = ap₂ (λ (x y : Bool). cond (x && y) (Some q) (page R t id b)) (eq-eqb q.id id e) a
 
 pub dead-after : (R t u : ℕ) (q : Page) → t ≤ u → page_alive R t q ≡ false → page_alive R u q ≡ false
 dead-after R t u q h e = lt-leb u (until R q) (omega (arith, leb-false t (until R q) e))
 
 -- the page found at one reading is the one found later, if it is alive then
-pub page-later : (R t u id : ℕ) (b : List Page) (q : Page) → t ≤ u → page R t id b ≡ some q → page_alive R u q ≡ true → page R u id b ≡ some q
+pub page-later : (R t u id : ℕ) (b : List Page) (q : Page) → t ≤ u → page R t id b ≡ Some q → page_alive R u q ≡ true → page R u id b ≡ Some q
 page-later R t u id [] q h e a = e
 page-later R t u id (x ∷ b) q h e a = go (page-later R t u id b q h) (eqb x.id id) (page_alive R t x) refl e
   where
-    go : (page R t id b ≡ some q → page_alive R u q ≡ true → page R u id b ≡ some q) → (y z : Bool) → page_alive R t x ≡ z
-        → cond (y && z) (some x) (page R t id b) ≡ some q → cond (y && page_alive R u x) (some x) (page R u id b) ≡ some q
+    go : (page R t id b ≡ Some q → page_alive R u q ≡ true → page R u id b ≡ Some q) → (y z : Bool) → page_alive R t x ≡ z
+        → cond (y && z) (Some x) (page R t id b) ≡ Some q → cond (y && page_alive R u x) (Some x) (page R u id b) ≡ Some q
     go ih true true f g =
-        let s : x ≡ q = some-injective _ _ g in rw (ap (page_alive R u) s ∙ a) g
+        let s : x ≡ q = same_Some _ _ g in rw (ap (page_alive R u) s ∙ a) g
     go ih true false f g = rw (dead-after R t u x h f) (ih g a)
     go ih false z f g = ih g a
 
@@ -137,11 +138,11 @@ distinct-put q b d id = go (eqb q.id id) refl
 pub page-put : (R t id : ℕ) (q : Page) (b : List Page) → q.id ≢ id → page R t id (q ∷ without q.id b) ≡ page R t id b
 page-put R t id q b n = rw (ne_eqb q.id id n) (page-without R t id q.id b n)
 
-pub living-put-new : (R t : ℕ) (q : Page) (b : List Page) → page_alive R t q ≡ true → page R t q.id b ≡ none
+pub living-put-new : (R t : ℕ) (q : Page) (b : List Page) → page_alive R t q ≡ true → page R t q.id b ≡ None
     → living R t (q ∷ without q.id b) ≡ 1 + living R t b
 living-put-new R t q b a e = rw a (omega (arith, living-split R t q.id b, living_of-none R t q.id b e))
 
-pub living-put-old : (R t : ℕ) (q r : Page) (b : List Page) → Distinct b → page_alive R t q ≡ true → page R t q.id b ≡ some r
+pub living-put-old : (R t : ℕ) (q r : Page) (b : List Page) → Distinct b → page_alive R t q ≡ true → page R t q.id b ≡ Some r
     → living R t (q ∷ without q.id b) ≡ living R t b
 living-put-old R t q r b d a e =
     rw a (omega (arith, living-split R t q.id b, living_of-some R t q.id b r e, living_of-held R t q.id b, d q.id))
@@ -160,12 +161,12 @@ same_refl (q ∷ b) = skip (same_refl b)
 
 pub page-same : (R t id : ℕ) {b b' : List Page} → Same b b' → page R t id b ≡ page R t id b'
 page-same R t id nil = refl
-page-same R t id (skip {q = q} s) = ap (cond (eqb q.id id && page_alive R t q) (some q)) (page-same R t id s)
+page-same R t id (skip {q = q} s) = ap (cond (eqb q.id id && page_alive R t q) (Some q)) (page-same R t id s)
 page-same R t id (swap {q = q} {r = r} {b = b} n) =
     go (eqb q.id id && page_alive R t q) (eqb r.id id && page_alive R t r) refl refl
   where
     go : (x y : Bool) → eqb q.id id && page_alive R t q ≡ x → eqb r.id id && page_alive R t r ≡ y
-        → cond x (some q) (cond y (some r) (page R t id b)) ≡ cond y (some r) (cond x (some q) (page R t id b))
+        → cond x (Some q) (cond y (Some r) (page R t id b)) ≡ cond y (Some r) (cond x (Some q) (page R t id b))
     go true true e f =
         absurd (n (eqb-true _ _ ((and-eq-true_iff (eqb q.id id) _).0 e).0 ∙ sym (eqb-true _ _ ((and-eq-true_iff (eqb r.id id) _).0 f).0)))
     go true false e f = refl

@@ -1,9 +1,9 @@
 -- The book's part of the rearrangement claim: the positions of the calls, and the theorem. Assumes nothing.
+use Rattle.std.specs.Prelude.{Option, Some}
 use mathlib.Core.Path.{◌≡◌, refl, sym, ap, ◌∙◌, subst}
 use mathlib.Core.Logic.{◌≢◌}
 use mathlib.Core.Bool.{Bool, true, false}
 use mathlib.Core.List.{List, [], ◌∷◌, map}
-use mathlib.Core.Option.{Option, some}
 use Prim.Native.Nat.{ℕ, zero, suc, ◌+◌, ◌≤◌, ◌<◌, zero-le}
 use native.Mathlib.Nat.{le_of_suc-le-suc}
 use native.Mathlib.Omega.{arith}
@@ -143,7 +143,7 @@ module _ {H : Type 0} (decide : Call → Decision H) (belongs : Call → Option 
         (pairs-unmap ◌≤◌ (λ (c : Call). c.clock) (map (call_at cs) numbers)
         (subst (λ (l : List Call). Pairs ◌≤◌ (clocks l)) (sym calls) forward))))
         (pairs-both (λ i j. (call_at cs i).clock ≤ (call_at cs j).clock)
-        (λ i j. (id : ℕ) → belongs (call_at cs i) ≡ some id → belongs (call_at cs j) ≡ some id → i < j) order
+        (λ i j. (id : ℕ) → belongs (call_at cs i) ≡ Some id → belongs (call_at cs j) ≡ Some id → i < j) order
         (pairs-unmap (λ c d. c.clock ≤ d.clock) (call_at cs) order
         (pairs-unmap ◌≤◌ (λ (c : Call). c.clock) (map (call_at cs) order) (subst (Pairs ◌≤◌) (sym re.same_clocks) forward)))
         re.sessions_in_order)

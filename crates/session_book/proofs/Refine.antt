@@ -1,10 +1,11 @@
 -- The table's records and the book's pages: what holds between them at a clock reading, that it still holds later, and that it
 -- holds after an acceptance. `ρ i` is record i. Assumes nothing.
+use Rattle.std.specs.Prelude.{None, Option, Some}
+use Rattle.std.proofs.lemmas.Option.{none-some, same_Some}
 use mathlib.Core.Path.{◌≡◌, refl, sym, ap, ap₂, ◌∙◌, subst}
 use mathlib.Core.Logic.{◌≢◌}
 use mathlib.Core.Bool.{Bool, true, false, cond, not, ◌&&◌, true≢false, and-eq-true_iff}
 use mathlib.Core.List.{List, [], ◌∷◌}
-use mathlib.Core.Option.{Option, none, some, none-ne-some, some-ne-none, some-injective}
 use Prim.Native.Nat.{ℕ, ◌+◌, ◌≤◌, ◌<◌, zero-le}
 use native.Mathlib.Omega.{arith}
 use lib.Dec.{eqb, leb}
@@ -30,40 +31,40 @@ pub alive-same : (R u : ℕ) (r : Record) (q : Page) → Match r q → alive R u
 alive-same R u r q m = ap (alive R u) m.last
 
 -- no page at one reading, none later
-pub living_of-none-later : (R t u id : ℕ) (b : List Page) → t ≤ u → page R t id b ≡ none → living_of R u id b ≡ 0
+pub living_of-none-later : (R t u id : ℕ) (b : List Page) → t ≤ u → page R t id b ≡ None → living_of R u id b ≡ 0
 living_of-none-later R t u id [] h e = refl
 living_of-none-later R t u id (x ∷ b) h e = go (living_of-none-later R t u id b h) (eqb x.id id) (page_alive R t x) refl e
   where
-    go : (page R t id b ≡ none → living_of R u id b ≡ 0) → (y z : Bool) → page_alive R t x ≡ z
-        → cond (y && z) (some x) (page R t id b) ≡ none → one (y && page_alive R u x) + living_of R u id b ≡ 0
-    go ih true true f g = absurd (some-ne-none _ g)
+    go : (page R t id b ≡ None → living_of R u id b ≡ 0) → (y z : Bool) → page_alive R t x ≡ z
+        → cond (y && z) (Some x) (page R t id b) ≡ None → one (y && page_alive R u x) + living_of R u id b ≡ 0
+    go ih true true f g = absurd (none-some _ (sym g))
     go ih true false f g = rw (dead-after R t u x h f) (omega (arith, ih g))
     go ih false z f g = omega (arith, ih g)
 
 -- with one page for the ID, it is the one that counts
-pub living_of-some-later : (R t u id : ℕ) (b : List Page) (q : Page) → t ≤ u → held id b ≤ 1 → page R t id b ≡ some q → living_of R u id b ≡ one (page_alive R u q)
-living_of-some-later R t u id [] q h d e = absurd (none-ne-some _ e)
+pub living_of-some-later : (R t u id : ℕ) (b : List Page) (q : Page) → t ≤ u → held id b ≤ 1 → page R t id b ≡ Some q → living_of R u id b ≡ one (page_alive R u q)
+living_of-some-later R t u id [] q h d e = absurd (none-some _ e)
 living_of-some-later R t u id (x ∷ b) q h d e = go (living_of-some-later R t u id b q h) (eqb x.id id) (page_alive R t x) refl d e
   where
-    go : (held id b ≤ 1 → page R t id b ≡ some q → living_of R u id b ≡ one (page_alive R u q)) → (y z : Bool) → page_alive R t x ≡ z → one y + held id b ≤ 1
-        → cond (y && z) (some x) (page R t id b) ≡ some q → one (y && page_alive R u x) + living_of R u id b ≡ one (page_alive R u q)
+    go : (held id b ≤ 1 → page R t id b ≡ Some q → living_of R u id b ≡ one (page_alive R u q)) → (y z : Bool) → page_alive R t x ≡ z → one y + held id b ≤ 1
+        → cond (y && z) (Some x) (page R t id b) ≡ Some q → one (y && page_alive R u x) + living_of R u id b ≡ one (page_alive R u q)
     go ih true true f k g =
-        let s : one (page_alive R u x) ≡ one (page_alive R u q) = ap (λ (w : Page). one (page_alive R u w)) (some-injective _ _ g) in
+        let s : one (page_alive R u x) ≡ one (page_alive R u q) = ap (λ (w : Page). one (page_alive R u w)) (same_Some _ _ g) in
         omega (arith, living_of-held R u id b)
     go ih true false f k g = rw (dead-after R t u x h f) (omega (arith, ih (omega arith) g))
     go ih false z f k g = omega (arith, ih (omega arith) g)
 
 -- with one page for an ID, the one found later was found before
-pub page-earlier : (R t u id : ℕ) (b : List Page) (q : Page) → t ≤ u → held id b ≤ 1 → page R u id b ≡ some q → page R t id b ≡ some q
+pub page-earlier : (R t u id : ℕ) (b : List Page) (q : Page) → t ≤ u → held id b ≤ 1 → page R u id b ≡ Some q → page R t id b ≡ Some q
 page-earlier R t u id b q h d e = go (page R t id b) refl
   where
     counted : living_of R u id b ≡ one (page_alive R u q)
     counted = living_of-some-later R u u id b q (omega arith) d e
 
-    go : (o : Option Page) → page R t id b ≡ o → page R t id b ≡ some q
-    go none f =
+    go : (o : Option Page) → page R t id b ≡ o → page R t id b ≡ Some q
+    go None f =
         absurd (let z = living_of-none-later R t u id b h f in let o : one (page_alive R u q) ≡ 1 = ap one (page-alive R u id b q e) in omega (arith, counted))
-    go (some p) f = f ∙ sym later ∙ e
+    go (Some p) f = f ∙ sym later ∙ e
       where
         p-alive : (x : Bool) → page_alive R u p ≡ x → page_alive R u p ≡ true
         p-alive true g = g
@@ -71,14 +72,14 @@ page-earlier R t u id b q h d e = go (page R t id b) refl
             absurd (let z : living_of R u id b ≡ 0 = living_of-some-later R t u id b p h d f ∙ ap one g in
             let o : one (page_alive R u q) ≡ 1 = ap one (page-alive R u id b q e) in omega (arith, counted))
 
-        later : page R u id b ≡ some p
+        later : page R u id b ≡ Some p
         later = page-later R t u id b p h f (p-alive (page_alive R u p) refl)
 
 -- ---- what holds at a reading
 
 pub record Found (R t : ℕ) (r : Record) (b : List Page) : Type 0 where
   pub it : Page
-  pub is_it : page R t r.id b ≡ some it
+  pub is_it : page R t r.id b ≡ Some it
   pub matches : Match r it
   pub past : it.last ≤ t
 
@@ -89,7 +90,7 @@ pub record Held (R t id : ℕ) (ρ : ℕ → Record) : Type 0 where
 
 pub record Rel (R t : ℕ) (ρ : ℕ → Record) (b : List Page) : Type 0 where
   pub forth : (i : ℕ) → i < capacity → live R t (ρ i) ≡ true → Found R t (ρ i) b
-  pub back : (id : ℕ) (q : Page) → page R t id b ≡ some q → Held R t id ρ
+  pub back : (id : ℕ) (q : Page) → page R t id b ≡ Some q → Held R t id ρ
   pub unique : (i j id : ℕ) → i < capacity → j < capacity → holds R t id (ρ i) ≡ true → holds R t id (ρ j) ≡ true → i ≡ j
   pub counts : (u : ℕ) → t ≤ u → tally (λ i. live R u (ρ i)) 0 capacity ≡ living R u b
   pub distinct : Distinct b
@@ -140,12 +141,12 @@ later R t u ρ b h rel =
     earlier : (i id : ℕ) → holds R u id (ρ i) ≡ true → holds R t id (ρ i) ≡ true
     earlier i id e = holds_of R t id (ρ i) (live-before R t u (ρ i) h (holds-live R u id (ρ i) e)) (holds-id R u id (ρ i) e)
 
-    back : (id : ℕ) (q : Page) → page R u id b ≡ some q → Held R u id ρ
+    back : (id : ℕ) (q : Page) → page R u id b ≡ Some q → Held R u id ρ
     back id q e =
         let e' = page-earlier R t u id b q h (rel.distinct id) e in
         let k = rel.back id q e' in
         let f = rel.forth k.at k.inside (holds-live R t id (ρ k.at) k.has) in
-        let same : f.it ≡ q = some-injective _ _ (sym f.is_it ∙ ap (λ (n : ℕ). page R t n b) (holds-id R t id (ρ k.at) k.has) ∙ e') in
+        let same : f.it ≡ q = same_Some _ _ (sym f.is_it ∙ ap (λ (n : ℕ). page R t n b) (holds-id R t id (ρ k.at) k.has) ∙ e') in
         record {
           at = k.at;
           inside = k.inside;
@@ -174,7 +175,7 @@ module _ (R t : ℕ) (ρ ρ' : ℕ → Record) (b : List Page) (rel : Rel R t ρ
   found-r =
       record {
         it = q;
-        is_it = ap (λ (x : Bool). cond x (some q) (page R t r.id (without q.id b)))
+        is_it = ap (λ (x : Bool). cond x (Some q) (page R t r.id (without q.id b)))
             (ap₂ (λ (x y : Bool). x && y) (eq-eqb q.id r.id (sym m.id)) alive-now);
         matches = m;
         past = past;
@@ -202,7 +203,7 @@ module _ (R t : ℕ) (ρ ρ' : ℕ → Record) (b : List Page) (rel : Rel R t ρ
           there : Found R t (ρ j) (q ∷ without q.id b)
           there = record { it = old.it; is_it = page-put R t (ρ j).id q b differs ∙ old.is_it; matches = old.matches; past = old.past }
 
-  back' : (id : ℕ) (p : Page) → page R t id (q ∷ without q.id b) ≡ some p → Held R t id ρ'
+  back' : (id : ℕ) (p : Page) → page R t id (q ∷ without q.id b) ≡ Some p → Held R t id ρ'
   back' id p e = go (eqb q.id id) refl
     where
       go : (x : Bool) → eqb q.id id ≡ x → Held R t id ρ'

@@ -1,8 +1,9 @@
 -- How many numbers pass a test. Assumes nothing.
-use mathlib.Core.Path.{◌≡◌, refl, ap, ap₂, subst}
+use Rattle.std.specs.Prelude.{None, Some}
+use Rattle.std.proofs.lemmas.Option.{none-some}
+use mathlib.Core.Path.{◌≡◌, refl, ap, ap₂, sym, subst}
 use mathlib.Core.Logic.{◌≢◌}
 use mathlib.Core.Bool.{Bool, true, false, cond, not}
-use mathlib.Core.Option.{none, some, none-ne-some, some-ne-none}
 use Prim.Native.Nat.{ℕ, zero, suc, ◌+◌, ◌≤◌, ◌<◌, zero-le}
 use native.Mathlib.Omega.{arith}
 use lib.Dec.{eqb}
@@ -24,21 +25,21 @@ tally-le f i zero = zero-le
 tally-le f i (suc n) = omega (arith, one-le (f i), tally-le f (suc i) n)
 
 -- all pass exactly where the search for one that fails finds nothing
-pub tally-all : (f : ℕ → Bool) (i n : ℕ) → lowest_from (λ k. not (f k)) i n ≡ none → tally f i n ≡ n
+pub tally-all : (f : ℕ → Bool) (i n : ℕ) → lowest_from (λ k. not (f k)) i n ≡ None → tally f i n ≡ n
 tally-all f i zero e = refl
 tally-all f i (suc n) e = go (tally-all f (suc i) n) (f i) e
   where
-    go : (lowest_from (λ k. not (f k)) (suc i) n ≡ none → tally f (suc i) n ≡ n) → (x : Bool)
-        → cond (not x) (some i) (lowest_from (λ k. not (f k)) (suc i) n) ≡ none → one x + tally f (suc i) n ≡ suc n
+    go : (lowest_from (λ k. not (f k)) (suc i) n ≡ None → tally f (suc i) n ≡ n) → (x : Bool)
+        → cond (not x) (Some i) (lowest_from (λ k. not (f k)) (suc i) n) ≡ None → one x + tally f (suc i) n ≡ suc n
     go ih true h = omega (arith, ih h)
-    go ih false h = absurd (some-ne-none _ h)
+    go ih false h = absurd (none-some _ (sym h))
 
-pub tally-some : (f : ℕ → Bool) (i n k : ℕ) → lowest_from (λ k. not (f k)) i n ≡ some k → tally f i n < n
-tally-some f i zero k e = absurd (none-ne-some _ e)
+pub tally-some : (f : ℕ → Bool) (i n k : ℕ) → lowest_from (λ k. not (f k)) i n ≡ Some k → tally f i n < n
+tally-some f i zero k e = absurd (none-some _ e)
 tally-some f i (suc n) k e = go (tally-some f (suc i) n k) (f i) e
   where
-    go : (lowest_from (λ k. not (f k)) (suc i) n ≡ some k → tally f (suc i) n < n) → (x : Bool)
-        → cond (not x) (some i) (lowest_from (λ k. not (f k)) (suc i) n) ≡ some k → one x + tally f (suc i) n < suc n
+    go : (lowest_from (λ k. not (f k)) (suc i) n ≡ Some k → tally f (suc i) n < n) → (x : Bool)
+        → cond (not x) (Some i) (lowest_from (λ k. not (f k)) (suc i) n) ≡ Some k → one x + tally f (suc i) n < suc n
     go ih true h = omega (arith, ih h)
     go ih false h = omega (arith, tally-le f (suc i) n)
 

@@ -1,9 +1,9 @@
 -- The second half of demand 3 from the first: where every run of the table is a run of the book, calls may be rearranged.
 -- Assumes nothing.
+use Rattle.std.specs.Prelude.{Option}
+use Rattle.std.specs.Option.{option_map}
 use mathlib.Core.Path.{◌≡◌, sym, ap, ◌∙◌, subst}
 use mathlib.Core.List.{List, [], map}
-use mathlib.Core.Option
-use mathlib.Core.Option.{Option}
 use Prim.Native.Nat.{ℕ, ◌≤◌}
 use lib.ListN.{get_or}
 use Rattle.session_table.specs.Table.{new_table}
@@ -49,4 +49,4 @@ rearrangement {H} decide belongs named follows R lo hi cs ports forward room ord
         ≡ book_session R (book_after decide R [] cs) (last_reading cs) id
     pages id =
         ap (λ (l : List ℕ). book_session R (book_after decide R [] (map (call_at cs) order)) (last_of 0 l) id) re.same_clocks
-        ∙ ap (Option.map view_of_page) (sym (page-same R (last_reading cs) id (rearranged-pages decide belongs named R cs forward room' order re any)))
+        ∙ ap (option_map view_of_page) (sym (page-same R (last_reading cs) id (rearranged-pages decide belongs named R cs forward room' order re any)))

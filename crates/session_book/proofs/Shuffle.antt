@@ -1,10 +1,10 @@
 -- A rearrangement of calls in the book, moved one call at a time. A run is given by the numbers of its calls; `call i` is call
 -- number i. Assumes nothing.
+use Rattle.std.specs.Prelude.{Option, Some}
 use mathlib.Core.Path.{◌≡◌, refl, sym, ap, ap₂, ◌∙◌, subst}
 use mathlib.Core.Logic.{◌≢◌}
 use mathlib.Core.Bool.{Bool, true, false}
 use mathlib.Core.List.{List, [], ◌∷◌, ◌++◌, map}
-use mathlib.Core.Option.{Option, some}
 use Prim.Native.Nat.{ℕ, ◌+◌, ◌≤◌, ◌<◌}
 use native.Mathlib.Omega.{arith}
 use lib.Dec.{eqb}
@@ -145,7 +145,7 @@ module _ {H : Type 0} (decide : Call → Decision H) (belongs : Call → Option 
   Rising i j = (i < j) × ((call i).clock ≤ (call j).clock)
 
   abbrev pub Kept : ℕ → ℕ → Type 0
-  Kept i j = ((call i).clock ≤ (call j).clock) × ((id : ℕ) → belongs (call i) ≡ some id → belongs (call j) ≡ some id → i < j)
+  Kept i j = ((call i).clock ≤ (call j).clock) × ((id : ℕ) → belongs (call i) ≡ Some id → belongs (call j) ≡ Some id → i < j)
 
   -- x may pass y, which came before it and now comes after it
   may-pass : (y x : ℕ) → Rising y x → Kept x y → Free y x
@@ -155,7 +155,7 @@ module _ {H : Type 0} (decide : Call → Decision H) (belongs : Call → Option 
       apart (early n out) e f g = tt
       apart (reaches i p hd pl) (early n out) f g = tt
       apart (reaches i p hd pl) (reaches j q hd' pl') f g =
-          λ h. let less : x < y = k.1 i (named (call x) j q hd' pl' g ∙ ap some (sym h)) (named (call y) i p hd pl f) in omega arith
+          λ h. let less : x < y = k.1 i (named (call x) j q hd' pl' g ∙ ap Some (sym h)) (named (call y) i p hd pl f) in omega arith
 
   pub shuffle : (us ts : List ℕ) (b : List Page) → Distinct b → ((i : ℕ) → times i us ≡ times i ts) → Pairs Rising ts → Pairs Kept us
       → RoomIn ts → Gives b ts → Moved b ts us

@@ -1,9 +1,9 @@
 -- One call: the table and the book answer alike, and what holds between them holds again. Assumes nothing.
+use Rattle.std.specs.Prelude.{None, Option, Some}
 use mathlib.Core.Path.{◌≡◌, refl, sym, ap, ap₂, ◌∙◌, subst}
 use mathlib.Core.Logic.{◌≢◌}
 use mathlib.Core.Bool.{Bool, true, false, cond, not, ◌&&◌, true≢false, and-eq-true_iff}
 use mathlib.Core.List.{List, ◌∷◌}
-use mathlib.Core.Option.{Option, none, some}
 use Prim.Native.Nat.{ℕ, ◌^◌, ◌≤◌, ◌<◌, zero-le}
 use native.Mathlib.Nat.{le_refl}
 use native.Mathlib.Omega.{arith}
@@ -53,9 +53,9 @@ module _ (R u : ℕ) (t : List ℕ) (b : List Page) (rel : Rel R u (record_at t)
 
   -- the ID has a record
   known : (i : ℕ) → i < capacity → holds R u id (record_at t i) ≡ true → (free : Option ℕ)
-      → Agree (meet_by (some i) free t u a id p) (judge R b u a id p)
+      → Agree (meet_by (Some i) free t u a id p) (judge R b u a id p)
   known i l h free =
-      subst (λ (o : Option Page). Agree (meet_by (some i) free t u a id p) (judge_by o (crowded R u b) u a id p)) (sym is_page)
+      subst (λ (o : Option Page). Agree (meet_by (Some i) free t u a id p) (judge_by o (crowded R u b) u a id p)) (sym is_page)
       (subst (λ (x : Bool). Agree (cond x (stores i (accept_in u a p (record_at t i))) (W.replay i))
       (cond (fresh f.it p) (enters (accept u a id p f.it)) (B.replay (refuse id p f.it))))
       (sym (fresh-same (record_at t i) f.it f.matches p)) (go (fresh f.it p) refl))
@@ -66,7 +66,7 @@ module _ (R u : ℕ) (t : List ℕ) (b : List Page) (rel : Rel R u (record_at t)
       is_id : (record_at t i).id ≡ id
       is_id = holds-id R u id (record_at t i) h
 
-      is_page : page R u id b ≡ some f.it
+      is_page : page R u id b ≡ Some f.it
       is_page = ap (λ (n : ℕ). page R u n b) (sym is_id) ∙ f.is_it
 
       alone : (j : ℕ) → j < capacity → j ≢ i → holds R u id (record_at t j) ≡ false
@@ -100,42 +100,42 @@ module _ (R u : ℕ) (t : List ℕ) (b : List Page) (rel : Rel R u (record_at t)
           }
 
   -- the book has no room exactly where no record is free
-  room : (i : ℕ) → lowest (λ i. not (live R u (record_at t i))) ≡ some i → crowded R u b ≡ false
+  room : (i : ℕ) → lowest (λ i. not (live R u (record_at t i))) ≡ Some i → crowded R u b ≡ false
   room i f =
       let less : living R u b < capacity =
       subst (λ (n : ℕ). n < capacity) (rel.counts u (le_refl u)) (tally-some (λ j. live R u (record_at t j)) 0 capacity i f) in
       lt-leb most (living R u b) (omega arith)
 
-  no_room : lowest (λ i. not (live R u (record_at t i))) ≡ none → crowded R u b ≡ true
+  no_room : lowest (λ i. not (live R u (record_at t i))) ≡ None → crowded R u b ≡ true
   no_room f =
       let all : living R u b ≡ capacity = sym (rel.counts u (le_refl u)) ∙ tally-all (λ j. live R u (record_at t j)) 0 capacity f in
       le-leb most (living R u b) (omega arith)
 
   -- the ID has none
   unknown : ((j : ℕ) → j < capacity → holds R u id (record_at t j) ≡ false) → (free : Option ℕ) → lowest (λ i. not (live R u (record_at t i))) ≡ free
-      → Agree (meet_by none free t u a id p) (judge R b u a id p)
+      → Agree (meet_by None free t u a id p) (judge R b u a id p)
   unknown absent free e =
-      subst (λ (o : Option Page). Agree (meet_by none free t u a id p) (judge_by o (crowded R u b) u a id p)) (sym no_page) (go free e)
+      subst (λ (o : Option Page). Agree (meet_by None free t u a id p) (judge_by o (crowded R u b) u a id p)) (sym no_page) (go free e)
     where
-      no_page : page R u id b ≡ none
+      no_page : page R u id b ≡ None
       no_page = pick (page R u id b) refl
         where
-          pick : (o : Option Page) → page R u id b ≡ o → page R u id b ≡ none
-          pick none f = f
-          pick (some q) f = let k = rel.back id q f in absurd (true≢false (sym k.has ∙ absent k.at k.inside))
+          pick : (o : Option Page) → page R u id b ≡ o → page R u id b ≡ None
+          pick None f = f
+          pick (Some q) f = let k = rel.back id q f in absurd (true≢false (sym k.has ∙ absent k.at k.inside))
 
       go : (free : Option ℕ) → lowest (λ i. not (live R u (record_at t i))) ≡ free
-          → Agree (meet_by none free t u a id p) (judge_by none (crowded R u b) u a id p)
-      go (some i) f =
+          → Agree (meet_by None free t u a id p) (judge_by None (crowded R u b) u a id p)
+      go (Some i) f =
           let k = lowest-found (λ j. not (live R u (record_at t j))) 0 capacity i f in
           let dead = not-true (live R u (record_at t i)) k.2 in
           let l : i < capacity = omega (arith, k.1) in
-          subst (λ (x : Bool). Agree (stores i (new_record u a id p)) (judge_by none x u a id p)) (sym (room i f))
+          subst (λ (x : Bool). Agree (stores i (new_record u a id p)) (judge_by None x u a id p)) (sym (room i f))
           (stored i l (new_record u a id p) (new_page u a id p) (match-new u a id p) refl (new-alive R u a id p) (le_refl u) refl refl (λ j lj _. absent j lj)
           (λ e. absurd (true≢false (sym e ∙ dead)))
           (λ w g. living_of-none-later R u w id b g no_page ∙ sym (ap one (live-after R u w (record_at t i) g dead))))
-      go none f =
-          subst (λ (x : Bool). Agree W.full (judge_by none x u a id p)) (sym (no_room f))
+      go None f =
+          subst (λ (x : Bool). Agree W.full (judge_by None x u a id p)) (sym (no_room f))
           (record { says = λ c hd pl. refl; leaves = rel; same_length = refl; same_retention = refl })
 
   pub agree : Agree (meet_by (lowest (λ i. holds R u id (record_at t i))) (lowest (λ i. not (live R u (record_at t i)))) t u a id p) (judge R b u a id p)
@@ -143,8 +143,8 @@ module _ (R u : ℕ) (t : List ℕ) (b : List Page) (rel : Rel R u (record_at t)
     where
       go : (o : Option ℕ) → lowest (λ i. holds R u id (record_at t i)) ≡ o
           → Agree (meet_by o (lowest (λ i. not (live R u (record_at t i)))) t u a id p) (judge R b u a id p)
-      go (some i) e = let k = lowest-found (λ j. holds R u id (record_at t j)) 0 capacity i e in known i (omega (arith, k.1)) k.2 (lowest (λ i. not (live R u (record_at t i))))
-      go none e = unknown (λ j l. lowest-none (λ j. holds R u id (record_at t j)) 0 capacity e j zero-le (omega arith)) (lowest (λ i. not (live R u (record_at t i)))) refl
+      go (Some i) e = let k = lowest-found (λ j. holds R u id (record_at t j)) 0 capacity i e in known i (omega (arith, k.1)) k.2 (lowest (λ i. not (live R u (record_at t i))))
+      go None e = unknown (λ j l. lowest-none (λ j. holds R u id (record_at t j)) 0 capacity e j zero-le (omega arith)) (lowest (λ i. not (live R u (record_at t i)))) refl
 
 -- ---- a step of a run
 

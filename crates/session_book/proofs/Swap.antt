@@ -1,10 +1,11 @@
 -- Two calls of equal clock reading that belong to different sessions, or of which one names none, may change places in the
 -- book. Assumes nothing.
+use Rattle.std.specs.Prelude.{None, Option, Some}
+use Rattle.std.proofs.lemmas.Option.{none-some}
 use mathlib.Core.Path.{◌≡◌, refl, sym, ap, ap₂, ◌∙◌, subst, subst₂}
 use mathlib.Core.Logic.{◌≢◌}
 use mathlib.Core.Bool.{Bool, true, false, cond}
 use mathlib.Core.List.{List, ◌∷◌}
-use mathlib.Core.Option.{Option, none, some, some-ne-none}
 use Prim.Native.Nat.{ℕ, ◌+◌, ◌≤◌}
 use native.Mathlib.Omega.{arith}
 use Rattle.session_record.specs.declared.Peer.{Peer}
@@ -44,13 +45,13 @@ Made id (replay q) = q.id ≡ id
 Made id full = Unit {0}
 
 made_by : (o : Option Page) (no_room : Bool) (t : ℕ) (a : Peer) (id p : ℕ) → Made id (judge_by o no_room t a id p)
-made_by (some q) no_room t a id p = go (fresh q p)
+made_by (Some q) no_room t a id p = go (fresh q p)
   where
     go : (x : Bool) → Made id (cond x (enters (accept t a id p q)) (replay (refuse id p q)))
     go true = refl
     go false = refl
-made_by none true t a id p = tt
-made_by none false t a id p = refl
+made_by None true t a id p = tt
+made_by None false t a id p = refl
 
 pub made : (R : ℕ) (b : List Page) (t : ℕ) (a : Peer) (id p : ℕ) → Made id (judge R b t a id p)
 made R b t a id p = made_by (page R t id b) (crowded R t b) t a id p
@@ -82,34 +83,34 @@ page-turn R t i j full m b n = refl
 
 -- how many more are alive after an entry
 abbrev gain : Option Page → Bool → ℕ
-gain (some q) x = 0
-gain none true = 0
-gain none false = 1
+gain (Some q) x = 0
+gain None true = 0
+gain None false = 1
 
 living-turn : (R t i p : ℕ) (a : Peer) (b : List Page) → Distinct b
     → living R t (turn (judge R b t a i p) i b) ≡ living R t b + gain (page R t i b) (crowded R t b)
 living-turn R t i p a b d = go (page R t i b) (crowded R t b) refl
   where
-    inner : (q : Page) → page R t i b ≡ some q → (y : Bool) → living R t (turn (cond y (enters (accept t a i p q)) (replay (refuse i p q))) i b) ≡ living R t b + 0
+    inner : (q : Page) → page R t i b ≡ Some q → (y : Bool) → living R t (turn (cond y (enters (accept t a i p q)) (replay (refuse i p q))) i b) ≡ living R t b + 0
     inner q e true = omega (arith, living-put-old R t (accept t a i p q) q b d (accept-alive R t a i p q (page-alive R t i b q e)) e)
     inner q e false = omega (arith, living-put-old R t (refuse i p q) q b d (page-alive R t i b q e) e)
 
     go : (o : Option Page) (x : Bool) → page R t i b ≡ o → living R t (turn (judge_by o x t a i p) i b) ≡ living R t b + gain o x
-    go (some q) x e = inner q e (fresh q p)
-    go none true e = omega arith
-    go none false e = omega (arith, living-put-new R t (new_page t a i p) b (new-alive R t a i p) e)
+    go (Some q) x e = inner q e (fresh q p)
+    go None true e = omega arith
+    go None false e = omega (arith, living-put-new R t (new_page t a i p) b (new-alive R t a i p) e)
 
 -- what an entry depends on
-judge-room : (o : Option Page) (x y : Bool) (t : ℕ) (a : Peer) (i p : ℕ) → judge_by o x t a i p ≢ full → (o ≡ none → x ≡ false → y ≡ false)
+judge-room : (o : Option Page) (x y : Bool) (t : ℕ) (a : Peer) (i p : ℕ) → judge_by o x t a i p ≢ full → (o ≡ None → x ≡ false → y ≡ false)
     → judge_by o y t a i p ≡ judge_by o x t a i p
-judge-room (some q) x y t a i p n f = refl
-judge-room none true y t a i p n f = absurd (n refl)
-judge-room none false y t a i p n f = rw (f refl refl)
+judge-room (Some q) x y t a i p n f = refl
+judge-room None true y t a i p n f = absurd (n refl)
+judge-room None false y t a i p n f = rw (f refl refl)
 
-not-full-room : (o : Option Page) (x : Bool) (t : ℕ) (a : Peer) (i p : ℕ) → judge_by o x t a i p ≢ full → o ≡ none → x ≡ false
-not-full-room (some q) x t a i p n e = absurd (some-ne-none _ e)
-not-full-room none true t a i p n e = absurd (n refl)
-not-full-room none false t a i p n e = refl
+not-full-room : (o : Option Page) (x : Bool) (t : ℕ) (a : Peer) (i p : ℕ) → judge_by o x t a i p ≢ full → o ≡ None → x ≡ false
+not-full-room (Some q) x t a i p n e = absurd (none-some _ (sym e))
+not-full-room None true t a i p n e = absurd (n refl)
+not-full-room None false t a i p n e = refl
 
 -- where there is room for a new page, there is room with fewer alive
 crowded-less : (R t : ℕ) (b c : List Page) → living R t b ≤ living R t c → crowded R t c ≡ false → crowded R t b ≡ false
@@ -152,18 +153,18 @@ module _ (R t i j px py : ℕ) (ax ay : Peer) (b : List Page) (d : Distinct b) (
         ∙ sym (ap (λ o. judge_by o (crowded R t b₁) t ay j py) same₁)
 
     -- where both are new there is room for two
-    room : page R t i b ≡ none → crowded R t b ≡ false → crowded R t b₂ ≡ false
+    room : page R t i b ≡ None → crowded R t b ≡ false → crowded R t b₂ ≡ false
     room ex x = go (page R t j b) refl
       where
         one_more : living R t b₁ ≡ living R t b + 1
         one_more = living-turn R t i px ax b d ∙ ap₂ (λ o y. living R t b + gain o y) ex x
 
         go : (o : Option Page) → page R t j b ≡ o → crowded R t b₂ ≡ false
-        go (some q) e = crowded-less R t b₂ b (omega (arith, grown)) x
+        go (Some q) e = crowded-less R t b₂ b (omega (arith, grown)) x
           where
             grown : living R t b₂ ≡ living R t b + 0
             grown = living-turn R t j py ay b d ∙ ap (λ (o : Option Page). living R t b + gain o (crowded R t b)) e
-        go none e = crowded-less R t b₂ b₁ (omega (arith, grown, one_more)) y
+        go None e = crowded-less R t b₂ b₁ (omega (arith, grown, one_more)) y
           where
             grown : living R t b₂ ≡ living R t b + 1
             grown = living-turn R t j py ay b d ∙ ap₂ (λ o z. living R t b + gain o z) e x

@@ -1,9 +1,9 @@
 -- The table accepts no byte string twice, since it follows the book; and the run that shows why its retention is at least 60 seconds.
 -- Assumes nothing.
+use Rattle.std.specs.Prelude.{None, Some}
 use mathlib.Core.Path.{◌≡◌, refl, sym, ap, ap₂, ◌∙◌, subst}
 use mathlib.Core.Bool.{Bool, true, false, cond, ◌&&◌, ◌||◌, and-false}
 use mathlib.Core.List.{List, [], ◌∷◌}
-use mathlib.Core.Option.{none, some}
 use Prim.Native.Nat.{ℕ, ◌+◌, ◌≤◌}
 use native.Mathlib.Omega.{arith}
 use lib.Dec.{leb, eqb}
@@ -45,9 +45,9 @@ module _ {H : Type 0} (decide : Call → Decision H) where
 met-again : (R v w : ℕ) (a b : Peer) (id p : ℕ) (x : Bool) → leb w (v + R) ≡ x
     → judge R (new_page v a id p ∷ []) w b id p ≡ cond x (replay (refuse id p (new_page v a id p))) (enters (new_page w b id p))
 met-again R v w a b id p x e =
-    (λ i. judge_by (cond (eq-eqb id id refl i && e i) (some (new_page v a id p)) none) (leb 64 (one (e i) + 0)) w b id p) ∙ go x
+    (λ i. judge_by (cond (eq-eqb id id refl i && e i) (Some (new_page v a id p)) None) (leb 64 (one (e i) + 0)) w b id p) ∙ go x
   where
-    go : (y : Bool) → judge_by (cond y (some (new_page v a id p)) none) (leb 64 (one y + 0)) w b id p
+    go : (y : Bool) → judge_by (cond y (Some (new_page v a id p)) None) (leb 64 (one y + 0)) w b id p
         ≡ cond y (replay (refuse id p (new_page v a id p))) (enters (new_page w b id p))
     go true =
         ap (λ (z : Bool). cond z (enters (accept w b id p (new_page v a id p))) (replay (refuse id p (new_page v a id p))))

@@ -1,7 +1,6 @@
 -- The plain book of demand 3: a page for each session, with every packet ID that it accepted. Its numbers are its own, and it
 -- shares nothing with the table but the type of a caller's address. Assumes nothing.
-use Rattle.std.specs.Prelude.{ℕ, ◌+◌, ◌-◌, ◌^◌, max, min, Bool, false, cond, not, ◌&&◌, ◌||◌, List, [], ◌∷◌, leb, ltb, eqb}
-use Rattle.std.proofs.Math.Option.{Option, none, some}
+use Rattle.std.specs.Prelude.{ℕ, ◌+◌, ◌-◌, ◌^◌, max, min, Bool, false, cond, not, ◌&&◌, ◌||◌, List, [], ◌∷◌, leb, ltb, eqb, None, Option, Some}
 use Rattle.session_record.specs.declared.Peer.{Peer}
 use Rattle.session_book.specs.Call.{Call, Outcome, refused, Decision, early, reaches, opened_outcome, refused_outcome}
 
@@ -32,8 +31,8 @@ page_alive R clock q = leb clock (until R q)
 
 -- the page alive for an ID
 abbrev pub page : (R clock id : ℕ) → List Page → Option Page
-page R clock id [] = none
-page R clock id (q ∷ b) = cond (eqb q.id id && page_alive R clock q) (some q) (page R clock id b)
+page R clock id [] = None
+page R clock id (q ∷ b) = cond (eqb q.id id && page_alive R clock q) (Some q) (page R clock id b)
 
 -- how many pages are alive
 abbrev pub living : (R clock : ℕ) → List Page → ℕ
@@ -96,8 +95,8 @@ pub data BookEntry : Type 0 where
   full : BookEntry
 
 abbrev pub judge_by : Option Page → (no_room : Bool) → (clock : ℕ) → Peer → (id p : ℕ) → BookEntry
-judge_by (some q) no_room clock a id p = cond (fresh q p) (enters (accept clock a id p q)) (replay (refuse id p q))
-judge_by none no_room clock a id p = cond no_room full (enters (new_page clock a id p))
+judge_by (Some q) no_room clock a id p = cond (fresh q p) (enters (accept clock a id p q)) (replay (refuse id p q))
+judge_by None no_room clock a id p = cond no_room full (enters (new_page clock a id p))
 
 abbrev pub judge : (R : ℕ) → List Page → (clock : ℕ) → Peer → (id p : ℕ) → BookEntry
 judge R b clock a id p = judge_by (page R clock id b) (crowded R clock b) clock a id p

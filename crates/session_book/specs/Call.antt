@@ -1,7 +1,6 @@
 -- A call that opens a datagram, and what its arguments decide before a session is looked at.
 -- Assumes nothing.
-use Rattle.std.specs.Prelude.{ℕ, List, [], ◌++◌, length, drop, replicate}
-use Rattle.std.proofs.Math.Option.{Option, none}
+use Rattle.std.specs.Prelude.{ℕ, List, [], ◌++◌, length, drop, replicate, None, Option}
 use Rattle.session_record.specs.declared.Peer.{Peer}
 
 -- The arguments of a call. `client` is the client session ID that a client's call brings, `none` in a server's.
@@ -14,7 +13,7 @@ pub record Call : Type 0 where
 
 -- a call that stands for a missing one in `get_or`; nothing depends on it
 pub no_call : Call
-no_call = record { clock = 0; peer = record { first = 0; second = 0; port = 0 }; datagram = []; output = []; client = none }
+no_call = record { clock = 0; peer = record { first = 0; second = 0; port = 0 }; datagram = []; output = []; client = None }
 
 -- what a call answers: a refusal's number, or the opened header, of type H
 pub data Answer (H : Type 0) : Type 0 where

@@ -1,8 +1,7 @@
 -- The third part of demand 3: the counts of a session that is alive are those of its calls since it began. Table and book count by
 -- one rule, so that each alone could be wrong with the other; this counts the answers themselves.
 -- Assumes nothing.
-use Rattle.std.specs.Prelude.{◌≡◌, ◌≢◌, Bool, true, false, ◌&&◌, List, [], ◌∷◌, ◌++◌, ℕ, ◌+◌, ◌-◌, ◌^◌, ◌≤◌, min, eqb}
-use Rattle.std.proofs.Math.Option.{Option, none, some}
+use Rattle.std.specs.Prelude.{◌≡◌, ◌≢◌, Bool, true, false, ◌&&◌, List, [], ◌∷◌, ◌++◌, ℕ, ◌+◌, ◌-◌, ◌^◌, ◌≤◌, min, eqb, None, Option, Some}
 use Rattle.session_table.specs.Table.{new_table}
 use Rattle.session_book.specs.Call.{Call, Answer, refused, opened, Outcome, Decision, early}
 use Rattle.session_book.specs.Book.{one}
@@ -21,8 +20,8 @@ is_repeat (opened h) = false
 
 -- whether a call is of the session of an ID
 abbrev pub names : Option ℕ → ℕ → Bool
-names none id = false
-names (some i) id = eqb i id
+names None id = false
+names (Some i) id = eqb i id
 
 -- how many calls of a session were answered so
 abbrev pub answered_so : {H : Type 0} → (Answer H → Bool) → (Call → Option ℕ) → (id : ℕ) → List Call → List (Outcome H) → ℕ
@@ -39,8 +38,8 @@ module _ {H : Type 0} (decide : Call → Decision H) (belongs : Call → Option 
 
   -- behind the calls `before`, the call c begins the session of an ID: none is alive at its clock, and it is accepted
   pub record Begins (before : List Call) (c : Call) (id : ℕ) : Type 0 where
-    pub its_own : belongs c ≡ some id
-    pub none-alive : table_session (table_behind before) c.clock id ≡ none
+    pub its_own : belongs c ≡ Some id
+    pub none-alive : table_session (table_behind before) c.clock id ≡ None
     pub accepted : is_opened (table_outcome decide (table_behind before) c).answer ≡ true
 
   -- the outcomes of the calls since then
@@ -67,5 +66,5 @@ NoEarlyEight decide = (c : Call) (n : ℕ) (output : List ℕ) → decide c ≡ 
 abbrev pub CallsCounted : {H : Type 0} → (Call → Decision H) → (Call → Option ℕ) → Type 0
 CallsCounted decide belongs =
     (R : ℕ) → 60 ≤ R → R ≤ 3600 → (cs : List Call) → Each PortFits cs → Forward cs → (id : ℕ) (v : View)
-    → table_session (table_after decide (new_table R) cs) (last_reading cs) id ≡ some v
+    → table_session (table_after decide (new_table R) cs) (last_reading cs) id ≡ Some v
     → CountsCalls decide belongs R cs id v.accepted v.repeats

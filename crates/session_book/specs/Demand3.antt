@@ -1,9 +1,8 @@
 -- Demand 3: a run of calls on the table is a run of the plain book, and the order of calls with equal clock readings does not
 -- matter, as long as each session's own datagrams keep their order and no call finds the table full.
 -- Assumes nothing.
-use Rattle.std.specs.Prelude.{◌≡◌, ◌≢◌, Bool, ◌&&◌, true, List, [], ◌∷◌, map, ℕ, ◌+◌, ◌-◌, ◌^◌, ◌≤◌, ◌<◌, leb, ltb, eqb, length, get_or}
-use Rattle.std.proofs.Math.Option
-use Rattle.std.proofs.Math.Option.{Option, some}
+use Rattle.std.specs.Prelude.{◌≡◌, ◌≢◌, Bool, ◌&&◌, true, List, [], ◌∷◌, map, ℕ, ◌+◌, ◌-◌, ◌^◌, ◌≤◌, ◌<◌, leb, ltb, eqb, length, get_or, Option, Some}
+use Rattle.std.specs.Option.{option_map}
 use Rattle.session_record.specs.declared.Peer.{Peer}
 use Rattle.session_window.specs.Window.{bit}
 use Rattle.session_table.specs.Table.{Record, record_at, retention, new_table, holds, session_place}
@@ -89,10 +88,10 @@ view_of_record r =
 
 -- the session of an ID that is alive at a clock reading, in the book and in the table
 abbrev pub book_session : (R : ℕ) → List Page → (clock id : ℕ) → Option View
-book_session R b clock id = Option.map view_of_page (page R clock id b)
+book_session R b clock id = option_map view_of_page (page R clock id b)
 
 abbrev pub table_session : List ℕ → (clock id : ℕ) → Option View
-table_session t clock id = Option.map (λ i. view_of_record (record_at t i)) (session_place t clock id)
+table_session t clock id = option_map (λ i. view_of_record (record_at t i)) (session_place t clock id)
 
 -- no two records are alive for one ID, so that the table has no session beside those of `table_session`
 abbrev pub OneRecordEach : List ℕ → (clock : ℕ) → Type 0
@@ -106,7 +105,7 @@ OneRecordEach t clock =
 
 -- a datagram that reaches the window is of the session that it names
 abbrev pub Named : {H : Type 0} → (Call → Decision H) → (Call → Option ℕ) → Type 0
-Named {H} decide belongs = (c : Call) (id p : ℕ) (header : H) (plaintext : List ℕ) → decide c ≡ reaches id p header plaintext → belongs c ≡ some id
+Named {H} decide belongs = (c : Call) (id p : ℕ) (header : H) (plaintext : List ℕ) → decide c ≡ reaches id p header plaintext → belongs c ≡ Some id
 
 -- The first half, of one list of calls: the table answers as the book, and its sessions alive at the last reading are the book's.
 pub record LikeBook {H : Type 0} (decide : Call → Decision H) (R : ℕ) (cs : List Call) : Type 0 where
@@ -124,7 +123,7 @@ FollowsBook decide = (R : ℕ) → 60 ≤ R → R ≤ 3600 → (cs : List Call) 
 pub record Rearranges (belongs : Call → Option ℕ) (cs : List Call) (order : List ℕ) : Type 0 where
   pub once : (i : ℕ) → times i order ≡ one (ltb i (length cs))
   pub same_clocks : clocks (map (call_at cs) order) ≡ clocks cs
-  pub sessions_in_order : Pairs (λ i j. (id : ℕ) → belongs (call_at cs i) ≡ some id → belongs (call_at cs j) ≡ some id → i < j) order
+  pub sessions_in_order : Pairs (λ i j. (id : ℕ) → belongs (call_at cs i) ≡ Some id → belongs (call_at cs j) ≡ Some id → i < j) order
 
 -- the call did not find the table full
 abbrev pub NotFull : {H : Type 0} → Outcome H → Type 0

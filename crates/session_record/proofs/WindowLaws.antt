@@ -3,7 +3,6 @@
 use Prim.Native.Nat.{ℕ, ◌+◌, ◌-◌, ◌*◌, ◌%◌, ◌^◌, ◌<◌, ◌≤◌, max}
 use mathlib.Core.Bool.{Bool, true, false, not, ◌&&◌, ◌||◌, cond}
 use mathlib.Core.Path.{◌≡◌, refl, sym, ap, ◌∙◌}
-use native.Mathlib.Omega.{arith}
 use lib.Dec.{ltb}
 use borrow.Author.Tests.{lt-ltb, le-ltb, ltb-true}
 use Rattle.session_record.specs.declared.Peer.{Peer}
@@ -17,17 +16,11 @@ both false true e = (e, sym e)
 both false false e = (e, refl)
 
 module _ (r : Record) (p : ℕ) where
-  pub fresh-above : r.h < p → fresh_in r p ≡ true
-  fresh-above l = ap (λ (b : Bool). b || ltb (r.h - p) window && not (bit r.marks (r.h - p))) (lt-ltb r.h p l)
-
   at_most : p ≤ r.h → fresh_in r p ≡ ltb (r.h - p) window && not (bit r.marks (r.h - p))
   at_most l = ap (λ (b : Bool). b || ltb (r.h - p) window && not (bit r.marks (r.h - p))) (le-ltb r.h p l)
 
   pub fresh-within : p ≤ r.h → r.h - p < window → fresh_in r p ≡ not (bit r.marks (r.h - p))
   fresh-within l w = at_most l ∙ ap (λ (b : Bool). b && not (bit r.marks (r.h - p))) (lt-ltb (r.h - p) window w)
-
-  pub fresh-behind : p ≤ r.h → window ≤ r.h - p → fresh_in r p ≡ false
-  fresh-behind l w = at_most l ∙ ap (λ (b : Bool). b && not (bit r.marks (r.h - p))) (le-ltb (r.h - p) window w)
 
   -- a fresh p at or below h is in the window, and its bit is not set
   pub fresh-below : p ≤ r.h → fresh_in r p ≡ true → (r.h - p < window) × (bit r.marks (r.h - p) ≡ false)
@@ -50,13 +43,3 @@ pub accepts : (r : Record) (clock p : ℕ) (a : Peer) (h l m n : ℕ) → h ≡ 
     (accept_in clock a p r)
 accepts r clock p a h l m n eh el em en =
     λ i. record { used = r.used; id = r.id; h = eh i; last = el i; marks = em i; peer = a; accepted = en i; repeats = r.repeats }
-
--- ---- a count
-
-pub counted : (n : ℕ) → n < 2 ^ 64 - 1 → n + 1 ≡ one_more n
-unfolding one_more
-counted n l = omega arith
-
-pub counted-out : (n : ℕ) → 2 ^ 64 - 1 ≤ n → 2 ^ 64 - 1 ≡ one_more n
-unfolding one_more
-counted-out n l = omega arith

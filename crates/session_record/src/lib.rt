@@ -1,7 +1,7 @@
 // One session by value: what is fresh in it, and what it is after it accepted a packet ID.
 #![tactic(auto)]
 
-ghost use Rattle.std.specs.Prelude.{◌≡◌, true, max};
+ghost use Rattle.std.specs.Prelude.{◌≡◌, true};
 ghost use Rattle.session_record.specs.Record.{record_of, fresh_in, one_more, accept_in, new_record};
 
 use session_window::{WINDOW, is_marked, shifted, with_mark};
@@ -27,38 +27,22 @@ pub struct Session {
     pub repeats: u64,
 }
 
-// The largest count.
-const MOST: u64 = 18446744073709551615;
-
 // Whether p is above the window, or in it and not marked.
 pub fn is_fresh(s: Session, p: u64) -> bool
     ensures { result ≡ fresh_in (record_of s) p }
 {
-    let h = s.high;
-    if h < p {
+    if s.high < p {
         return true;
     }
-    if h - p < WINDOW {
-        let m = s.marks;
-        return !is_marked(m, h - p);
-    }
-    false
-}
-
-fn larger(x: u64, y: u64) -> u64
-    ensures { result ≡ max x y }
-{
-    if x < y { y } else { x }
+    let d = s.high - p;
+    d < WINDOW && !is_marked(s.marks, d)
 }
 
 // One more, up to the largest count.
 pub fn one_more(n: u64) -> u64
     ensures { result ≡ one_more n }
 {
-    if n < MOST {
-        return n + 1;
-    }
-    MOST
+    n.saturating_add(1)
 }
 
 // The session after it accepted p.
@@ -66,33 +50,18 @@ pub fn accept(s: Session, p: u64, clock: u64, peer: Peer) -> Session
     requires { fresh_in (record_of s) p ≡ true }
     ensures { record_of result ≡ accept_in clock peer p (record_of s) }
 {
-    let h = s.high;
-    let m = s.marks;
-    let last = larger(s.last, clock);
-    let accepted = one_more(s.accepted);
-    if h < p {
-        let up = shifted(m, p - h);
-        return Session {
-            used: s.used,
-            id: s.id,
-            high: p,
-            last,
-            marks: up,
-            peer,
-            accepted,
-            repeats: s.repeats,
-        };
-    }
-    let same = with_mark(m, h - p);
+    let marks = if s.high < p {
+        shifted(s.marks, p - s.high)
+    } else {
+        with_mark(s.marks, s.high - p)
+    };
     Session {
-        used: s.used,
-        id: s.id,
-        high: h,
-        last,
-        marks: same,
+        high: s.high.max(p),
+        last: s.last.max(clock),
+        marks,
         peer,
-        accepted,
-        repeats: s.repeats,
+        accepted: one_more(s.accepted),
+        ..s
     }
 }
 

@@ -1,12 +1,11 @@
 -- The session table as words, and what a packet ID meets there. Any words have a meaning; past the end a word reads as 0.
-use Rattle.std.specs.Prelude.{ℕ, ◌+◌, ◌*◌, ◌/◌, ◌%◌, ◌^◌, Bool, true, false, cond, not, ◌&&◌, List, [], ◌∷◌, eqb, length, get_or, set, replicate}
-use Rattle.std.proofs.Math.Option.{Option, none, some}
+use Rattle.std.specs.Prelude.{Result, Ok, Err, ℕ, ◌+◌, ◌*◌, ◌/◌, ◌%◌, ◌^◌, Bool, true, false, cond, not, ◌&&◌, List, [], ◌∷◌, eqb, length, get_or, set, replicate, None, Option, Some}
 use Rattle.std.proofs.lemmas.List.Edits.{sets}
 use Rattle.records.specs.Records.{current, lowest_from}
 use Rattle.session_window.specs.Window.{join4}
 use Rattle.session_record.specs.declared.Peer.{Peer}
-use Rattle.session_table.specs.declared.Admitted.{Admitted}
-use Rattle.session_table.specs.declared.Admitted.TheVariants.{Accepted, Replay, Full}
+use Rattle.records.specs.declared.admission.NotAdmitted.{NotAdmitted}
+pub use Rattle.records.specs.declared.admission.NotAdmitted.TheVariants.{Replay, Full}
 pub use Rattle.retention.specs.Retention.{in_range, made_retention, lawful_retention}
 use Rattle.session_table.specs.Sizes.{capacity}
 use Rattle.session_record.specs.Record.{one_more}
@@ -91,8 +90,8 @@ free_place t clock = lowest (λ i. not (live (retention t) clock (record_at t i)
 
 -- whether a session of an ID is alive
 abbrev pub is_place : Option ℕ → Bool
-is_place (some i) = true
-is_place none = false
+is_place (Some i) = true
+is_place None = false
 
 unfoldable pub taken : List ℕ → (clock id : ℕ) → Bool
 taken t clock id = is_place (session_place t clock id)
@@ -105,9 +104,9 @@ pub data Entry : Type 0 where
   full : Entry
 
 abbrev pub meet_by : Option ℕ → Option ℕ → List ℕ → (clock : ℕ) → Peer → (id p : ℕ) → Entry
-meet_by (some i) free t clock a id p = cond (fresh_in (record_at t i) p) (stores i (accept_in clock a p (record_at t i))) (replay i)
-meet_by none (some i) t clock a id p = stores i (new_record clock a id p)
-meet_by none none t clock a id p = full
+meet_by (Some i) free t clock a id p = cond (fresh_in (record_at t i) p) (stores i (accept_in clock a p (record_at t i))) (replay i)
+meet_by None (Some i) t clock a id p = stores i (new_record clock a id p)
+meet_by None None t clock a id p = full
 
 unfoldable pub meet : List ℕ → (clock : ℕ) → Peer → (id p : ℕ) → Entry
 meet t clock a id p = meet_by (session_place t clock id) (free_place t clock) t clock a id p
@@ -118,7 +117,10 @@ keep (stores i r) t = store t i r
 keep (replay i) t = repeated t i
 keep full t = t
 
+abbrev pub Admitted : Type 0
+Admitted = Result (Unit {0}) NotAdmitted
+
 abbrev pub admitted : Entry → Admitted
-admitted (stores i r) = Accepted
-admitted (replay i) = Replay
-admitted full = Full
+admitted (stores i r) = Ok tt
+admitted (replay i) = Err Replay
+admitted full = Err Full

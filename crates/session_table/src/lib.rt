@@ -2,12 +2,13 @@
 // assumes an invariant of the table.
 #![tactic(auto)]
 
-ghost use Rattle.std.specs.Prelude.{◌≡◌, ◌<◌, length};
-ghost use Rattle.std.proofs.Math.Option.{none, some, get_or};
+ghost use Rattle.std.specs.Prelude.{◌≡◌, ◌<◌, length, None, Some};
+ghost use Rattle.records.specs.Records.{Finds};
 ghost use Rattle.session_record.specs.Record.{record_of};
 ghost use Rattle.session_table.specs.Sizes.{capacity};
-ghost use Rattle.session_table.specs.Table.{table_words, retention, lawful, make_lawful, made, record_at, words_of, store as store_of, repeated, live, session_place, taken, free_place, meet_by, meet, keep, admitted};
+ghost use Rattle.session_table.specs.Table.{table_words, retention, lawful, make_lawful, made, record_at, words_of, store as store_of, repeated, live, holds as holds_of, session_place, taken, free_place, meet_by, meet, keep, admitted};
 
+pub use records::NotAdmitted;
 pub use session_record::Peer;
 use session_record::{Session, accept, begin, is_fresh, one_more};
 
@@ -42,14 +43,6 @@ const ACCEPTED: usize = 11;
 
 const REPEATS: usize = 12;
 
-// What a packet ID meets: it is accepted, or it is refusal 8 or 9.
-#[derive(Clone, Copy)]
-pub enum Admitted {
-    Accepted,
-    Replay,
-    Full,
-}
-
 // ---- the table
 
 fn is_alive(table: &[u64], clock: u64, r: usize) -> bool
@@ -60,21 +53,19 @@ fn is_alive(table: &[u64], clock: u64, r: usize) -> bool
     records::is_current(table[at], table[at + LAST], clock, table[0])
 }
 
-// The record that holds the session with this ID, or SESSIONS.
-fn find(table: &[u64], clock: u64, id: u64) -> usize
-    requires { length table.now ≡ table_words }
-    ensures { result ≡ get_or (session_place table.now clock id) capacity }
+fn holds(table: &[u64], clock: u64, r: usize, id: u64) -> bool
+    requires { (length table.now ≡ table_words) × (r < capacity) }
+    ensures { result ≡ holds_of (retention table.now) clock id (record_at table.now r) }
 {
-    let mut r: usize = 0;
-    while r < SESSIONS {
-        if is_alive(table, clock, r) {
-            if table[1 + r * WORDS + ID] == id {
-                return r;
-            }
-        }
-        r += 1;
-    }
-    r
+    is_alive(table, clock, r) && table[1 + r * WORDS + ID] == id
+}
+
+// The record that holds the session with this ID.
+fn find(table: &[u64], clock: u64, id: u64) -> Option<usize>
+    requires { length table.now ≡ table_words }
+    ensures { Finds capacity (session_place table.now clock id) result }
+{
+    (0..SESSIONS).find(|r| holds(table, clock, *r, id))
 }
 
 // Whether a session of this ID is alive.
@@ -82,25 +73,15 @@ pub fn is_taken(table: &[u64], clock: u64, id: u64) -> bool
     requires { length table.now ≡ table_words }
     ensures { result ≡ taken table.now clock id }
 {
-    if find(table, clock, id) < SESSIONS {
-        return true;
-    }
-    false
+    find(table, clock, id).is_some()
 }
 
-// The lowest record that is not alive, or SESSIONS.
-fn find_room(table: &[u64], clock: u64) -> usize
+// The lowest record that is not alive.
+fn find_room(table: &[u64], clock: u64) -> Option<usize>
     requires { length table.now ≡ table_words }
-    ensures { result ≡ get_or (free_place table.now clock) capacity }
+    ensures { Finds capacity (free_place table.now clock) result }
 {
-    let mut r: usize = 0;
-    while r < SESSIONS {
-        if !is_alive(table, clock, r) {
-            return r;
-        }
-        r += 1;
-    }
-    r
+    (0..SESSIONS).find(|r| !is_alive(table, clock, *r))
 }
 
 fn load(table: &[u64], r: usize) -> Session
@@ -175,57 +156,56 @@ fn count_repeat(table: &mut [u64], r: usize)
 pub fn is_lawful(table: &[u64]) -> bool
     ensures { result ≡ lawful table.now }
 {
-    if table.len() != TABLE {
-        return false;
-    }
-    retention::in_range(table[0])
+    table.len() == TABLE && retention::in_range(table[0])
 }
 
 // ---- one packet
 
 // Packet p in the session of record r: what it meets there depends on no ID and on no free record.
-fn admit_known(table: &mut [u64], r: usize, clock: u64, p: u64, peer: Peer) -> Admitted
+fn admit_known(
+    table: &mut [u64],
+    r: usize,
+    clock: u64,
+    p: u64,
+    peer: Peer,
+) -> Result<(), NotAdmitted>
     requires { (length table.old ≡ table_words) × (r < capacity) }
-    ensures value { result ≡ admitted (meet_by (some r) none table.old clock peer 0 p) }
-    ensures table_after { table.new ≡ keep (meet_by (some r) none table.old clock peer 0 p) table.old }
+    ensures value { result ≡ admitted (meet_by (Some r) None table.old clock peer 0 p) }
+    ensures table_after { table.new ≡ keep (meet_by (Some r) None table.old clock peer 0 p) table.old }
 {
     let s = load(table, r);
     if is_fresh(s, p) {
         store(table, r, accept(s, p, clock, peer));
-        return Admitted::Accepted;
+        return Ok(());
     }
     count_repeat(table, r);
-    Admitted::Replay
+    Err(NotAdmitted::Replay)
 }
 
 // Packet p where no alive session has the ID.
-fn admit_new(table: &mut [u64], clock: u64, id: u64, p: u64, peer: Peer) -> Admitted
+fn admit_new(table: &mut [u64], clock: u64, id: u64, p: u64, peer: Peer) -> Result<(), NotAdmitted>
     requires { length table.old ≡ table_words }
-    ensures value { result ≡ admitted (meet_by none (free_place table.old clock) table.old clock peer id p) }
+    ensures value { result ≡ admitted (meet_by None (free_place table.old clock) table.old clock peer id p) }
     ensures table_after { table.new
-        ≡ keep (meet_by none (free_place table.old clock) table.old clock peer id p)
+        ≡ keep (meet_by None (free_place table.old clock) table.old clock peer id p)
         table.old }
 {
-    let r = find_room(table, clock);
-    if r < SESSIONS {
-        store(table, r, begin(id, p, clock, peer));
-        return Admitted::Accepted;
-    }
-    Admitted::Full
+    let r = find_room(table, clock).ok_or(NotAdmitted::Full)?;
+    store(table, r, begin(id, p, clock, peer));
+    Ok(())
 }
 
 // Accepts packet p of the session with this ID, or refuses it: a repeat is counted in its session, and where there is no room
 // the table stays as it was.
-pub fn admit(table: &mut [u64], clock: u64, id: u64, p: u64, peer: Peer) -> Admitted
+pub fn admit(table: &mut [u64], clock: u64, id: u64, p: u64, peer: Peer) -> Result<(), NotAdmitted>
     requires { length table.old ≡ table_words }
     ensures value { result ≡ admitted (meet table.old clock peer id p) }
     ensures table_after { table.new ≡ keep (meet table.old clock peer id p) table.old }
 {
-    let r = find(table, clock, id);
-    if r < SESSIONS {
-        return admit_known(table, r, clock, p, peer);
+    match find(table, clock, id) {
+        Some(r) => admit_known(table, r, clock, p, peer),
+        None => admit_new(table, clock, id, p, peer),
     }
-    admit_new(table, clock, id, p, peer)
 }
 
 // ---- making
@@ -236,10 +216,7 @@ pub fn make(retention: u64, table: &mut [u64]) -> bool
     ensures value { result ≡ make_lawful retention table.old }
     ensures table_after { table.new ≡ made retention table.old }
 {
-    if table.len() != TABLE {
-        return false;
-    }
-    if !retention::is_lawful(retention) {
+    if table.len() != TABLE || !retention::is_lawful(retention) {
         return false;
     }
     let made = retention::made(retention);

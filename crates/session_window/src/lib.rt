@@ -65,6 +65,6 @@ pub fn with_mark(marks: [u64; 4], j: u64) -> [u64; 4]
 {
     let k = (j / 64) as usize;
     let mut m = marks;
-    m[k] = m[k] + (1 << (j % 64));
+    m[k] += 1 << (j % 64);
     m
 }

@@ -1,5 +1,6 @@
 -- What a host is told of settings, case by case.
 -- Assumes nothing.
+use Rattle.std.specs.Prelude.{Err, None, Ok, Option, Result, Some}
 use mathlib.Core.Path.{◌≡◌, sym, ap, ◌∙◌}
 use mathlib.Core.Bool.{Bool, true, false, cond}
 use mathlib.Core.List.{List}
@@ -13,42 +14,21 @@ use Rattle.protocol.specs.declared.Refusal.{Refusal}
 use Rattle.protocol.specs.Refusal.{refusal_number}
 use Rattle.words.proofs.LentLaws.{filled}
 use Rattle.words.specs.Answers.{answer_words, refused_answer}
-use Rattle.settings_read.specs.declared.Value.{Value}
-use Rattle.settings_read.specs.declared.Value.TheVariants.{Absent, Set}
-use Rattle.settings_read.specs.declared.TargetValue.{TargetValue}
-use Rattle.settings_read.specs.declared.TargetValue.TheVariants.{Absent as NoTarget, Set as TargetSet}
 use Rattle.settings_read.specs.declared.Settings.{Settings}
-use Rattle.settings_read.specs.declared.FileRead.{FileRead}
-use Rattle.settings_read.specs.declared.FileRead.TheVariants.{Shown, Refused}
 use Rattle.settings_read.specs.Reading.{read_answer}
-use Rattle.settings_write.specs.declared.Written.{Written}
 use Rattle.settings_write.specs.Writing.{file_of, write_answer, write_out}
 use Rattle.settings_answers.specs.Told.{bit, target_bit, settings_words, AfterRead, read_told, reads_settings, AfterWrite, written_number, written_words, written_told, writes_settings}
-
--- ---- words
-
-pub bit-most : (v : Value) → bit v ≤ 1
-bit-most Absent = omega arith
-bit-most (Set n) = omega arith
-
-pub target-bit-most : (t : TargetValue) → target_bit t ≤ 1
-target-bit-most NoTarget = omega arith
-target-bit-most (TargetSet t port) = omega arith
+use Rattle.socks5.specs.declared.Target.{Target}
 
 -- ---- reading
 
-module _ (x : FileRead) (answer left : List ℕ) where
-  pub told-shown : (s : Settings) (vs : List ℕ) → x ≡ Shown s → vs ≡ settings_words s → left ≡ sets answer 0 vs → length answer ≡ answer_words
+module _ (x : Result Settings Refusal) (answer left : List ℕ) where
+  pub told-shown : (s : Settings) (vs : List ℕ) → x ≡ Ok s → vs ≡ settings_words s → left ≡ sets answer 0 vs → length answer ≡ answer_words
       → record { number = 0; answer = left } ≡ read_told x answer
   unfolding settings_words
   told-shown s vs e f g l =
       ap (λ (v : List ℕ). record { number = 0; answer = v }) (g ∙ ap (sets answer 0) f ∙ filled answer (settings_words s) l)
-      ∙ sym (ap (λ (z : FileRead). read_told z answer) e)
-
-  pub told-refusal : (r : Refusal) (n : ℕ) → x ≡ Refused r → n ≡ refusal_number r → left ≡ refused_answer r answer
-      → record { number = n; answer = left } ≡ read_told x answer
-  told-refusal r n e f g =
-      (λ i. record { number = f i; answer = g i }) ∙ sym (ap (λ (z : FileRead). read_told z answer) e)
+      ∙ sym (ap (λ (z : Result Settings Refusal). read_told z answer) e)
 
 module _ (file answer : List ℕ) where
   by_answer : (b : Bool) → eqb (length answer) answer_words ≡ b
@@ -59,23 +39,18 @@ module _ (file answer : List ℕ) where
   pub not-lent : (length answer ≡ answer_words → ⊥) → record { number = 1; answer = answer } ≡ reads_settings file answer
   not-lent f = by_answer false (ne_eqb (length answer) answer_words f)
 
-  pub was_read : length answer ≡ answer_words → (x : FileRead) → x ≡ read_answer file → (after : AfterRead) → after ≡ read_told x answer
+  pub was_read : length answer ≡ answer_words → (x : Result Settings Refusal) → x ≡ read_answer file → (after : AfterRead) → after ≡ read_told x answer
       → after ≡ reads_settings file answer
   was_read l x e after f =
-      f ∙ ap (λ (z : FileRead). read_told z answer) e ∙ by_answer true (eq-eqb (length answer) answer_words l)
+      f ∙ ap (λ (z : Result Settings Refusal). read_told z answer) e ∙ by_answer true (eq-eqb (length answer) answer_words l)
 
 -- ---- writing
-
--- what is told of an answer is told of the one that it equals
-pub written-told : (x y : Written) → x ≡ y → (r : ℕ) → r ≡ written_number x → (after before : List ℕ) → after ≡ written_words x before
-    → (r ≡ written_number y) × (after ≡ written_words y before)
-written-told x y e r er after before ea = (er ∙ ap written_number e, ea ∙ ap (λ (z : Written). written_words z before) e)
 
 module _ (edition : ℕ) (ws bodies out answer : List ℕ) where
   abbrev untouched : AfterWrite
   untouched = record { number = 1; out = out; answer = answer }
 
-  abbrev told : Written → AfterWrite
+  abbrev told : Result ℕ Refusal → AfterWrite
   told x = written_told x (file_of edition ws bodies) out answer
 
   by-lent : (b : Bool) → eqb (length answer) answer_words ≡ b
@@ -86,7 +61,7 @@ module _ (edition : ℕ) (ws bodies out answer : List ℕ) where
   pub not_written : (length answer ≡ answer_words → ⊥) → untouched ≡ writes_settings edition ws bodies out answer
   not_written f = by-lent false (ne_eqb (length answer) answer_words f)
 
-  pub was-written : length answer ≡ answer_words → (x : Written) → x ≡ write_answer ws bodies (length out) → (r : ℕ) (after words : List ℕ)
+  pub was-written : length answer ≡ answer_words → (x : Result ℕ Refusal) → x ≡ write_answer ws bodies (length out) → (r : ℕ) (after words : List ℕ)
       → r ≡ written_number x → after ≡ write_out x (file_of edition ws bodies) out → words ≡ written_words x answer
       → record { number = r; out = after; answer = words } ≡ writes_settings edition ws bodies out answer
   was-written l x e r after words er eo ew =

@@ -3,136 +3,74 @@
 
 ghost use Rattle.std.specs.Prelude.{◌≡◌, length};
 ghost use Rattle.words.specs.Answers.{answer_words};
-ghost use Rattle.settings_answers.specs.Told.{bit, word, target_bit, target_kind, target_first, target_second, target_port, set_bits, settings_words, read_told, reads_settings, written_number, written_words, writes_settings};
+ghost use Rattle.settings_answers.specs.Told.{set_bits, settings_words, read_told, reads_settings, written_number, written_words, writes_settings};
 
-use settings_read::{FileRead, Settings, TargetValue, Value};
-use settings_write::Written;
+use protocol::Refusal;
+use settings_read::Settings;
 use words::ANSWER;
 
-// The number of refusal 1.
+// The number of refusal 1, as C is given it.
 const SETTINGS: u64 = 1;
 
-fn bit(value: Value) -> u64
-    ensures { result ≡ bit value }
-{
-    match value {
-        Value::Absent => 0,
-        Value::Set(_) => 1,
-    }
-}
-
-fn word(value: Value) -> u64
-    ensures { result ≡ word value }
-{
-    match value {
-        Value::Absent => 0,
-        Value::Set(n) => n,
-    }
-}
-
-fn target_bit(target: TargetValue) -> u64
-    ensures { result ≡ target_bit target }
-{
-    match target {
-        TargetValue::Absent => 0,
-        TargetValue::Set(_, _) => 1,
-    }
-}
-
-fn target_kind(target: TargetValue) -> u64
-    ensures { result ≡ target_kind target }
-{
-    match target {
-        TargetValue::Absent => 0,
-        TargetValue::Set(t, _) => words::kind(t),
-    }
-}
-
-fn target_first(target: TargetValue) -> u64
-    ensures { result ≡ target_first target }
-{
-    match target {
-        TargetValue::Absent => 0,
-        TargetValue::Set(t, _) => words::first(t),
-    }
-}
-
-fn target_second(target: TargetValue) -> u64
-    ensures { result ≡ target_second target }
-{
-    match target {
-        TargetValue::Absent => 0,
-        TargetValue::Set(t, _) => words::second(t),
-    }
-}
-
-fn target_port(target: TargetValue) -> u64
-    ensures { result ≡ target_port target }
-{
-    match target {
-        TargetValue::Absent => 0,
-        TargetValue::Set(_, port) => port as u64,
-    }
-}
-
 // Which are set: bit i for number i + 1.
+#[tactic(auto, unfolding(crate::specs::Told::set_bits))]
 fn set_bits(settings: Settings) -> u64
     ensures { result ≡ set_bits settings }
 {
-    let method = settings.method;
-    let retention = settings.retention;
-    let limit = settings.limit;
-    let target = settings.target;
-    bit(method) + 2 * bit(retention) + 4 * bit(limit) + 8 * target_bit(target)
+    let method = settings.method.is_some() as u64;
+    let retention = settings.retention.is_some() as u64;
+    let limit = settings.limit.is_some() as u64;
+    let target = settings.target.is_some() as u64;
+    method + 2 * retention + 4 * limit + 8 * target
 }
 
-fn settings_words(settings: Settings) -> [u64; 9]
+#[tactic(auto, unfolding(crate::specs::Told::settings_words))]
+fn settings_words(settings: Settings) -> [u64; ANSWER]
     ensures { result ≡ settings_words settings }
 {
-    let method = settings.method;
-    let retention = settings.retention;
-    let limit = settings.limit;
-    let target = settings.target;
     [
         settings.edition as u64,
         set_bits(settings),
-        word(method),
-        word(retention),
-        word(limit),
-        target_kind(target),
-        target_first(target),
-        target_second(target),
-        target_port(target),
+        settings.method.unwrap_or(0),
+        settings.retention.unwrap_or(0),
+        settings.limit.unwrap_or(0),
+        settings.target.map_or(0, |(target, _)| words::kind(target)),
+        settings
+            .target
+            .map_or(0, |(target, _)| words::first(target)),
+        settings
+            .target
+            .map_or(0, |(target, _)| words::second(target)),
+        settings.target.map_or(0, |(_, port)| port as u64),
     ]
 }
 
 // Gives what was read to the caller.
-fn tell_read(read: FileRead, answer: &mut [u64]) -> u64
+fn tell_read(read: Result<Settings, Refusal>, answer: &mut [u64]) -> u64
     requires { length answer.old ≡ answer_words }
     ensures { record { number = result; answer = answer.new } ≡ read_told read answer.old }
 {
     match read {
-        FileRead::Shown(settings) => {
-            let shown = settings_words(settings);
-            records::write(answer, 0, &shown);
+        Ok(settings) => {
+            records::write(answer, 0, &settings_words(settings));
             0
         }
-        FileRead::Refused(refusal) => words::refuse(refusal, answer),
+        Err(refusal) => words::refuse(refusal, answer),
     }
 }
 
 // Gives a written file's length to the caller.
-fn tell_written(written: Written, answer: &mut [u64]) -> u64
+fn tell_written(written: Result<usize, Refusal>, answer: &mut [u64]) -> u64
     requires { length answer.old ≡ answer_words }
     ensures value { result ≡ written_number written }
     ensures answer_after { answer.new ≡ written_words written answer.old }
 {
     match written {
-        Written::Length(n) => {
+        Ok(n) => {
             answer[0] = n as u64;
             0
         }
-        Written::Refused(refusal) => refusal.number(),
+        Err(refusal) => refusal.number(),
     }
 }
 

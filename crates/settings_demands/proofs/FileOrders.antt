@@ -1,9 +1,9 @@
 -- The orders of refusals of reading and writing a file of settings.
 -- Assumes nothing.
+use Rattle.std.specs.Prelude.{None, Option, Some}
 use mathlib.Core.Path.{◌≡◌, refl, ap₂, ◌∙◌}
 use mathlib.Core.Bool.{Bool, true, false, not, ◌&&◌, ◌||◌}
 use mathlib.Core.List.{List, [], ◌∷◌}
-use mathlib.Core.Option.{Option, none, some}
 use Prim.Native.Nat.{ℕ, ◌-◌, ◌/◌, ◌%◌}
 use lib.Dec.{eqb, leb, ltb}
 use lib.ListN.{length, take, drop}
@@ -38,8 +38,8 @@ module _ (s : List ℕ) where
   known-rule : (o : Option ℕ)
       → said_read (known_answer s o) ≡ first (unknown_setting (number_there s o) (is_there o) ∷ []) (settings_in s)
   unfolding first
-  known-rule (some i) = refl
-  known-rule none = refl
+  known-rule (Some i) = refl
+  known-rule None = refl
 
   length-rule : (ltb (length s) 36 || ltb 65535 (length s)) ≡ not (leb min_file (length s) && leb (length s) max_file)
   length-rule = ap₂ ◌||◌ (over (length s) 36) (over 65535 (length s)) ∙ outside (leb 36 (length s)) (leb (length s) 65535)

@@ -1,10 +1,10 @@
 -- The unknown setting that is told is the lowest.
 -- Assumes nothing.
+use Rattle.std.specs.Prelude.{Err, Ok, Result, Some}
 use mathlib.Core.Path.{◌≡◌, refl, sym, ap, subst, ◌∙◌}
 use mathlib.Core.Bool.{Bool, true, false, not, ◌&&◌, false≢true}
 use mathlib.Core.List.{List}
 use mathlib.Core.Logic.{⊎_elim}
-use mathlib.Core.Option.{some}
 use Prim.Native.Nat.{ℕ, suc, ◌+◌, ◌-◌, ◌≤◌, ◌<◌}
 use native.Mathlib.Nat.{eq-or-lt_of_le}
 use native.Mathlib.Omega.{arith}
@@ -16,22 +16,21 @@ use Rattle.settings_rules.specs.Rules.{is_known, is_unknown}
 use Rattle.settings_rules.specs.Contents.{first_unknown}
 use Rattle.settings_rules.proofs.ContentsLaws.{unknown-found, rises-to}
 use Rattle.settings_file.specs.Format.{count, contents_of, WellMade}
-use Rattle.settings_read.specs.declared.FileRead.{FileRead}
-use Rattle.settings_read.specs.declared.FileRead.TheVariants.{Shown, Refused}
 use Rattle.settings_read.specs.Reading.{read_answer}
 use Rattle.settings_demands.specs.Files.{Known, number_of, Unknown, Lowest, RefusesLowest}
 use Rattle.settings_demands.proofs.SaysLaws.{lt-or-le}
 use Rattle.settings_demands.proofs.ReadExactly.{Ways, refused, unknown, shown, ways, not-refused, known-below}
+use Rattle.settings_read.specs.declared.Settings.{Settings}
 
 -- ---- refusals are told apart
 
-abbrev number_told : FileRead → ℕ
-number_told (Shown x) = 0
-number_told (Refused r) = refusal_number r
+abbrev number_told : Result Settings Refusal → ℕ
+number_told (Ok x) = 0
+number_told (Err r) = refusal_number r
 
-abbrev added_told : FileRead → ℕ
-added_told (Shown x) = 0
-added_told (Refused r) = added r
+abbrev added_told : Result Settings Refusal → ℕ
+added_told (Ok x) = 0
+added_told (Err r) = added r
 
 -- ---- an unknown number
 
@@ -53,7 +52,7 @@ is-not-known n e k =
     off true = refl
     off false = refl
 
-module _ (s : List ℕ) (w : WellMade s) (i : ℕ) (f : first_unknown (contents_of s) ≡ some i) where
+module _ (s : List ℕ) (w : WellMade s) (i : ℕ) (f : first_unknown (contents_of s) ≡ Some i) where
   abbrev n : ℕ
   n = number_of s i
 
@@ -86,20 +85,20 @@ module _ (s : List ℕ) (w : WellMade s) (i : ℕ) (f : first_unknown (contents_
 pub refuses-lowest : RefusesLowest
 refuses-lowest s n e = go (ways s)
   where
-    told : (r : Refusal) → read_answer s ≡ Refused r → refusal_number r ≡ 15
+    told : (r : Refusal) → read_answer s ≡ Err r → refusal_number r ≡ 15
     told r f = ap number_told (sym f ∙ e)
 
     go : Ways s → Lowest s n
     go (refused r f g) =
         absurd (⊎_elim (λ p. other r f (ap refusal_number p)) (⊎_elim (λ p. other4 r f (ap refusal_number p)) (λ p. other5 r f (ap refusal_number p))) g)
       where
-        other : (r : Refusal) → read_answer s ≡ Refused r → refusal_number r ≡ 2 → ⊥
+        other : (r : Refusal) → read_answer s ≡ Err r → refusal_number r ≡ 2 → ⊥
         other r f p = omega (arith, told r f, p)
 
-        other4 : (r : Refusal) → read_answer s ≡ Refused r → refusal_number r ≡ 4 → ⊥
+        other4 : (r : Refusal) → read_answer s ≡ Err r → refusal_number r ≡ 4 → ⊥
         other4 r f p = omega (arith, told r f, p)
 
-        other5 : (r : Refusal) → read_answer s ≡ Refused r → refusal_number r ≡ 5 → ⊥
+        other5 : (r : Refusal) → read_answer s ≡ Err r → refusal_number r ≡ 5 → ⊥
         other5 r f p = omega (arith, told r f, p)
     go (unknown w i f g) = subst (Lowest s) (ap added_told (sym g ∙ e)) (lowest s w i f)
     go (shown l u h w f g) = absurd (not-refused (sym e ∙ g))

@@ -1,5 +1,6 @@
 -- Two files that have the same settings below 128 show the same.
 -- Assumes nothing.
+use Rattle.std.specs.Prelude.{None, Option, Some}
 use mathlib.Core.Path.{◌≡◌, refl, sym, ap, ◌∙◌}
 use mathlib.Core.Bool.{Bool, true, false, cond}
 use mathlib.Core.List.{List, [], ◌∷◌}
@@ -12,18 +13,13 @@ use borrow.Author.Tests.{leb-true}
 use Rattle.octets.specs.Numbers.{be}
 use Rattle.socks5.specs.declared.Target.{Target}
 use Rattle.socks5.specs.declared.Target.TheVariants.{V4, V6, Name}
-use Rattle.socks5.specs.declared.Parsed.{Parsed}
-use Rattle.socks5.specs.declared.Parsed.TheVariants.{Found, Malformed}
 use Rattle.socks5.specs.Address.{address_at, v4_at, v6_at, name_at, parse_at, moved}
 use Rattle.settings_file.specs.Format.{count, entry, body, contents_of, WellMade}
-use Rattle.settings_read.specs.declared.Value.{Value}
-use Rattle.settings_read.specs.declared.Value.TheVariants.{Absent, Set}
-use Rattle.settings_read.specs.declared.TargetValue.{TargetValue}
-use Rattle.settings_read.specs.declared.TargetValue.TheVariants.{Absent as NoTarget, Set as TargetSet}
 use Rattle.settings_read.specs.Reading.{target_found}
 use Rattle.settings_demands.specs.Files.{Says, set, unset, number_of, meaning, Within, NewerSame}
 use Rattle.settings_demands.proofs.SaysLaws.{one_only}
 use Rattle.settings_demands.proofs.ReadExactly.{read-is-readable}
+use Rattle.socks5.specs.declared.Address.{Address}
 
 -- ---- a name lies within the address that it is found in
 
@@ -32,16 +28,16 @@ name_end (V4 a) = 0
 name_end (V6 a b) = 0
 name_end (Name place n) = place + n
 
-abbrev reach : Parsed → ℕ
-reach (Found a) = name_end a.target
-reach Malformed = 0
+abbrev reach : Option Address → ℕ
+reach (Some a) = name_end a.target
+reach None = 0
 
 module _ (b : List ℕ) where
   v4-within : reach (v4_at b 0) ≤ length b
   unfolding v4_at
   v4-within = go (leb 7 (length b - 0))
     where
-      go : (c : Bool) → reach (cond c (address_at b (V4 (be 4 (drop (0 + 1) b))) (0 + 5)) Malformed) ≤ length b
+      go : (c : Bool) → reach (cond c (address_at b (V4 (be 4 (drop (0 + 1) b))) (0 + 5)) None) ≤ length b
       go true = omega arith
       go false = omega arith
 
@@ -49,7 +45,7 @@ module _ (b : List ℕ) where
   unfolding v6_at
   v6-within = go (leb 19 (length b - 0))
     where
-      go : (c : Bool) → reach (cond c (address_at b (V6 (be 8 (drop (0 + 1) b)) (be 8 (drop (0 + 9) b))) (0 + 17)) Malformed) ≤ length b
+      go : (c : Bool) → reach (cond c (address_at b (V6 (be 8 (drop (0 + 1) b)) (be 8 (drop (0 + 9) b))) (0 + 17)) None) ≤ length b
       go true = omega arith
       go false = omega arith
 
@@ -58,7 +54,7 @@ module _ (b : List ℕ) where
   name-within n = go (ltb 0 n) (leb (n + 4) (length b - 0)) refl
     where
       go : (c d : Bool) → leb (n + 4) (length b - 0) ≡ d
-          → reach (cond c (cond d (address_at b (Name (0 + 2) n) (0 + 2 + n)) Malformed) Malformed) ≤ length b
+          → reach (cond c (cond d (address_at b (Name (0 + 2) n) (0 + 2 + n)) None) None) ≤ length b
       go true true e = let h : n + 4 ≤ length b - 0 = leb-true _ _ e in omega arith
       go true false e = omega arith
       go false d e = omega arith
@@ -67,7 +63,7 @@ module _ (b : List ℕ) where
   unfolding parse_at
   parsed-within = go (eqb (get_or b 0 0) 1) (eqb (get_or b 0 0) 3) (eqb (get_or b 0 0) 4)
     where
-      go : (c d e : Bool) → reach (cond c (v4_at b 0) (cond d (name_at b 0 (get_or b (0 + 1) 0)) (cond e (v6_at b 0) Malformed))) ≤ length b
+      go : (c d e : Bool) → reach (cond c (v4_at b 0) (cond d (name_at b 0 (get_or b (0 + 1) 0)) (cond e (v6_at b 0) None))) ≤ length b
       go true d e = v4-within
       go false true e = name-within (get_or b (0 + 1) 0)
       go false false true = v6-within
@@ -76,9 +72,9 @@ module _ (b : List ℕ) where
 -- ---- what a target means is in its body
 
 -- of an address in a body
-abbrev meant_in : List ℕ → Parsed → List ℕ
-meant_in b (Found a) = meaning b (TargetSet a.target a.port)
-meant_in b Malformed = []
+abbrev meant_in : List ℕ → Option Address → List ℕ
+meant_in b (Some a) = meaning b (Some (a.target, a.port))
+meant_in b None = []
 
 module _ (s : List ℕ) (w : WellMade s) (i : ℕ) (l : i < count s) where
   part : (p n : ℕ) → p + n ≤ length (body s i) → take n (drop ((entry s i).offset + p) s) ≡ take n (drop p (body s i))
@@ -92,14 +88,14 @@ module _ (s : List ℕ) (w : WellMade s) (i : ℕ) (l : i < count s) where
       ∙ take-append-le n (drop p b) rest (omega (arith, length-drop p b))
 
   target-means : (t : Target) (port : ℕ) → name_end t ≤ length (body s i)
-      → meaning s (TargetSet (moved (entry s i).offset t) port) ≡ meaning (body s i) (TargetSet t port)
+      → meaning s (Some (moved (entry s i).offset t, port)) ≡ meaning (body s i) (Some (t, port))
   target-means (V4 a) port h = refl
   target-means (V6 a b) port h = refl
   target-means (Name p n) port h = ap (λ (x : List ℕ). 3 ∷ port ∷ x) (part p n h)
 
-  found-means : (p : Parsed) → reach p ≤ length (body s i) → meaning s (target_found (entry s i).offset p) ≡ meant_in (body s i) p
-  found-means (Found a) h = target-means a.target a.port h
-  found-means Malformed h = refl
+  found-means : (p : Option Address) → reach p ≤ length (body s i) → meaning s (target_found (entry s i).offset p) ≡ meant_in (body s i) p
+  found-means (Some a) h = target-means a.target a.port h
+  found-means None h = refl
 
   pub body-means : meaning s (target_found (entry s i).offset (parse_at (body s i) 0)) ≡ meant_in (body s i) (parse_at (body s i) 0)
   body-means = found-means (parse_at (body s i) 0) (parsed-within (body s i))
@@ -123,19 +119,19 @@ module _ (s u : List ℕ) (ws : WellMade s) (wu : WellMade u) (su : Within s u) 
       absurd (h there.0 there.1 (there.2 ∙ o))
   same-value of to f p q absent x y ps qs none (unset h e) (unset j g) = ap of e ∙ none ∙ sym (ap to g)
 
-  same_number : (n : ℕ) (x y : Value) → Says (count s) (number_of s) k (λ i. Set (be n (body s i))) Absent x
-      → Says (count u) (number_of u) k (λ i. Set (be n (body u i))) Absent y → x ≡ y
+  same_number : (n : ℕ) (x y : Option ℕ) → Says (count s) (number_of s) k (λ i. Some (be n (body s i))) None x
+      → Says (count u) (number_of u) k (λ i. Some (be n (body u i))) None y → x ≡ y
   same_number n x y =
-      same-value (λ (v : Value). v) (λ (v : Value). v) (λ (b : List ℕ). Set (be n b)) (λ i. Set (be n (body s i))) (λ i. Set (be n (body u i))) Absent x
+      same-value (λ (v : Option ℕ). v) (λ (v : Option ℕ). v) (λ (b : List ℕ). Some (be n b)) (λ i. Some (be n (body s i))) (λ i. Some (be n (body u i))) None x
       y (λ i l. refl) (λ i l. refl) refl
 
-  same_target : (x y : TargetValue)
-      → Says (count s) (number_of s) k (λ i. target_found (entry s i).offset (parse_at (body s i) 0)) NoTarget x
-      → Says (count u) (number_of u) k (λ i. target_found (entry u i).offset (parse_at (body u i) 0)) NoTarget y
+  same_target : (x y : Option (Target × ℕ))
+      → Says (count s) (number_of s) k (λ i. target_found (entry s i).offset (parse_at (body s i) 0)) None x
+      → Says (count u) (number_of u) k (λ i. target_found (entry u i).offset (parse_at (body u i) 0)) None y
       → meaning s x ≡ meaning u y
   same_target x y =
       same-value (meaning s) (meaning u) (λ (b : List ℕ). meant_in b (parse_at b 0)) (λ i. target_found (entry s i).offset (parse_at (body s i) 0))
-      (λ i. target_found (entry u i).offset (parse_at (body u i) 0)) NoTarget x y (body-means s ws) (body-means u wu) refl
+      (λ i. target_found (entry u i).offset (parse_at (body u i) 0)) None x y (body-means s ws) (body-means u wu) refl
 
 pub newer-same : NewerSame
 newer-same s u x y ex ey same su us =

@@ -1,10 +1,10 @@
 -- A file is shown exactly when it is readable, and as its settings say.
 -- Assumes nothing.
+use Rattle.std.specs.Prelude.{Err, None, Ok, Result, Some, Option}
 use mathlib.Core.Path.{◌≡◌, refl, sym, ap, subst, ◌∙◌}
 use mathlib.Core.Bool.{Bool, true, false, not, ◌&&◌}
 use mathlib.Core.List.{List}
 use mathlib.Core.Logic.{◌⊎◌, inl, inr}
-use mathlib.Core.Option.{Option, none, some}
 use Prim.Native.Nat.{ℕ, ◌-◌, ◌≤◌, ◌<◌}
 use native.Mathlib.Omega.{arith}
 use lib.Dec.{T, leb, ltb}
@@ -23,11 +23,7 @@ use Rattle.settings_rules.specs.Contents.{first_unknown}
 use Rattle.settings_rules.proofs.ContentsLaws.{unknown-none}
 use Rattle.settings_file.specs.Format.{edition, count, entry, body, contents_of, WellMade, is_well_made}
 use Rattle.settings_file.proofs.MadeLaws.{well-made-exactly}
-use Rattle.settings_read.specs.declared.Value.TheVariants.{Absent, Set}
-use Rattle.settings_read.specs.declared.TargetValue.TheVariants.{Absent as NoTarget}
 use Rattle.settings_read.specs.declared.Settings.{Settings}
-use Rattle.settings_read.specs.declared.FileRead.{FileRead}
-use Rattle.settings_read.specs.declared.FileRead.TheVariants.{Shown, Refused}
 use Rattle.settings_read.specs.Reading.{value_of, target_found, target_of, setting_at, settings_in, is_hashed, read_answer}
 use Rattle.settings_read.proofs.AnswerLaws.{too_short, too_long, other-hash, right-hash, ill-made, an-unknown, all_known}
 use Rattle.settings_demands.specs.Files.{Known, number_of, Shows, Readable, ReadExactly}
@@ -59,19 +55,19 @@ known-below n e l =
 -- ---- which answer is given, and why
 
 pub data Ways (s : List ℕ) : Type 0 where
-  refused : (r : Refusal) → read_answer s ≡ Refused r → (r ≡ Length) ⊎ ((r ≡ NotAuthentic) ⊎ (r ≡ Malformed)) → Ways s
-  unknown : WellMade s → (i : ℕ) → first_unknown (contents_of s) ≡ some i → read_answer s ≡ Refused (UnknownSetting (number_of s i)) → Ways s
-  shown : 36 ≤ length s → length s ≤ 65535 → is_hashed s ≡ true → WellMade s → first_unknown (contents_of s) ≡ none
-      → read_answer s ≡ Shown (settings_in s) → Ways s
+  refused : (r : Refusal) → read_answer s ≡ Err r → (r ≡ Length) ⊎ ((r ≡ NotAuthentic) ⊎ (r ≡ Malformed)) → Ways s
+  unknown : WellMade s → (i : ℕ) → first_unknown (contents_of s) ≡ Some i → read_answer s ≡ Err (UnknownSetting (number_of s i)) → Ways s
+  shown : 36 ≤ length s → length s ≤ 65535 → is_hashed s ≡ true → WellMade s → first_unknown (contents_of s) ≡ None
+      → read_answer s ≡ Ok (settings_in s) → Ways s
 
 module _ (s : List ℕ) where
   by-made : 36 ≤ length s → length s ≤ 65535 → is_hashed s ≡ true → Ways s
   by-made l u h = go (is_well_made s) refl
     where
       found : is_well_made s ≡ true → (o : Option ℕ) → first_unknown (contents_of s) ≡ o → Ways s
-      found e (some i) f =
+      found e (Some i) f =
           unknown ((well-made-exactly s).0 e) i f (sym (an-unknown s e i (entry s i) f refl ∙ right-hash s l u h))
-      found e none f =
+      found e None f =
           shown l u h ((well-made-exactly s).0 e) f (sym (all_known s e (settings_in s) f refl ∙ right-hash s l u h))
 
       go : (b : Bool) → is_well_made s ≡ b → Ways s
@@ -95,40 +91,40 @@ module _ (s : List ℕ) where
 
 -- ---- answers are told apart
 
-abbrev is_shown : FileRead → Bool
-is_shown (Shown x) = true
-is_shown (Refused r) = false
+abbrev is_shown : Result Settings Refusal → Bool
+is_shown (Ok x) = true
+is_shown (Err r) = false
 
-pub not-refused : {x : Settings} {r : Refusal} → Refused r ≡ Shown x → ⊥
+pub not-refused : {x : Settings} {r : Refusal} → Err r ≡ Ok x → ⊥
 not-refused e = subst T (sym (ap is_shown e)) tt
 
-abbrev settings_or : Settings → FileRead → Settings
-settings_or d (Shown x) = x
-settings_or d (Refused r) = d
+abbrev settings_or : Settings → Result Settings Refusal → Settings
+settings_or d (Ok x) = x
+settings_or d (Err r) = d
 
-pub shown-same : {x y : Settings} → Shown x ≡ Shown y → x ≡ y
+pub shown-same : {x y : Settings} → ◌≡◌ {A = Result Settings Refusal} (Ok x) (Ok y) → x ≡ y
 shown-same {x} {y} e = ap (settings_or x) e
 
 -- ---- what is shown
 
 module _ (s : List ℕ) where
-  value-picks : (w : ℕ) (o : Option ℕ) → value_of w s o ≡ pick (λ i. Set (be w (body s i))) Absent o
-  value-picks w (some i) = refl
-  value-picks w none = refl
+  value-picks : (w : ℕ) (o : Option ℕ) → value_of w s o ≡ pick (λ i. Some (be w (body s i))) None o
+  value-picks w (Some i) = refl
+  value-picks w None = refl
 
-  target-picks : (o : Option ℕ) → target_of s o ≡ pick (λ i. target_found (entry s i).offset (parse_at (body s i) 0)) NoTarget o
-  target-picks (some i) = refl
-  target-picks none = refl
+  target-picks : (o : Option ℕ) → target_of s o ≡ pick (λ i. target_found (entry s i).offset (parse_at (body s i) 0)) None o
+  target-picks (Some i) = refl
+  target-picks None = refl
 
   pub shows_in : Shows (count s) (number_of s) (body s) (λ i. (entry s i).offset) (settings_in s)
   unfolding settings_in
   shows_in =
       record {
-        method = index-says (contents_of s) 1 (λ i. Set (be 1 (body s i))) Absent (setting_at s 1) refl _ (value-picks 1 (setting_at s 1));
-        retention = index-says (contents_of s) 2 (λ i. Set (be 2 (body s i))) Absent (setting_at s 2) refl _ (value-picks 2 (setting_at s 2));
-        limit = index-says (contents_of s) 3 (λ i. Set (be 4 (body s i))) Absent (setting_at s 3) refl _ (value-picks 4 (setting_at s 3));
+        method = index-says (contents_of s) 1 (λ i. Some (be 1 (body s i))) None (setting_at s 1) refl _ (value-picks 1 (setting_at s 1));
+        retention = index-says (contents_of s) 2 (λ i. Some (be 2 (body s i))) None (setting_at s 2) refl _ (value-picks 2 (setting_at s 2));
+        limit = index-says (contents_of s) 3 (λ i. Some (be 4 (body s i))) None (setting_at s 3) refl _ (value-picks 4 (setting_at s 3));
         target =
-            index-says (contents_of s) 4 (λ i. target_found (entry s i).offset (parse_at (body s i) 0)) NoTarget (setting_at s 4) refl _
+            index-says (contents_of s) 4 (λ i. target_found (entry s i).offset (parse_at (body s i) 0)) None (setting_at s 4) refl _
             (target-picks (setting_at s 4));
       }
 
@@ -136,15 +132,15 @@ module _ (s : List ℕ) where
       → Shows (count s) (number_of s) (body s) (λ i. (entry s i).offset) x → x ≡ settings_in s
   unfolding settings_in
   shown-as-said w x e h =
-      let m = says-index (contents_of s) 1 (λ i. Set (be 1 (body s i))) Absent w.lawful _ h.method ∙ sym (value-picks 1 (setting_at s 1)) in
-      let r = says-index (contents_of s) 2 (λ i. Set (be 2 (body s i))) Absent w.lawful _ h.retention ∙ sym (value-picks 2 (setting_at s 2)) in
-      let l = says-index (contents_of s) 3 (λ i. Set (be 4 (body s i))) Absent w.lawful _ h.limit ∙ sym (value-picks 4 (setting_at s 3)) in
+      let m = says-index (contents_of s) 1 (λ i. Some (be 1 (body s i))) None w.lawful _ h.method ∙ sym (value-picks 1 (setting_at s 1)) in
+      let r = says-index (contents_of s) 2 (λ i. Some (be 2 (body s i))) None w.lawful _ h.retention ∙ sym (value-picks 2 (setting_at s 2)) in
+      let l = says-index (contents_of s) 3 (λ i. Some (be 4 (body s i))) None w.lawful _ h.limit ∙ sym (value-picks 4 (setting_at s 3)) in
       let t =
-      says-index (contents_of s) 4 (λ i. target_found (entry s i).offset (parse_at (body s i) 0)) NoTarget w.lawful _ h.target
+      says-index (contents_of s) 4 (λ i. target_found (entry s i).offset (parse_at (body s i) 0)) None w.lawful _ h.target
       ∙ sym (target-picks (setting_at s 4)) in
       λ i. record { edition = e i; method = m i; retention = r i; limit = l i; target = t i }
 
-  readable-in : 36 ≤ length s → length s ≤ 65535 → is_hashed s ≡ true → WellMade s → first_unknown (contents_of s) ≡ none
+  readable-in : 36 ≤ length s → length s ≤ 65535 → is_hashed s ≡ true → WellMade s → first_unknown (contents_of s) ≡ None
       → Readable s (settings_in s)
   unfolding is_hashed settings_in
   readable-in l u h w f =
@@ -158,7 +154,7 @@ module _ (s : List ℕ) where
         shows = shows_in;
       }
 
-  pub read-is-readable : (x : Settings) → read_answer s ≡ Shown x → Readable s x
+  pub read-is-readable : (x : Settings) → read_answer s ≡ Ok x → Readable s x
   read-is-readable x e = go (ways s)
     where
       go : Ways s → Readable s x
@@ -170,11 +166,11 @@ module _ (s : List ℕ) where
   unfolding is_hashed
   hashed-so e = ap (λ (z : List ℕ). same z (drop (length s - 32) s)) e ∙ same_refl (drop (length s - 32) s)
 
-  nothing-unknown : ((i : ℕ) → i < count s → is_unknown (number_of s i) ≡ false) → first_unknown (contents_of s) ≡ none
+  nothing-unknown : ((i : ℕ) → i < count s → is_unknown (number_of s i) ≡ false) → first_unknown (contents_of s) ≡ None
   unfolding first_unknown
   nothing-unknown f = from-none (λ i. is_unknown (number_of s i)) 0 (count s) (λ k l u. f k (omega arith))
 
-  readable-is-read : (x : Settings) → Readable s x → read_answer s ≡ Shown x
+  readable-is-read : (x : Settings) → Readable s x → read_answer s ≡ Ok x
   readable-is-read x r =
       let e = (well-made-exactly s).1 r.made in
       let f = nothing-unknown (λ i l. no-unknown (number_of s i) (r.known i l)) in

@@ -1,9 +1,9 @@
 -- The setting of a number, found by its index and said by its number.
 -- Assumes nothing.
+use Rattle.std.specs.Prelude.{None, Option, Some}
 use mathlib.Core.Path.{◌≡◌, refl, sym, ap, ◌∙◌}
 use mathlib.Core.Bool.{Bool, true, false}
 use mathlib.Core.Logic.{◌⊎◌, inl, inr, ⊎_elim}
-use mathlib.Core.Option.{Option, none, some}
 use Prim.Native.Nat.{ℕ, suc, ◌+◌, ◌-◌, ◌≤◌, ◌<◌}
 use native.Mathlib.Nat.{eq-or-lt_of_le}
 use native.Mathlib.Omega.{arith}
@@ -22,8 +22,8 @@ lt-or-le i j = go (ltb i j) refl
 
 -- the value of a setting that was found
 abbrev pub pick : {A : Type 0} → (ℕ → A) → A → Option ℕ → A
-pick value absent (some i) = value i
-pick value absent none = absent
+pick value absent (Some i) = value i
+pick value absent None = absent
 
 module _ (t : Contents) where
   -- ---- numbers that rise are different
@@ -44,19 +44,19 @@ module _ (t : Contents) where
 
   module _ {A : Type 0} (k : ℕ) (value : ℕ → A) (absent : A) where
     pub index-says : (o : Option ℕ) → index_of t k ≡ o → (x : A) → x ≡ pick value absent o → Says t.size t.number k value absent x
-    index-says (some i) e x f = let g = index-found t k i e in set i g.0 g.1 f
-    index-says none e x f = unset (index-none t k e) f
+    index-says (Some i) e x f = let g = index-found t k i e in set i g.0 g.1 f
+    index-says None e x f = unset (index-none t k e) f
 
     pub says-index : Lawful t → (x : A) → Says t.size t.number k value absent x → x ≡ pick value absent (index_of t k)
     says-index w x (set i l n f) = go (index_of t k) refl
       where
         go : (o : Option ℕ) → index_of t k ≡ o → x ≡ pick value absent (index_of t k)
-        go (some j) e =
+        go (Some j) e =
             let g = index-found t k j e in
             f ∙ ap value (one_only w i j l g.0 (n ∙ sym g.1)) ∙ sym (ap (pick value absent) e)
-        go none e = absurd (index-none t k e i l n)
+        go None e = absurd (index-none t k e i l n)
     says-index w x (unset h f) = go (index_of t k) refl
       where
         go : (o : Option ℕ) → index_of t k ≡ o → x ≡ pick value absent (index_of t k)
-        go (some j) e = let g = index-found t k j e in absurd (h j g.0 g.1)
-        go none e = f ∙ sym (ap (pick value absent) e)
+        go (Some j) e = let g = index-found t k j e in absurd (h j g.0 g.1)
+        go None e = f ∙ sym (ap (pick value absent) e)

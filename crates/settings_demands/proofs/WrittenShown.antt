@@ -1,5 +1,6 @@
 -- What was written is shown as it was given.
 -- Assumes nothing.
+use Rattle.std.specs.Prelude.{None, Option, Some}
 use mathlib.Core.Path.{◌≡◌, refl, sym, ap, subst, ◌∙◌}
 use mathlib.Core.List.{List}
 use Prim.Native.Nat.{ℕ, ◌+◌, ◌-◌, ◌*◌, ◌<◌}
@@ -11,9 +12,6 @@ use Rattle.socks5.specs.Address.{parse_at}
 use Rattle.settings_rules.specs.Rules.{is_unknown}
 use Rattle.settings_file.specs.declared.Entry.{Entry}
 use Rattle.settings_file.specs.Format.{count, entry, body}
-use Rattle.settings_read.specs.declared.Value.{Value}
-use Rattle.settings_read.specs.declared.Value.TheVariants.{Absent, Set}
-use Rattle.settings_read.specs.declared.TargetValue.TheVariants.{Absent as NoTarget}
 use Rattle.settings_read.specs.declared.Settings.{Settings}
 use Rattle.settings_read.specs.Reading.{target_found, settings_in}
 use Rattle.settings_write.specs.Writing.{size_of, body_at, before, file_of, Writable}
@@ -52,8 +50,8 @@ module _ (e : ℕ) (ws bodies : List ℕ) (w : Writable ws bodies) where
   says-given k value given absent x same (unset h f) =
       unset (λ i l n. h i (subst (λ (c : ℕ). i < c) (sym (file-count e ws bodies w)) l) (number-given i l ∙ n)) f
 
-  value-given : (n i : ℕ) → i < size → ◌≡◌ {A = Value} (Set (be n (body file i))) (Set (be n (body_given ws bodies i)))
-  value-given n i l = ap (λ (b : List ℕ). Set (be n b)) (body-given i l)
+  value-given : (n i : ℕ) → i < size → ◌≡◌ {A = Option ℕ} (Some (be n (body file i))) (Some (be n (body_given ws bodies i)))
+  value-given n i l = ap (λ (b : List ℕ). Some (be n b)) (body-given i l)
 
   target-given : (i : ℕ) → i < size
       → target_found (entry file i).offset (parse_at (body file i) 0) ≡ target_found (4 + 6 * size + before ws i) (parse_at (body_given ws bodies i) 0)
@@ -63,10 +61,10 @@ module _ (e : ℕ) (ws bodies : List ℕ) (w : Writable ws bodies) where
       → Shows size (number_given ws) (body_given ws bodies) (λ i. 4 + 6 * size + before ws i) x
   shows-given x h =
       record {
-        method = says-given 1 _ _ Absent x.method (value-given 1) h.method;
-        retention = says-given 2 _ _ Absent x.retention (value-given 2) h.retention;
-        limit = says-given 3 _ _ Absent x.limit (value-given 4) h.limit;
-        target = says-given 4 _ _ NoTarget x.target target-given h.target;
+        method = says-given 1 _ _ None x.method (value-given 1) h.method;
+        retention = says-given 2 _ _ None x.retention (value-given 2) h.retention;
+        limit = says-given 3 _ _ None x.limit (value-given 4) h.limit;
+        target = says-given 4 _ _ None x.target target-given h.target;
       }
 
   readable : Readable file (settings_in file)

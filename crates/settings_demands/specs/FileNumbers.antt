@@ -1,15 +1,12 @@
 -- The numbers of a file of settings: what the definitions that contracts cite compute to, and what that should be, written out. A number
 -- that is changed alike in a definition and in the code still meets the contract; it does not meet these.
 -- Assumes nothing.
-use Rattle.std.specs.Prelude.{◌≡◌, true, false, ◌&&◌, ◌||◌, List, [], ◌∷◌, ◌++◌, map, ℕ, ◌<◌, eqb, leb, length}
+use Rattle.std.specs.Prelude.{◌≡◌, true, false, ◌&&◌, ◌||◌, List, [], ◌∷◌, ◌++◌, map, ℕ, ◌<◌, eqb, leb, length, None, Option, Some}
 use Rattle.octets.specs.Numbers.{be}
 use Rattle.socks5.specs.declared.Target.TheVariants.{V6, Name}
 use Rattle.socks5.specs.Address.{is_address}
 use Rattle.settings_rules.specs.Rules.{is_unknown, lawful}
 use Rattle.settings_file.specs.Format.{hash_length, min_file, max_file, edition, count, entry, body}
-use Rattle.settings_read.specs.declared.Value.{Value}
-use Rattle.settings_read.specs.declared.Value.TheVariants.{Absent, Set}
-use Rattle.settings_read.specs.declared.TargetValue.TheVariants.{Absent as NoTarget, Set as TargetSet}
 use Rattle.settings_read.specs.declared.Settings.{Settings}
 use Rattle.settings_write.specs.Writing.{max_number, covered, file_length}
 use Rattle.settings_answers.specs.Told.{set_bits, settings_words}
@@ -26,21 +23,21 @@ abbrev pub all_set : Settings
 all_set =
     record {
       edition = 7;
-      method = Set 3;
-      retention = Set 0;
-      limit = Set 1500;
-      target = TargetSet (Name 44 5) 80;
+      method = Some 3;
+      retention = Some 0;
+      limit = Some 1500;
+      target = Some (Name 44 5, 80);
     }
 
 abbrev pub none_set : Settings
-none_set = record { edition = 7; method = Absent; retention = Absent; limit = Absent; target = NoTarget }
+none_set = record { edition = 7; method = None; retention = None; limit = None; target = None }
 
 abbrev pub target_alone : Settings
-target_alone = record { edition = 0; method = Absent; retention = Absent; limit = Absent; target = TargetSet (V6 5 6) 7 }
+target_alone = record { edition = 0; method = None; retention = None; limit = None; target = Some (V6 5 6, 7) }
 
 -- one setting alone
-abbrev pub alone : Value → Value → Value → Settings
-alone method retention limit = record { edition = 0; method = method; retention = retention; limit = limit; target = NoTarget }
+abbrev pub alone : Option ℕ → Option ℕ → Option ℕ → Settings
+alone method retention limit = record { edition = 0; method = method; retention = retention; limit = limit; target = None }
 
 pub record FileNumbers : Type 0 where
   -- ---- lawful bodies
@@ -70,7 +67,7 @@ pub record FileNumbers : Type 0 where
   pub second-body : body sample 1 ≡ 9 ∷ 8 ∷ []
   -- ---- the words of an answer
   pub set-bits :
-      map set_bits (alone (Set 1) Absent Absent ∷ alone Absent (Set 0) Absent ∷ alone Absent Absent (Set 0) ∷ target_alone ∷ [])
+      map set_bits (alone (Some 1) None None ∷ alone None (Some 0) None ∷ alone None None (Some 0) ∷ target_alone ∷ [])
       ≡ 1 ∷ 2 ∷ 4 ∷ 8 ∷ []
   pub all_words : settings_words all_set ≡ 7 ∷ 15 ∷ 3 ∷ 0 ∷ 1500 ∷ 3 ∷ 44 ∷ 5 ∷ 80 ∷ []
   pub no_words : settings_words none_set ≡ 7 ∷ 0 ∷ 0 ∷ 0 ∷ 0 ∷ 0 ∷ 0 ∷ 0 ∷ 0 ∷ []

@@ -1,39 +1,35 @@
 -- The orders of refusals of reading and writing a file of settings, as lists to be held beside the scope's own line, with its numbers
 -- written out. Sums are of whole numbers.
 -- Assumes nothing.
-use Rattle.std.specs.Prelude.{◌≡◌, Bool, true, false, not, ◌||◌, List, [], ◌∷◌, ℕ, ◌+◌, ◌-◌, ◌*◌, ◌/◌, ◌%◌, eqb, ltb, length, take, drop}
-use Rattle.std.proofs.Math.Option.{Option, none, some}
+use Rattle.std.specs.Prelude.{◌≡◌, Bool, true, false, not, ◌||◌, List, [], ◌∷◌, ℕ, ◌+◌, ◌-◌, ◌*◌, ◌/◌, ◌%◌, eqb, ltb, length, take, drop, Err, Ok, Result, None, Option, Some}
 use Rattle.octets.specs.Buffers.{same}
 use Rattle.blake3.specs.Tree.{hash}
 use Rattle.protocol.specs.Orders.{Rule, rule, unknown_setting, Said, gives, first, refuses_with}
 use Rattle.settings_rules.specs.Contents.{first_unknown}
 use Rattle.settings_file.specs.Format.{entry, contents_of, is_well_made}
 use Rattle.settings_read.specs.declared.Settings.{Settings}
-use Rattle.settings_read.specs.declared.FileRead.{FileRead}
-use Rattle.settings_read.specs.declared.FileRead.TheVariants.{Shown, Refused}
 use Rattle.settings_read.specs.Reading.{settings_in, read_answer}
-use Rattle.settings_write.specs.declared.Written.{Written}
-use Rattle.settings_write.specs.declared.Written.TheVariants.{Length, Refused as NotWritten}
 use Rattle.settings_write.specs.Writing.{before, given, all_writable, write_answer}
+use Rattle.protocol.specs.declared.Refusal.{Refusal}
 
-abbrev pub said_read : FileRead → Said Settings
-said_read (Shown x) = gives x
-said_read (Refused r) = refuses_with r
+abbrev pub said_read : Result Settings Refusal → Said Settings
+said_read (Ok x) = gives x
+said_read (Err r) = refuses_with r
 
-abbrev pub said_written : Written → Said ℕ
-said_written (Length n) = gives n
-said_written (NotWritten r) = refuses_with r
+abbrev pub said_written : Result ℕ Refusal → Said ℕ
+said_written (Ok n) = gives n
+said_written (Err r) = refuses_with r
 
 -- ---- reading: 2, 4, 5, 15
 
 -- whether a setting was found, and its number
 abbrev pub is_there : Option ℕ → Bool
-is_there (some i) = true
-is_there none = false
+is_there (Some i) = true
+is_there None = false
 
 abbrev pub number_there : List ℕ → Option ℕ → ℕ
-number_there s (some i) = (entry s i).number
-number_there s none = 0
+number_there s (Some i) = (entry s i).number
+number_there s None = 0
 
 abbrev pub read_order : List ℕ → List Rule
 read_order s =

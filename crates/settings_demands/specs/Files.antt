@@ -1,21 +1,17 @@
 -- What is promised of files of settings: what a file shows and when, which unknown setting is told, that what is written is shown, and that
 -- newer settings change nothing that is shown.
 -- Assumes nothing.
-use Rattle.std.specs.Prelude.{◌≡◌, List, [], ◌∷◌, ℕ, ◌+◌, ◌-◌, ◌*◌, ◌/◌, ◌≤◌, ◌<◌, length, get_or, take, drop}
+use Rattle.std.specs.Prelude.{◌≡◌, List, [], ◌∷◌, ℕ, ◌+◌, ◌-◌, ◌*◌, ◌/◌, ◌≤◌, ◌<◌, length, get_or, take, drop, Err, None, Ok, Option, Some}
 use Rattle.octets.specs.Numbers.{be}
 use Rattle.blake3.specs.Tree.{hash}
 use Rattle.protocol.specs.declared.Refusal.TheVariants.{UnknownSetting}
 use Rattle.socks5.specs.declared.Target.TheVariants.{V4, V6, Name}
 use Rattle.socks5.specs.Address.{parse_at}
 use Rattle.settings_file.specs.Format.{count, entry, body, WellMade}
-use Rattle.settings_read.specs.declared.Value.TheVariants.{Absent, Set}
-use Rattle.settings_read.specs.declared.TargetValue.{TargetValue}
-use Rattle.settings_read.specs.declared.TargetValue.TheVariants.{Absent as NoTarget, Set as TargetSet}
 use Rattle.settings_read.specs.declared.Settings.{Settings}
-use Rattle.settings_read.specs.declared.FileRead.TheVariants.{Shown, Refused}
 use Rattle.settings_read.specs.Reading.{target_found, read_answer}
-use Rattle.settings_write.specs.declared.Written.TheVariants.{Length}
 use Rattle.settings_write.specs.Writing.{before, file_of, write_answer}
+use Rattle.socks5.specs.declared.Target.{Target}
 
 -- ---- what a setting says
 
@@ -30,10 +26,10 @@ as_set R = R
 
 -- what settings with these numbers, bodies and places in the file say
 pub record Shows (size : ℕ) (number : ℕ → ℕ) (body : ℕ → List ℕ) (place : ℕ → ℕ) (x : Settings) : Type 0 where
-  pub method : Says size number 1 (λ i. Set (be 1 (body i))) Absent x.method
-  pub retention : Says size number 2 (λ i. Set (as_set (be 2 (body i)))) Absent x.retention
-  pub limit : Says size number 3 (λ i. Set (be 4 (body i))) Absent x.limit
-  pub target : Says size number 4 (λ i. target_found (place i) (parse_at (body i) 0)) NoTarget x.target
+  pub method : Says size number 1 (λ i. Some (be 1 (body i))) None x.method
+  pub retention : Says size number 2 (λ i. Some (as_set (be 2 (body i)))) None x.retention
+  pub limit : Says size number 3 (λ i. Some (be 4 (body i))) None x.limit
+  pub target : Says size number 4 (λ i. target_found (place i) (parse_at (body i) 0)) None x.target
 
 abbrev pub number_of : List ℕ → ℕ → ℕ
 number_of s i = (entry s i).number
@@ -54,7 +50,7 @@ pub record Readable (s : List ℕ) (x : Settings) : Type 0 where
   pub shows : Shows (count s) (number_of s) (body s) (λ i. (entry s i).offset) x
 
 abbrev pub ReadExactly : Type 0
-ReadExactly = (s : List ℕ) (x : Settings) → (read_answer s ≡ Shown x → Readable s x) × (Readable s x → read_answer s ≡ Shown x)
+ReadExactly = (s : List ℕ) (x : Settings) → (read_answer s ≡ Ok x → Readable s x) × (Readable s x → read_answer s ≡ Ok x)
 
 -- ---- the unknown setting that is told
 
@@ -71,7 +67,7 @@ pub record Lowest (s : List ℕ) (n : ℕ) : Type 0 where
   pub least : (m : ℕ) → Unknown s m → n ≤ m
 
 abbrev pub RefusesLowest : Type 0
-RefusesLowest = (s : List ℕ) (n : ℕ) → read_answer s ≡ Refused (UnknownSetting n) → Lowest s n
+RefusesLowest = (s : List ℕ) (n : ℕ) → read_answer s ≡ Err (UnknownSetting n) → Lowest s n
 
 -- ---- what is written is shown
 
@@ -84,23 +80,23 @@ body_given ws bodies i = take (get_or ws (2 * i + 1) 0) (drop (before ws i) bodi
 
 pub record ShownAsGiven (e : ℕ) (ws bodies : List ℕ) : Type 0 where
   pub shown : Settings
-  pub answer : read_answer (file_of e ws bodies) ≡ Shown shown
+  pub answer : read_answer (file_of e ws bodies) ≡ Ok shown
   pub edition : shown.edition ≡ e
   pub shows : Shows (length ws / 2) (number_given ws) (body_given ws bodies) (λ i. 4 + 6 * (length ws / 2) + before ws i) shown
 
 abbrev pub WrittenShown : Type 0
 WrittenShown =
-    (edition : ℕ) (ws bodies : List ℕ) (room n : ℕ) → edition < 65536 → write_answer ws bodies room ≡ Length n
+    (edition : ℕ) (ws bodies : List ℕ) (room n : ℕ) → edition < 65536 → write_answer ws bodies room ≡ Ok n
     → ShownAsGiven edition ws bodies
 
 -- ---- newer settings change nothing that is shown
 
 -- what a target means: the place of a name is another one in another file, its bytes are the same
-abbrev pub meaning : List ℕ → TargetValue → List ℕ
-meaning s NoTarget = []
-meaning s (TargetSet (V4 a) port) = 1 ∷ port ∷ a ∷ []
-meaning s (TargetSet (Name place n) port) = 3 ∷ port ∷ take n (drop place s)
-meaning s (TargetSet (V6 a b) port) = 4 ∷ port ∷ a ∷ b ∷ []
+abbrev pub meaning : List ℕ → Option (Target × ℕ) → List ℕ
+meaning s None = []
+meaning s (Some (V4 a, port)) = 1 ∷ port ∷ a ∷ []
+meaning s (Some (Name place n, port)) = 3 ∷ port ∷ take n (drop place s)
+meaning s (Some (V6 a b, port)) = 4 ∷ port ∷ a ∷ b ∷ []
 
 -- each setting of s below 128 is in u too
 abbrev pub Within : (s u : List ℕ) → Type 0
@@ -117,5 +113,5 @@ pub record SameShown (s u : List ℕ) (x y : Settings) : Type 0 where
 -- two files of one edition that have the same settings below 128, whatever they have from there on
 abbrev pub NewerSame : Type 0
 NewerSame =
-    (s u : List ℕ) (x y : Settings) → read_answer s ≡ Shown x → read_answer u ≡ Shown y → be 2 s ≡ be 2 u → Within s u → Within u s
+    (s u : List ℕ) (x y : Settings) → read_answer s ≡ Ok x → read_answer u ≡ Ok y → be 2 s ≡ be 2 u → Within s u → Within u s
     → SameShown s u x y

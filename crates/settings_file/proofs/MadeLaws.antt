@@ -1,7 +1,7 @@
 -- A well-made file: bodies in a row, numbers that rise, bodies that are lawful.
 -- Assumes nothing.
 use mathlib.Core.Path.{◌≡◌, sym, ap, ◌∙◌}
-use mathlib.Core.Bool.{Bool, true, false, ◌&&◌, and-eq-true_iff}
+use mathlib.Core.Bool.{Bool, true, ◌&&◌, and-eq-true_iff}
 use mathlib.Core.List.{List}
 use Prim.Native.Nat.{ℕ}
 use Rattle.settings_rules.specs.Contents.{all_lawful}
@@ -10,11 +10,7 @@ use Rattle.settings_file.specs.Format.{contents_of, is_in_row, WellMade, is_well
 use Rattle.settings_file.proofs.RowLaws.{in_row, row-passes}
 
 module _ (s : List ℕ) where
-  pub not-in-row : is_in_row s ≡ false → false ≡ is_well_made s
-  unfolding is_well_made
-  not-in-row e = sym (ap (λ (b : Bool). b && all_lawful (contents_of s)) e)
-
-  pub by-settings : is_in_row s ≡ true → all_lawful (contents_of s) ≡ is_well_made s
+  by-settings : is_in_row s ≡ true → all_lawful (contents_of s) ≡ is_well_made s
   unfolding is_well_made
   by-settings e = sym (ap (λ (b : Bool). b && all_lawful (contents_of s)) e)
 

@@ -136,10 +136,3 @@ module _ (s : List ℕ) where
       let e : i + 1 + (count s - (i + 1)) ≡ count s = omega arith in
       let r : start s (i + 1) ≤ start s (count s) = rw e at (starts-rise (i + 1) (count s - (i + 1))) in
       omega (arith, r, next_start i, w.back-to-back i l, w.ends)
-
-  -- no body begins at the file's start
-  pub body-behind : InRow s → (i : ℕ) → i < count s → 4 ≤ (entry s i).offset
-  body-behind w i l =
-      let e : 0 + i ≡ i = omega arith in
-      let r : start s 0 ≤ start s i = rw e at (starts-rise 0 i) in
-      omega (arith, r, first-start, w.back-to-back i l)

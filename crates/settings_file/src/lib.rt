@@ -1,8 +1,7 @@
 // A file of settings: the contents table, whether it is well made, and where a setting stands.
 #![tactic(auto)]
 
-ghost use Rattle.std.specs.Prelude.{◌≡◌, ◌≤◌, ◌<◌, length};
-ghost use Rattle.std.proofs.Math.Option.{get_or};
+ghost use Rattle.std.specs.Prelude.{◌≡◌, ◌≤◌, ◌<◌, length, IfSome};
 ghost use Rattle.settings_rules.specs.Contents.{is_lawful, all_lawful, index_of, first_unknown};
 ghost use Rattle.settings_file.specs.Format.{edition, count, place_of, entry_at, entry, hash_place, contents_of, InRow, follow, is_in_row, is_well_made};
 
@@ -62,15 +61,13 @@ fn bodies_follow(s: &[u8], n: usize) -> bool
     requires in_bounds { 32 ≤ length s.now }
     ensures { result ≡ follow s.now n 0 (place_of n) }
 {
-    let mut i: usize = 0;
     let mut place: usize = 4 + 6 * n;
-    while i < n {
+    for i in 0..n {
         let e = read_entry(s, i);
         if e.offset as usize != place {
             return false;
         }
         place += e.len as usize;
-        i += 1;
     }
     place == s.len() - HASH
 }
@@ -78,14 +75,8 @@ fn bodies_follow(s: &[u8], n: usize) -> bool
 fn is_in_row(s: &[u8]) -> bool
     ensures { result ≡ is_in_row s.now }
 {
-    if s.len() < HASH {
-        return false;
-    }
     let n = count(s) as usize;
-    if s.len() - HASH < 4 + 6 * n {
-        return false;
-    }
-    bodies_follow(s, n)
+    4 + 6 * n + HASH <= s.len() && bodies_follow(s, n)
 }
 
 // Whether setting i, whose number is to be at least `least`, may have the body that it has.
@@ -109,57 +100,37 @@ fn are_lawful(s: &[u8]) -> bool
     ensures { result ≡ all_lawful (contents_of s.now) }
 {
     let n = count(s) as usize;
-    let mut i: usize = 0;
     let mut least: u64 = 0;
-    while i < n {
+    for i in 0..n {
         let e = read_entry(s, i);
         if !is_lawful_at(s, e, i, least) {
             return false;
         }
         least = e.number as u64 + 1;
-        i += 1;
     }
     true
 }
 
 // Whether the contents and bodies are as they have to be.
+#[tactic(auto, unfolding(crate::specs::Format::is_well_made))]
 pub fn is_well_made(s: &[u8]) -> bool
     ensures { result ≡ is_well_made s.now }
 {
-    if !is_in_row(s) {
-        return false;
-    }
-    are_lawful(s)
+    is_in_row(s) && are_lawful(s)
 }
 
-// The setting of a number, or the count where there is none.
-pub fn find(s: &[u8], number: u64) -> usize
-    ensures { result ≡ get_or (index_of (contents_of s.now) number) (count s.now) }
+// The setting of a number.
+pub fn find(s: &[u8], number: u64) -> Option<usize>
+    ensures value { result ≡ index_of (contents_of s.now) number }
+    ensures bound { IfSome result (λ i. i < 65536) }
 {
-    let n = count(s) as usize;
-    let mut i: usize = 0;
-    while i < n {
-        let e = read_entry(s, i);
-        if e.number as u64 == number {
-            return i;
-        }
-        i += 1;
-    }
-    i
+    (0..count(s) as usize).find(|i| read_entry(s, *i).number as u64 == number)
 }
 
-// The first setting whose number is unknown, or the count where there is none.
-pub fn find_unknown(s: &[u8]) -> usize
-    ensures { result ≡ get_or (first_unknown (contents_of s.now)) (count s.now) }
+// The first setting whose number is unknown.
+pub fn find_unknown(s: &[u8]) -> Option<usize>
+    ensures value { result ≡ first_unknown (contents_of s.now) }
+    ensures bound { IfSome result (λ i. i < 65536) }
 {
-    let n = count(s) as usize;
-    let mut i: usize = 0;
-    while i < n {
-        let e = read_entry(s, i);
-        if is_unknown(e.number as u64) {
-            return i;
-        }
-        i += 1;
-    }
-    i
+    (0..count(s) as usize).find(|i| is_unknown(read_entry(s, *i).number as u64))
 }

@@ -1,34 +1,31 @@
 -- What is read of a well-made file is what the bodies of its settings say.
 -- Assumes nothing.
+use Rattle.std.specs.Prelude.{None, Option, Some, MatchOption, IsSomeAnd}
 use mathlib.Core.Path.{◌≡◌, refl, sym, ap, subst, ◌∙◌}
 use mathlib.Core.Bool.{true}
 use mathlib.Core.List.{List, ◌++◌}
-use mathlib.Core.Option.{Option, none, some}
 use Prim.Native.Nat.{ℕ, ◌+◌, ◌≤◌, ◌<◌}
 use native.Mathlib.Omega.{arith}
 use lib.ListN.{length, take, drop, length-drop, take-append-drop}
 use lib.Seq.{drop-drop, length-take-le}
 use Rattle.octets.specs.Numbers.{be}
 use Rattle.octets.proofs.NumberLaws.{be-take}
-use Rattle.socks5.specs.declared.Parsed.{Parsed}
-use Rattle.socks5.specs.declared.Parsed.TheVariants.{Found, Malformed}
 use Rattle.socks5.specs.Address.{parse_at, is_address, moved}
 use Rattle.socks5.proofs.PlaceLaws.{one_found, found-anywhere}
 use Rattle.settings_rules.specs.Rules.{lawful}
 use Rattle.settings_rules.proofs.RuleLaws.{target-address}
 use Rattle.settings_rules.proofs.ContentsLaws.{index-found}
 use Rattle.settings_file.specs.Format.{count, entry, body, contents_of, WellMade}
-use Rattle.settings_file.proofs.RowLaws.{body-within, body-behind}
-use Rattle.settings_read.specs.declared.Value.TheVariants.{Absent, Set}
-use Rattle.settings_read.specs.declared.TargetValue.{TargetValue}
-use Rattle.settings_read.specs.declared.TargetValue.TheVariants.{Absent as NoTarget, Set as TargetSet}
+use Rattle.settings_file.proofs.RowLaws.{body-within}
 use Rattle.settings_read.specs.Reading.{value_of, target_found, target_of, setting_at}
 use Rattle.settings_read.specs.Places.{place_in}
+use Rattle.socks5.specs.declared.Address.{Address}
+use Rattle.socks5.specs.declared.Target.{Target}
 
 -- what was parsed, as a setting
-abbrev pub told : Parsed → TargetValue
-told (Found a) = TargetSet a.target a.port
-told Malformed = NoTarget
+abbrev pub told : Option Address → Option (Target × ℕ)
+told (Some a) = Some (a.target, a.port)
+told None = None
 
 module _ (s : List ℕ) (w : WellMade s) (i : ℕ) (l : i < count s) where
   abbrev off : ℕ
@@ -63,47 +60,47 @@ module _ (s : List ℕ) (w : WellMade s) (i : ℕ) (l : i < count s) where
       let at : parse_at (take off s ++ (body s i ++ drop (off + (entry s i).len) s)) (length (take off s)) ≡ parse_at s off =
       λ j. parse_at (around j) (n j) in
       ap told (sym at ∙ found-anywhere (take off s) (body s i) (drop (off + (entry s i).len) s) a one f.found)
-      ∙ ap (λ (k : ℕ). TargetSet (moved k a.target) a.port) n
+      ∙ ap (λ (k : ℕ). Some (moved k a.target, a.port)) n
       ∙ sym (ap (target_found off) f.found)
 
 module _ (s : List ℕ) (w : WellMade s) (k : ℕ) where
-  -- a place of 0 is that of no setting
-  nowhere : (o : Option ℕ) → o ≡ setting_at s k → place_in s o ≡ 0 → o ≡ none
-  nowhere none e p = refl
-  nowhere (some i) e p = absurd (omega (arith, body-behind s w.in_row i (index-found (contents_of s) k i (sym e)).0))
-
-  pub absent : (n at : ℕ) → at ≡ place_in s (setting_at s k) → at ≡ 0 → Absent ≡ value_of n s (setting_at s k)
-  absent n at e z = sym (ap (value_of n s) (nowhere (setting_at s k) refl (sym e ∙ z)))
-
-  pub no_target : (at : ℕ) → at ≡ place_in s (setting_at s k) → at ≡ 0 → NoTarget ≡ target_of s (setting_at s k)
-  no_target at e z = sym (ap (target_of s) (nowhere (setting_at s k) refl (sym e ∙ z)))
-
   -- the body of the setting found is lawful for its number
-  lawful-there : (i : ℕ) → setting_at s k ≡ some i → lawful k (body s i) ≡ true
+  lawful-there : (i : ℕ) → setting_at s k ≡ Some i → lawful k (body s i) ≡ true
   lawful-there i e =
       let f = index-found (contents_of s) k i e in
       subst (λ (n : ℕ). lawful n (body s i) ≡ true) f.1 (w.lawful.bodies i f.0)
 
-  pub set : (n : ℕ) → ((b : List ℕ) → lawful k b ≡ true → length b ≡ n)
-      → (at x : ℕ) → at ≡ place_in s (setting_at s k) → (at ≡ 0 → ⊥) → x ≡ be n (drop at s) → Set x ≡ value_of n s (setting_at s k)
-  set n size at x e z f = go (setting_at s k) refl
+  -- a number of n bytes, read where the body begins
+  pub number-shown : (n : ℕ) → ((b : List ℕ) → lawful k b ≡ true → length b ≡ n)
+      → (p : Option ℕ) → p ≡ place_in s (setting_at s k) → {P : ℕ → ℕ → Type 0} (r : Option ℕ)
+      → MatchOption p (r ≡ None) (λ at. IsSomeAnd r (P at)) → ((at x : ℕ) → P at x → x ≡ be n (drop at s))
+      → r ≡ value_of n s (setting_at s k)
+  number-shown n size p e {P} r h read =
+      go (setting_at s k) refl r (subst (λ (q : Option ℕ). MatchOption q (r ≡ None) (λ at. IsSomeAnd r (P at))) e h)
     where
-      go : (o : Option ℕ) → setting_at s k ≡ o → Set x ≡ value_of n s (setting_at s k)
-      go none p = absurd (z (e ∙ ap (place_in s) p))
-      go (some i) p =
-          let there : at ≡ (entry s i).offset = e ∙ ap (place_in s) p in
-          ap Set (f ∙ ap (λ (m : ℕ). be n (drop m s)) there
-          ∙ body-number s w i (index-found (contents_of s) k i p).0 n (size (body s i) (lawful-there i p)))
-          ∙ sym (ap (value_of n s) p)
+      go : (o : Option ℕ) → setting_at s k ≡ o → (r : Option ℕ) → MatchOption (place_in s o) (r ≡ None) (λ at. IsSomeAnd r (P at))
+          → r ≡ value_of n s o
+      go None f r h = h
+      go (Some i) f None h = absurd h
+      go (Some i) f (Some x) h =
+          ap Some (read (entry s i).offset x h
+          ∙ body-number s w i (index-found (contents_of s) k i f).0 n (size (body s i) (lawful-there i f)))
 
-pub target-set : (s : List ℕ) → WellMade s → (at : ℕ) (p : Parsed) → at ≡ place_in s (setting_at s 4) → (at ≡ 0 → ⊥) → p ≡ parse_at s at
-    → told p ≡ target_of s (setting_at s 4)
-target-set s w at p e z f = go (setting_at s 4) refl
+-- an address, read where the body begins
+pub target-shown : (s : List ℕ) → WellMade s → (p : Option ℕ) → p ≡ place_in s (setting_at s 4)
+    → {P : ℕ → Type 0} {Q : Address → (Target × ℕ) → Type 0} (a : Option Address) (r : Option (Target × ℕ))
+    → MatchOption p (a ≡ None) P → ((at : ℕ) → P at → a ≡ parse_at s at)
+    → MatchOption a (r ≡ None) (λ x. IsSomeAnd r (Q x)) → ((x : Address) (y : Target × ℕ) → Q x y → y ≡ (x.target, x.port))
+    → r ≡ target_of s (setting_at s 4)
+target-shown s w p e {P} {Q} a r h read g show = as-told a r g ∙ go (setting_at s 4) refl (subst (λ (q : Option ℕ). MatchOption q (a ≡ None) P) e h)
   where
-    go : (o : Option ℕ) → setting_at s 4 ≡ o → told p ≡ target_of s (setting_at s 4)
-    go none q = absurd (z (e ∙ ap (place_in s) q))
-    go (some i) q =
-        let there : at ≡ (entry s i).offset = e ∙ ap (place_in s) q in
-        ap told (f ∙ ap (parse_at s) there)
-        ∙ address-there s w i (index-found (contents_of s) 4 i q).0 (target-address (body s i) (lawful-there s w 4 i q))
-        ∙ sym (ap (target_of s) q)
+    as-told : (x : Option Address) (y : Option (Target × ℕ)) → MatchOption x (y ≡ None) (λ z. IsSomeAnd y (Q z)) → y ≡ told x
+    as-told None y g = g
+    as-told (Some x) None g = absurd g
+    as-told (Some x) (Some y) g = ap Some (show x y g)
+
+    go : (o : Option ℕ) → setting_at s 4 ≡ o → MatchOption (place_in s o) (a ≡ None) P → told a ≡ target_of s o
+    go None f h = ap told h
+    go (Some i) f h =
+        ap told (read (entry s i).offset h)
+        ∙ address-there s w i (index-found (contents_of s) 4 i f).0 (target-address (body s i) (lawful-there s w 4 i f))

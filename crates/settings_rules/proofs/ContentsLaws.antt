@@ -1,16 +1,15 @@
 -- The test of settings: one further, and what it says.
 -- Assumes nothing.
+use Rattle.std.specs.Prelude.{None, Some}
 use mathlib.Core.Path.{◌≡◌, refl, sym, ap, subst, ◌∙◌}
 use mathlib.Core.Bool.{Bool, true, false, cond, false≢true, and-eq-true_iff}
 use mathlib.Core.Logic.{⊎_elim}
-use mathlib.Core.Option.{none, some}
 use Prim.Native.Nat.{ℕ, zero, suc, ◌+◌, ◌-◌, ◌≤◌, ◌<◌}
 use native.Mathlib.Nat.{eq-or-lt_of_le}
 use native.Mathlib.Omega.{arith}
 use lib.Dec.{leb, eqb}
 use borrow.Author.Tests.{leb-true, le-leb, lt-leb, eqb-true, eqb-false}
 use Rattle.records.proofs.SearchLaws.{lowest-found, lowest-first, lowest-none}
-use Rattle.records.proofs.PlaceLaws.{Place, lowest-place}
 use Rattle.settings_rules.specs.Rules.{is_unknown, lawful}
 use Rattle.settings_rules.specs.Contents.{Contents, Lawful, is_lawful, are_lawful, all_lawful, index_of, first_unknown}
 
@@ -112,32 +111,24 @@ module _ (t : Contents) where
 
   -- ---- where one stands
 
-  pub index-place : (k : ℕ) → Place (λ i. eqb (t.number i) k) t.size (index_of t k)
-  unfolding index_of
-  index-place k = lowest-place (λ i. eqb (t.number i) k) t.size
-
-  pub unknown-place : Place (λ i. is_unknown (t.number i)) t.size (first_unknown t)
-  unfolding first_unknown
-  unknown-place = lowest-place (λ i. is_unknown (t.number i)) t.size
-
-  pub index-found : (k i : ℕ) → index_of t k ≡ some i → (i < t.size) × (t.number i ≡ k)
+  pub index-found : (k i : ℕ) → index_of t k ≡ Some i → (i < t.size) × (t.number i ≡ k)
   unfolding index_of
   index-found k i e =
       let f = lowest-found (λ i. eqb (t.number i) k) 0 t.size i e in
       (omega (arith, f.1), eqb-true _ _ f.2)
 
-  pub index-none : (k : ℕ) → index_of t k ≡ none → (i : ℕ) → i < t.size → t.number i ≡ k → ⊥
+  pub index-none : (k : ℕ) → index_of t k ≡ None → (i : ℕ) → i < t.size → t.number i ≡ k → ⊥
   unfolding index_of
   index-none k e i l = eqb-false _ _ (lowest-none (λ i. eqb (t.number i) k) 0 t.size e i (omega arith) (omega arith))
 
-  pub unknown-found : (i : ℕ) → first_unknown t ≡ some i
+  pub unknown-found : (i : ℕ) → first_unknown t ≡ Some i
       → (i < t.size) × (is_unknown (t.number i) ≡ true) × ((j : ℕ) → j < i → is_unknown (t.number j) ≡ false)
   unfolding first_unknown
   unknown-found i e =
       let f = lowest-found (λ i. is_unknown (t.number i)) 0 t.size i e in
       (omega (arith, f.1), f.2, λ j l. lowest-first (λ i. is_unknown (t.number i)) 0 t.size i e j (omega arith) l)
 
-  pub unknown-none : first_unknown t ≡ none → (i : ℕ) → i < t.size → is_unknown (t.number i) ≡ false
+  pub unknown-none : first_unknown t ≡ None → (i : ℕ) → i < t.size → is_unknown (t.number i) ≡ false
   unfolding first_unknown
   unknown-none e i l = lowest-none (λ i. is_unknown (t.number i)) 0 t.size e i (omega arith) (omega arith)
 

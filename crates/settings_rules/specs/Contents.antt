@@ -1,7 +1,6 @@
 -- The settings of a file, or those that one is to have: how many, and the number and the body of each. What they have to be, and
 -- where one stands.
-use Rattle.std.specs.Prelude.{◌≡◌, Bool, true, false, ◌&&◌, List, ℕ, zero, suc, ◌+◌, ◌<◌, eqb, leb}
-use Rattle.std.proofs.Math.Option.{Option}
+use Rattle.std.specs.Prelude.{◌≡◌, Bool, true, false, ◌&&◌, List, ℕ, zero, suc, ◌+◌, ◌<◌, eqb, leb, Option}
 use Rattle.records.specs.Records.{lowest_from}
 use Rattle.settings_rules.specs.Rules.{is_unknown, lawful}
 

@@ -1,22 +1,8 @@
 // The bytes of a group's head, or of a case: numbers of 4 bytes, and fields, each the place (4) and the length (4) of a string among
 // them. What is not there is 0, or an empty string.
-ghost use Rattle.std.specs.Prelude.{◌≤◌};
-
-pub(crate) fn least(a: usize, b: usize) -> usize
-    ensures { result ≤ b }
-{
-    if a < b { a } else { b }
-}
-
 // The n bytes of a string from a place on.
 fn part(s: &[u8], from: usize, n: usize) -> &[u8] {
-    if s.len() < from {
-        return &s[..0];
-    }
-    if s.len() - from < n {
-        return &s[..0];
-    }
-    &s[from..from + n]
+    s.get(from..).and_then(|rest| rest.get(..n)).unwrap_or(&[])
 }
 
 pub(crate) fn number(c: &[u8], at: usize) -> u32 {

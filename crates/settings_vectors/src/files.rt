@@ -1,5 +1,5 @@
 // Cases of settings files: a call that reads or writes one, and all that it must leave.
-use crate::case::{field, least, number, size};
+use crate::case::{field, number, size};
 use crate::reading::read_full;
 use crate::tally::{Tally, counted};
 use std::io;
@@ -52,73 +52,56 @@ fn call(c: &[u8], settings: &[u64], out: &mut [u8], answer: &mut [u64]) -> u64 {
 }
 
 fn read_words(words: &mut [u64], s: &[u8]) {
-    let mut at: usize = 0;
-    for i in 0..words.len() {
-        words[i] = octets::read_u64_be(s, at);
-        at = std::num::wrapping_add_usize(at, 8);
+    for (word, bytes) in words.iter_mut().zip(s.chunks(8)) {
+        *word = octets::read_u64_be(bytes, 0);
     }
 }
 
 fn call_with_words(c: &[u8], out: &mut [u8], answer: &mut [u64]) -> u64 {
     let mut words = [0u64; WORDS];
     read_words(&mut words, field(c, SETTINGS));
-    let n = least(size(c, COUNT), WORDS);
+    let n = size(c, COUNT).min(WORDS);
     call(c, &words[..n], out, answer)
 }
 
 // Whether the words are those of a string.
 fn are(words: &[u64], s: &[u8]) -> bool {
-    let mut at: usize = 0;
-    for i in 0..words.len() {
-        if words[i] != octets::read_u64_be(s, at) {
-            return false;
-        }
-        at = std::num::wrapping_add_usize(at, 8);
-    }
-    true
+    let mut words = words.iter().enumerate();
+    words.all(|(i, word)| *word == octets::read_u64_be(s, i.wrapping_mul(8)))
 }
 
 // Makes a call that is lent the front of an answer.
 fn call_with_answer(c: &[u8], out: &mut [u8], answer: &mut [u64]) -> u64 {
-    let n = least(size(c, LENT), answer.len());
+    let n = size(c, LENT).min(answer.len());
     call_with_words(c, out, &mut answer[..n])
 }
 
 // Whether a call returns its number and leaves its answer.
 fn answers(c: &[u8], out: &mut [u8]) -> bool {
     let mut answer = [FILLING; ANSWER_WORDS];
-    if call_with_answer(c, out, &mut answer) != number(c, EXPECTED) as u64 {
-        return false;
-    }
-    are(&answer, field(c, ANSWER))
+    let number_told = call_with_answer(c, out, &mut answer);
+    number_told == number(c, EXPECTED) as u64 && are(&answer, field(c, ANSWER))
 }
 
 fn byte_or_fill(s: &[u8], i: usize) -> u8 {
-    if i < s.len() { s[i] } else { FILL }
+    s.get(i).copied().unwrap_or(FILL)
 }
 
 // Whether a buffer holds a string and is as it was filled behind that.
 fn holds(out: &[u8], s: &[u8]) -> bool {
-    for i in 0..out.len() {
-        if out[i] != byte_or_fill(s, i) {
-            return false;
-        }
-    }
-    true
+    let mut bytes = out.iter().enumerate();
+    bytes.all(|(i, byte)| *byte == byte_or_fill(s, i))
 }
 
 fn answers_in_room(c: &[u8], out: &mut [u8]) -> bool {
-    let room = least(size(c, ROOM), out.len());
+    let room = size(c, ROOM).min(out.len());
     answers(c, &mut out[..room])
 }
 
 // Whether a call leaves all that it is lent as it must, and the bytes behind its room.
 fn agrees(c: &[u8]) -> bool {
     let mut out = [FILL; BUFFER];
-    if answers_in_room(c, &mut out) {
-        return holds(&out, field(c, OUT));
-    }
-    false
+    answers_in_room(c, &mut out) && holds(&out, field(c, OUT))
 }
 
 fn read_case(file: &mut impl Read, case: &mut [u8]) -> io::Result<bool> {
@@ -128,7 +111,7 @@ fn read_case(file: &mut impl Read, case: &mut [u8]) -> io::Result<bool> {
 
 // A case, behind its length (4).
 fn next(file: &mut impl Read, buf: &mut [u8]) -> io::Result<bool> {
-    let most = least(crate::length(file)?, buf.len());
+    let most = crate::length(file)?.min(buf.len());
     read_case(file, &mut buf[..most])
 }
 

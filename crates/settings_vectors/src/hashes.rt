@@ -8,35 +8,26 @@ use std::io::Read;
 // The longest input.
 pub(crate) const LONGEST: usize = 102400;
 
-const HASH: usize = 32;
-
 // A case: the input's length (4), and its hash.
 const CASE: usize = 36;
 
 // The pattern of the official vectors.
 pub(crate) fn fill(input: &mut [u8]) {
-    for i in 0..input.len() {
-        input[i] = (i % 251) as u8;
+    for (i, byte) in input.iter_mut().enumerate() {
+        *byte = (i % 251) as u8;
     }
 }
 
 // Whether the first n bytes have this hash.
 fn hashes_to(input: &[u8], n: usize, expected: &[u8]) -> bool {
-    if input.len() < n {
-        return false;
-    }
-    if expected.len() != HASH {
-        return false;
-    }
-    let hash = blake3_tree::hash(&input[..n]);
-    octets::equal(&hash, expected)
+    input
+        .get(..n)
+        .is_some_and(|front| blake3_tree::hash(front).as_slice() == expected)
 }
 
 fn agrees(input: &[u8], case: &[u8]) -> bool {
-    if case.len() < 4 {
-        return false;
-    }
-    hashes_to(input, size(case, 0), &case[4..])
+    let hash = case.get(4..);
+    hash.is_some_and(|expected| hashes_to(input, size(case, 0), expected))
 }
 
 fn next(file: &mut impl Read, input: &[u8]) -> io::Result<bool> {

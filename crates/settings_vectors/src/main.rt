@@ -39,7 +39,7 @@ fn group(rt: &impl Print, file: &mut impl Read, input: &[u8]) -> io::Result<Tall
 }
 
 fn cases(file: &mut impl Read, count: usize, input: &[u8]) -> io::Result<Tally> {
-    if input.len() == 0 {
+    if input.is_empty() {
         return files::cases(file, count);
     }
     hashes::cases(file, count, input)

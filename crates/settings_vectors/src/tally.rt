@@ -7,17 +7,11 @@ pub(crate) type Tally = [u64; 2];
 
 // With one more case.
 pub(crate) fn counted(t: Tally, same: bool) -> Tally {
-    if same {
-        return sum(t, [1, 0]);
-    }
-    sum(t, [1, 1])
+    sum(t, [1, !same as u64])
 }
 
 pub(crate) fn sum(a: Tally, b: Tally) -> Tally {
-    [
-        std::num::wrapping_add_u64(a[0], b[0]),
-        std::num::wrapping_add_u64(a[1], b[1]),
-    ]
+    [a[0].wrapping_add(b[0]), a[1].wrapping_add(b[1])]
 }
 
 // A line: a title, how many cases, and how many differ.

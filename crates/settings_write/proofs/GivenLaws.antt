@@ -8,6 +8,7 @@ use native.Mathlib.Numerals.{add-one}
 use native.Mathlib.Omega.{arith}
 use lib.Dec.{eqb}
 use lib.ListN.{length, take, drop}
+use lib.Seq.{drop-drop}
 use borrow.Author.Tests.{eq-eqb, ne_eqb, eqb-true, eqb-false}
 use Rattle.settings_write.specs.Writing.{number_at, length_at, size_of, before, body_at, given, describes, writable, is_writable}
 
@@ -71,11 +72,15 @@ module _ (ws : List ℕ) (n : ℕ) where
 
 -- ---- the part of the bodies that is tested
 
-module _ (ws bodies : List ℕ) (i at : ℕ) (e : at ≡ before ws i) where
-  part-tested : take (at + length_at ws i - at) (drop at bodies) ≡ body_at ws bodies i
-  unfolding body_at
-  part-tested = let l : at + length_at ws i - at ≡ length_at ws i = omega arith in λ k. take (l k) (drop (e k) bodies)
-
-  pub tested : (least : ℕ) (b : Bool) → b ≡ writable (number_at ws i) (take (at + length_at ws i - at) (drop at bodies)) least
+-- the body is at the front of what is left of the bodies, and behind it those that follow
+module _ (ws bodies : List ℕ) (i number len : ℕ) (rest : List ℕ) (e : rest ≡ drop (before ws i) bodies) (en : number ≡ number_at ws i)
+    (el : len ≡ length_at ws i) where
+  pub tested : (body : List ℕ) → body ≡ take len rest → (least : ℕ) (b : Bool) → b ≡ writable number body least
       → is_writable (given ws bodies) i least ≡ b
-  tested least b eb = ap (λ (x : List ℕ). writable (number_at ws i) x least) (sym part-tested) ∙ sym eb
+  unfolding body_at
+  tested body eb least b ew = sym (ew ∙ (λ k. writable (en k) ((eb ∙ (λ j. take (el j) (e j))) k) least))
+
+  pub next-rest : (behind : List ℕ) → behind ≡ drop len rest → behind ≡ drop (before ws (i + 1)) bodies
+  next-rest behind eb =
+      eb ∙ (λ j. drop (el j) (e j)) ∙ drop-drop (length_at ws i) (before ws i) bodies
+      ∙ ap (λ (k : ℕ). drop k bodies) (sym (before-next ws i))

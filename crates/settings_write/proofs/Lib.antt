@@ -1,3 +1,4 @@
+pub mod PairLaws
 pub mod GivenLaws
 pub mod WritableLaws
 pub mod AnswerLaws

@@ -1,45 +1,19 @@
--- The test of what may be written: its cases in the order of the code, one setting further, and what it tells of all of them.
+-- The test of what may be written: what it tells of a setting, one setting further, and what it tells of all of them.
 -- Assumes nothing.
 use mathlib.Core.Path.{◌≡◌, refl, sym, ap, subst, ◌∙◌}
-use mathlib.Core.Bool.{Bool, true, false, cond, not, ◌&&◌, false≢true, and-false, and-true, and-eq-true_iff}
+use mathlib.Core.Bool.{Bool, true, false, cond, not, ◌&&◌, false≢true, and-eq-true_iff}
 use mathlib.Core.List.{List}
 use mathlib.Core.Logic.{⊎_elim}
 use Prim.Native.Nat.{ℕ, zero, suc, ◌+◌, ◌-◌, ◌≤◌, ◌<◌}
 use native.Mathlib.Nat.{eq-or-lt_of_le}
 use native.Mathlib.Omega.{arith}
 use lib.Dec.{leb}
-use borrow.Author.Tests.{leb-true, le-leb, lt-leb, not-true}
+use borrow.Author.Tests.{leb-true, not-true}
 use Rattle.settings_rules.specs.Rules.{is_unknown, lawful}
 use Rattle.settings_rules.specs.Contents.{Contents}
 use Rattle.settings_write.specs.Writing.{max_number, writable, is_writable, are_writable, all_writable}
 
 -- ---- one setting
-
-module _ (number : ℕ) (body : List ℕ) (least : ℕ) where
-  decided : (a b u : Bool) → leb least number ≡ a → leb number max_number ≡ b → is_unknown number ≡ u
-      → (a && (lawful number body && (b && not u))) ≡ writable number body least
-  unfolding writable
-  decided a b u ea eb eu = λ i. sym ea i && (lawful number body && (sym eb i && not (sym eu i)))
-
-  pub not-rising : number < least → false ≡ writable number body least
-  not-rising h = decided false (leb number max_number) (is_unknown number) (lt-leb least number h) refl refl
-
-  -- the two last tests
-  refused : (a : Bool) → false ≡ (a && (lawful number body && false))
-  refused a = sym (and-false a) ∙ ap (◌&&◌ a) (sym (and-false (lawful number body)))
-
-  pub too-high : max_number < number → false ≡ writable number body least
-  too-high h =
-      refused (leb least number)
-      ∙ decided (leb least number) false (is_unknown number) refl (lt-leb number max_number h) refl
-
-  pub unknown : is_unknown number ≡ true → false ≡ writable number body least
-  unknown e =
-      refused (leb least number) ∙ ap (λ (x : Bool). leb least number && (lawful number body && x)) (sym (and-false (leb number max_number)))
-      ∙ decided (leb least number) (leb number max_number) true refl refl e
-
-  pub by-rules : least ≤ number → number ≤ max_number → is_unknown number ≡ false → lawful number body ≡ writable number body least
-  by-rules h l e = sym (and-true (lawful number body)) ∙ decided true true false (le-leb least number h) (le-leb number max_number l) e
 
 -- what the test tells of a setting
 pub record Admitted (number : ℕ) (body : List ℕ) : Type 0 where

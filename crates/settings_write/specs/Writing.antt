@@ -1,5 +1,5 @@
 -- Writing a file of settings: what is given, what is answered, and the file.
-use Rattle.std.specs.Prelude.{◌≡◌, Bool, true, false, cond, not, ◌&&◌, List, [], ◌++◌, ℕ, zero, suc, ◌+◌, ◌*◌, ◌/◌, ◌%◌, ◌≤◌, ◌<◌, eqb, leb, length, get_or, take, drop}
+use Rattle.std.specs.Prelude.{◌≡◌, Bool, true, false, cond, not, ◌&&◌, List, [], ◌++◌, ℕ, zero, suc, ◌+◌, ◌*◌, ◌/◌, ◌%◌, ◌≤◌, ◌<◌, eqb, leb, length, get_or, take, drop, Err, Ok, Result}
 use Rattle.octets.specs.Buffers.{put}
 use Rattle.octets.specs.Numbers.{to_be}
 use Rattle.blake3.specs.Tree.{hash}
@@ -7,8 +7,7 @@ use Rattle.protocol.specs.declared.Refusal.TheVariants.{Settings, Length as TooL
 use Rattle.settings_rules.specs.Rules.{is_unknown, lawful}
 use Rattle.settings_rules.specs.Contents.{Contents}
 use Rattle.settings_file.specs.Format.{place_of, hash_length, max_file}
-use Rattle.settings_write.specs.declared.Written.{Written}
-use Rattle.settings_write.specs.declared.Written.TheVariants.{Length, Refused}
+use Rattle.protocol.specs.declared.Refusal.{Refusal}
 
 -- ---- what is given: two words for each setting, number and length, and the bodies back to back
 
@@ -90,16 +89,16 @@ pub record InTwoBytes (ws : List ℕ) : Type 0 where
 
 -- ---- what is answered: refusals 1, 12, 2 and 3, in this order, or the file's length
 
-unfoldable pub length_answer : (n room : ℕ) → Written
-length_answer n room = cond (leb n max_file) (cond (leb n room) (Length n) (Refused Room)) (Refused TooLong)
+unfoldable pub length_answer : (n room : ℕ) → Result ℕ Refusal
+length_answer n room = cond (leb n max_file) (cond (leb n room) (Ok n) (Err Room)) (Err TooLong)
 
-unfoldable pub write_answer : (ws bodies : List ℕ) → (room : ℕ) → Written
+unfoldable pub write_answer : (ws bodies : List ℕ) → (room : ℕ) → Result ℕ Refusal
 write_answer ws bodies room =
     cond (describes ws (length bodies))
-    (cond (all_writable (given ws bodies)) (length_answer (file_length ws (length bodies)) room) (Refused Argument))
-    (Refused Settings)
+    (cond (all_writable (given ws bodies)) (length_answer (file_length ws (length bodies)) room) (Err Argument))
+    (Err Settings)
 
 -- the file at the front of the buffer, and nothing for a refusal
-abbrev pub write_out : Written → (file out : List ℕ) → List ℕ
-write_out (Length n) file out = put out 0 file
-write_out (Refused r) file out = out
+abbrev pub write_out : Result ℕ Refusal → (file out : List ℕ) → List ℕ
+write_out (Ok n) file out = put out 0 file
+write_out (Err r) file out = out

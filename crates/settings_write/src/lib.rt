@@ -14,13 +14,6 @@ use settings_rules::{is_lawful, is_unknown};
 // The highest number of a setting: it has 2 bytes in the file.
 const MAX_NUMBER: u64 = 65535;
 
-// What writing answers: the file's length, or why there is none.
-#[derive(Clone, Copy)]
-pub enum Written {
-    Length(usize),
-    Refused(Refusal),
-}
-
 // ---- what is given: two words for each setting, number and length, and the bodies back to back
 
 // Whether the words come in pairs and their lengths add up to those of the bodies. Lengths are taken from what is left, so that no sum
@@ -28,37 +21,23 @@ pub enum Written {
 fn describes(settings: &[u64], bodies: usize) -> bool
     ensures { result ≡ describes settings.now bodies }
 {
-    if settings.len() % 2 != 0 {
-        return false;
-    }
-    let n = settings.len() / 2;
+    let (pairs, odd) = settings.as_chunks::<2>();
     let mut left = bodies as u64;
-    let mut i: usize = 0;
-    while i < n {
-        let len = settings[2 * i + 1];
+    for &[_, len] in pairs {
         if left < len {
             return false;
         }
         left -= len;
-        i += 1;
     }
-    left == 0
+    odd.is_empty() && left == 0
 }
 
 // Whether a setting may be written whose number is to be at least `least`.
+#[tactic(auto, unfolding(crate::specs::Writing::writable))]
 fn is_writable(number: u64, body: &[u8], least: u64) -> bool
     ensures { result ≡ writable number body.now least }
 {
-    if number < least {
-        return false;
-    }
-    if MAX_NUMBER < number {
-        return false;
-    }
-    if is_unknown(number) {
-        return false;
-    }
-    is_lawful(number, body)
+    least <= number && number <= MAX_NUMBER && !is_unknown(number) && is_lawful(number, body)
 }
 
 // Whether all settings may be written, with numbers that rise.
@@ -66,19 +45,16 @@ fn are_writable(settings: &[u64], bodies: &[u8]) -> bool
     requires { describes settings.now (length bodies.now) ≡ true }
     ensures { result ≡ all_writable (given settings.now bodies.now) }
 {
-    let n = settings.len() / 2;
-    let mut i: usize = 0;
-    let mut at: usize = 0;
+    let (pairs, _) = settings.as_chunks::<2>();
+    let mut rest = bodies;
     let mut least: u64 = 0;
-    while i < n {
-        let number = settings[2 * i];
-        let end = at + settings[2 * i + 1] as usize;
-        if !is_writable(number, &bodies[at..end], least) {
+    for &[number, len] in pairs {
+        let (body, behind) = rest.split_at(len as usize);
+        if !is_writable(number, body, least) {
             return false;
         }
-        at = end;
+        rest = behind;
         least = number + 1;
-        i += 1;
     }
     true
 }
@@ -86,34 +62,33 @@ fn are_writable(settings: &[u64], bodies: &[u8]) -> bool
 // ---- what is answered
 
 // Refusals 2 and 3, in this order, or the file's length. Each part is compared first, so that no sum could wrap.
-fn length_answer(count: usize, bodies: usize, room: usize) -> Written
+#[tactic(auto, unfolding(crate::specs::Writing::length_answer))]
+fn length_answer(count: usize, bodies: usize, room: usize) -> Result<usize, Refusal>
     ensures { result ≡ length_answer (place_of count + bodies + hash_length) room }
 {
-    if count > MAX_FILE {
-        return Written::Refused(Refusal::Length);
-    }
-    if bodies > MAX_FILE {
-        return Written::Refused(Refusal::Length);
+    if count > MAX_FILE || bodies > MAX_FILE {
+        return Err(Refusal::Length);
     }
     let n = 4 + 6 * count + bodies + HASH;
     if n > MAX_FILE {
-        return Written::Refused(Refusal::Length);
+        return Err(Refusal::Length);
     }
     if n > room {
-        return Written::Refused(Refusal::Room);
+        return Err(Refusal::Room);
     }
-    Written::Length(n)
+    Ok(n)
 }
 
 // Refusals 1, 12, 2 and 3, in this order, or the file's length.
-fn write_answer(settings: &[u64], bodies: &[u8], room: usize) -> Written
+#[tactic(auto, unfolding(crate::specs::Writing::write_answer))]
+fn write_answer(settings: &[u64], bodies: &[u8], room: usize) -> Result<usize, Refusal>
     ensures { result ≡ write_answer settings.now bodies.now room }
 {
     if !describes(settings, bodies.len()) {
-        return Written::Refused(Refusal::Settings);
+        return Err(Refusal::Settings);
     }
     if !are_writable(settings, bodies) {
-        return Written::Refused(Refusal::Argument);
+        return Err(Refusal::Argument);
     }
     length_answer(settings.len() / 2, bodies.len(), room)
 }
@@ -136,15 +111,11 @@ fn write_entries(out: &mut [u8], settings: &[u64])
     ensures { out.new
         ≡ put out.old 4 (entries settings.now (size_of settings.now) 0) }
 {
-    let n = settings.len() / 2;
-    let mut offset: usize = 4 + 6 * n;
-    let mut i: usize = 0;
-    while i < n {
-        let number = settings[2 * i];
-        let len = settings[2 * i + 1];
+    let (pairs, _) = settings.as_chunks::<2>();
+    let mut offset: usize = 4 + 6 * pairs.len();
+    for (i, &[number, len]) in pairs.iter().enumerate() {
         write_entry(out, 4 + 6 * i, number as u16, offset as u16, len as u16);
         offset += len as usize;
-        i += 1;
     }
 }
 
@@ -174,18 +145,18 @@ fn write_hash(out: &mut [u8], at: usize)
 // Writes the file of the settings that two words each describe, number and length, to the front of the lent buffer. Refused with 1 (the
 // words do not describe the bodies), 12 (a setting that the file may not have, or a number not over the one before), 2 (over the longest
 // file) or 3 (no room), with nothing written.
-pub fn write(edition: u16, settings: &[u64], bodies: &[u8], out: &mut [u8]) -> Written
+pub fn write(
+    edition: u16,
+    settings: &[u64],
+    bodies: &[u8],
+    out: &mut [u8],
+) -> Result<usize, Refusal>
     ensures value { result ≡ write_answer settings.now bodies.now (length out.old) }
     ensures out_after { out.new
         ≡ write_out result (file_of edition settings.now bodies.now) out.old }
 {
-    let answer = write_answer(settings, bodies, out.len());
-    match answer {
-        Written::Length(n) => {
-            write_covered(out, edition, settings, bodies);
-            write_hash(out, n - HASH);
-            answer
-        }
-        Written::Refused(_) => answer,
-    }
+    let n = write_answer(settings, bodies, out.len())?;
+    write_covered(out, edition, settings, bodies);
+    write_hash(out, n - HASH);
+    Ok(n)
 }

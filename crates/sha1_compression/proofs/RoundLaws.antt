@@ -1,9 +1,12 @@
 -- The rounds, one by one and joined; their functions and constants in each phase.
 -- Assumes nothing.
-use Rattle.std.proofs.Common.{◌≡◌, ℕ, zero, suc, ◌+◌, ◌-◌, ◌%◌, ◌^◌, ◌<◌, ◌≤◌, cond, ltb, List, get_or, sym, ap, ◌∙◌, ap₂, add-zero, arith, le-ltb, lt-ltb}
+use Rattle.std.proofs.Common.{◌≡◌, ℕ, zero, suc, ◌+◌, ◌-◌, ◌%◌, ◌^◌, ◌<◌, ◌≤◌, cond, ltb, List, length, get_or, take, drop, sym, ap, ◌∙◌, ap₂, add-zero, arith, le-ltb, lt-ltb, get_or-take, length-drop}
+use lib.Seq.{length-take-le}
+use Rattle.std.proofs.lemmas.List.{get_or-drop}
 use Rattle.sha1_compression.specs.declared.State.{State}
 use Rattle.sha1_compression.specs.Functions.{ROTL, of_twenty, f, K, Ch, Parity, Maj}
 use Rattle.sha1_compression.specs.Rounds.{turn, one_round, rounds}
+use Rattle.sha1_compression.proofs.SumLaws.{sum5}
 
 -- ---- functions and constants
 
@@ -29,35 +32,53 @@ module _ (t p q r v : ℕ) where
       let l'' : 40 ≤ t = omega arith in
       λ i. cond (sym (le-ltb t 20 l') i) p (cond (sym (le-ltb t 40 l'') i) q (cond (sym (le-ltb t 60 l) i) r v))
 
--- what a round leaves, from the rotations and the sum
-pub turned : (s : State) (x k w : ℕ) {p q u : ℕ} → p ≡ ROTL 5 s.a → q ≡ (p + x + s.e + k + w) % 2 ^ 32 → u ≡ ROTL 30 s.b
-    → record { a = q; b = s.a; c = u; d = s.c; e = s.d } ≡ turn s x k w
+-- fₜ and Kₜ of each phase
+pub ch-values : (t x y z r : ℕ) → t < 20 → r ≡ Ch x y z → r ≡ f t x y z
+unfolding f
+ch-values t x y z r h e = e ∙ first t _ _ _ _ h
+
+pub parity-values : (t x y z r : ℕ) → 20 ≤ t → t < 40 → r ≡ Parity x y z → r ≡ f t x y z
+unfolding f
+parity-values t x y z r l h e = e ∙ second t _ _ _ _ l h
+
+pub maj-values : (t x y z r : ℕ) → 40 ≤ t → t < 60 → r ≡ Maj x y z → r ≡ f t x y z
+unfolding f
+maj-values t x y z r l h e = e ∙ third t _ _ _ _ l h
+
+pub last-values : (t x y z r : ℕ) → 60 ≤ t → r ≡ Parity x y z → r ≡ f t x y z
+unfolding f
+last-values t x y z r l e = e ∙ fourth t _ _ _ _ l
+
+pub first-constant : (t : ℕ) → t < 20 → 0x5a827999 ≡ K t
+unfolding K
+first-constant t h = first t _ _ _ _ h
+
+pub second-constant : (t : ℕ) → 20 ≤ t → t < 40 → 0x6ed9eba1 ≡ K t
+unfolding K
+second-constant t l h = second t _ _ _ _ l h
+
+pub third-constant : (t : ℕ) → 40 ≤ t → t < 60 → 0x8f1bbcdc ≡ K t
+unfolding K
+third-constant t l h = third t _ _ _ _ l h
+
+pub fourth-constant : (t : ℕ) → 60 ≤ t → 0xca62c1d6 ≡ K t
+unfolding K
+fourth-constant t l = fourth t _ _ _ _ l
+
+-- ---- one round
+
+-- what it leaves, from the rotations
+pub turned : (s : State) (x k w : ℕ) {p u : ℕ} → p ≡ ROTL 5 s.a → u ≡ ROTL 30 s.b
+    → record { a = (p + (x + ((k + w) % 2 ^ 32 + s.e) % 2 ^ 32) % 2 ^ 32) % 2 ^ 32; b = s.a; c = u; d = s.c; e = s.d } ≡ turn s x k w
 unfolding turn
-turned s x k w ep eq eu =
-    let e = eq ∙ ap (λ (n : ℕ). (n + x + s.e + k + w) % 2 ^ 32) ep in
+turned s x k w {p} ep eu =
+    let e = sum5 p x s.e k w ∙ ap (λ (n : ℕ). (n + x + s.e + k + w) % 2 ^ 32) ep in
     λ i. record { a = e i; b = s.a; c = eu i; d = s.c; e = s.d }
 
--- a round, from its constant and the value of its function
-module _ (s : State) (w : ℕ) {x : ℕ} {r : State} where
-  of-turn : (t y k : ℕ) → r ≡ turn s x k w → x ≡ y → y ≡ f t s.b s.c s.d → k ≡ K t → r ≡ one_round t s w
-  unfolding one_round
-  of-turn t y k er ex ef ek = er ∙ λ i. turn s ((ex ∙ ef) i) (ek i) w
-
-  pub round-ch : r ≡ turn s x 0x5a827999 w → x ≡ Ch s.b s.c s.d → (t : ℕ) → t < 20 → r ≡ one_round t s w
-  unfolding f K
-  round-ch er ex t h = of-turn t (Ch s.b s.c s.d) 0x5a827999 er ex (first t _ _ _ _ h) (first t _ _ _ _ h)
-
-  pub round-parity : r ≡ turn s x 0x6ed9eba1 w → x ≡ Parity s.b s.c s.d → (t : ℕ) → 20 ≤ t → t < 40 → r ≡ one_round t s w
-  unfolding f K
-  round-parity er ex t l h = of-turn t (Parity s.b s.c s.d) 0x6ed9eba1 er ex (second t _ _ _ _ l h) (second t _ _ _ _ l h)
-
-  pub round-maj : r ≡ turn s x 0x8f1bbcdc w → x ≡ Maj s.b s.c s.d → (t : ℕ) → 40 ≤ t → t < 60 → r ≡ one_round t s w
-  unfolding f K
-  round-maj er ex t l h = of-turn t (Maj s.b s.c s.d) 0x8f1bbcdc er ex (third t _ _ _ _ l h) (third t _ _ _ _ l h)
-
-  pub round-last : r ≡ turn s x 0xca62c1d6 w → x ≡ Parity s.b s.c s.d → (t : ℕ) → 60 ≤ t → r ≡ one_round t s w
-  unfolding f K
-  round-last er ex t l = of-turn t (Parity s.b s.c s.d) 0xca62c1d6 er ex (fourth t _ _ _ _ l) (fourth t _ _ _ _ l)
+-- from its constant and the value of its function
+pub of_turn : (t : ℕ) (s : State) (x k w : ℕ) {r : State} → x ≡ f t s.b s.c s.d → k ≡ K t → r ≡ turn s x k w → r ≡ one_round t s w
+unfolding one_round
+of_turn t s x k w ex ek er = er ∙ λ i. turn s (ex i) (ek i) w
 
 -- ---- several rounds
 
@@ -79,11 +100,24 @@ module _ (w : List ℕ) (from : ℕ) (s : State) where
   pub join : (n m : ℕ) {z r : State} → z ≡ rounds n from s w → r ≡ rounds m (from + n) z w → r ≡ rounds (n + m) from s w
   join n m ez er = er ∙ ap (λ (z : State). rounds m (from + n) z w) ez ∙ sym (rounds-add n m from s w)
 
-  -- round t behind those before it
-  pub one_more : (t : ℕ) {z r : State} → from ≤ t → z ≡ rounds (t - from) from s w → r ≡ one_round t z (get_or w t 0)
-      → r ≡ rounds (t + 1 - from) from s w
+  -- one round behind n
+  pub one_more : (n : ℕ) {z r : State} → z ≡ rounds n from s w → r ≡ one_round (from + n) z (get_or w (from + n) 0)
+      → r ≡ rounds (n + 1) from s w
   unfolding rounds
-  one_more t {z} h ez er =
-      let et : t ≡ from + (t - from) = omega arith in
-      let en : t - from + 1 ≡ t + 1 - from = omega arith in
-      join (t - from) 1 ez (er ∙ ap (λ (u : ℕ). one_round u z (get_or w u 0)) et) ∙ ap (λ (n : ℕ). rounds n from s w) en
+  one_more n ez er = join n 1 ez er
+
+-- ---- the twenty words of a phase
+
+module _ (w : List ℕ) (from : ℕ) where
+  abbrev pub phase-words : List ℕ
+  phase-words = take (from + 20 - from) (drop from w)
+
+  pub length-phase : from + 20 ≤ length w → length phase-words ≡ 20
+  length-phase h =
+      let e : from + 20 - from ≡ 20 = omega arith in
+      rw e (length-take-le 20 (drop from w) (omega (arith, length-drop from w)))
+
+  pub word-of-phase : (i : ℕ) → i < 20 → get_or phase-words i 0 ≡ get_or w (from + i) 0
+  word-of-phase i h =
+      let e : from + 20 - from ≡ 20 = omega arith in
+      rw e (get_or-take 20 (drop from w) i 0 h ∙ get_or-drop from w i 0)

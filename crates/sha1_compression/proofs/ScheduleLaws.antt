@@ -1,7 +1,9 @@
 -- The words of a block and of the schedule, one by one.
 -- Assumes nothing.
-use Rattle.std.proofs.Common.{◌≡◌, ℕ, zero, suc, ◌+◌, ◌-◌, ◌*◌, ◌%◌, ◌^◌, ◌<◌, ◌≤◌, List, [], ◌∷◌, ◌++◌, length, get_or, take, drop, set, sym, refl, ap, ◌∙◌, ap₂, zero-add, add-one, arith, lit<, length-append, take_all, get_or-take, drop-drop, take-suc-set}
-use native.Mathlib.Decide.{dec_le}
+use Rattle.std.proofs.Common.{◌≡◌, ℕ, zero, suc, ◌+◌, ◌-◌, ◌*◌, ◌^◌, ◌<◌, ◌≤◌, List, [], ◌∷◌, ◌++◌, length, get_or, take, drop, set, sym, refl, ap, ◌∙◌, ap₂, zero-add, add-one, arith, lit<, length-set, length-append, take_all, get_or-take, drop-drop, take-suc-set}
+use native.Mathlib.Decide.{dec_le, ℕ_discrete}
+use Rattle.std.proofs.Math.ListN.{get_or-eq_default}
+use Rattle.std.proofs.lemmas.List.{get_or-set_same, get_or-set_other}
 use lib.Bits.{bit_xor}
 use lib.ListN.{get_or-append}
 use lib.Seq.{get_or_at}
@@ -9,7 +11,7 @@ use Rattle.octets.specs.Numbers.{be}
 use Rattle.sha1_compression.specs.Functions.{ROTL}
 use Rattle.sha1_compression.specs.declared.State.{State}
 use Rattle.sha1_compression.specs.Rounds.{rounds}
-use Rattle.sha1_compression.specs.Compression.{add32, plus, compressed}
+use Rattle.sha1_compression.specs.Compression.{plus, compressed}
 use Rattle.sha1_compression.specs.Schedule.{words, word_at, grown, schedule}
 use Rattle.sha1_compression.proofs.RotationLaws.{further}
 
@@ -153,6 +155,14 @@ back m w t em e k a b c d h p q ea eb ec ed =
     buffer-word m w t (t - k) em e h' l
     ∙ (λ i. ROTL 1 (bit_xor (bit_xor (bit_xor (get_or w (fa i) 0) (get_or w (fb i) 0)) (get_or w (fc i) 0)) (get_or w (fd i) 0)))
 
+pub fits-set : (w : List ℕ) (t v : ℕ) → ((i : ℕ) → get_or w i 0 < 2 ^ 32) → v < 2 ^ 32 → (i : ℕ) → get_or (set w t v) i 0 < 2 ^ 32
+fits-set w t v h hv i = at (ℕ_discrete i t) (dec_le (suc t) (length w))
+  where
+    at : Dec (i ≡ t) → Dec (t < length w) → get_or (set w t v) i 0 < 2 ^ 32
+    at (no f) _ = rw (get_or-set_other w t i v 0 f) (h i)
+    at (yes e) (yes l) = rw (e, get_or-set_same w t v 0 l) hv
+    at (yes e) (no f) = let g : length (set w t v) ≤ i = omega (arith, length-set w t v) in rw (get_or-eq_default (set w t v) 0 g) (lit< tt)
+
 -- Wₜ from W₃₂ on
 pub grow-further : (m w : List ℕ) (t v : ℕ) → length m ≡ 16 → ((i : ℕ) → get_or w i 0 < 2 ^ 32) → 32 ≤ t → t < length w
     → take t w ≡ schedule (t - 16) m
@@ -169,11 +179,6 @@ grow-further m w t v em fits h l e ev =
     (back m w t em e 14 17 22 28 30 h (lit< tt) (lit< tt) refl refl refl refl) (back m w t em e 16 19 24 30 32 h (lit< tt) (lit< tt) refl refl refl refl))
 
 -- ---- the next hash value, as the code has it
-
-pub added : (s h : State) {p q r t u : ℕ} → p ≡ (s.a + h.a) % 2 ^ 32 → q ≡ (s.b + h.b) % 2 ^ 32 → r ≡ (s.c + h.c) % 2 ^ 32
-    → t ≡ (s.d + h.d) % 2 ^ 32 → u ≡ (s.e + h.e) % 2 ^ 32 → record { a = p; b = q; c = r; d = t; e = u } ≡ plus s h
-unfolding plus add32
-added s h ep eq er et eu = λ i. record { a = ep i; b = eq i; c = er i; d = et i; e = eu i }
 
 pub next-hash : (h : State) (m : List ℕ) {w : List ℕ} {z r : State} → w ≡ schedule 64 m → z ≡ rounds 80 0 h w → r ≡ plus z h
     → r ≡ compressed h m

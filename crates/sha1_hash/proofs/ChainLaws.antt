@@ -12,23 +12,6 @@ use Rattle.sha1_compression.specs.Compression.{compressed}
 use Rattle.sha1_hash.specs.Hash.{zeros, padding, chain, all_blocks}
 use Rattle.sha1_hash.proofs.BlockLaws.{one_block, second_block, two_blocks, length_marked}
 
--- ---- a loop over blocks
-
-pub chain-step : (z : State) (s : List ℕ) (n i : ℕ) → i < n
-    → chain (n - i) z (drop (64 * i) s) ≡ chain (n - (i + 1)) (compressed z (block_words (drop (64 * i) s))) (drop (64 * (i + 1)) s)
-unfolding chain
-chain-step z s n i l =
-    let e : n - i ≡ suc (n - (i + 1)) = omega arith in
-    let d : 64 * i + 64 ≡ 64 * (i + 1) = omega arith in
-    ap (λ (k : ℕ). chain k z (drop (64 * i) s)) e
-    ∙ ap (chain (n - (i + 1)) (compressed z (block_words (drop (64 * i) s)))) (drop-drop 64 (64 * i) s ∙ ap (λ (k : ℕ). drop k s) d)
-
-pub chain-end : (z : State) (s : List ℕ) (n i : ℕ) → i ≡ n → chain (n - i) z (drop (64 * i) s) ≡ z
-unfolding chain
-chain-end z s n i e =
-    let k : n - i ≡ 0 = omega arith in
-    ap (λ (j : ℕ). chain j z (drop (64 * i) s)) k
-
 -- ---- bytes behind whole blocks
 
 words_append : (k : ℕ) (p q : List ℕ) → 4 * k ≤ length p → words k (p ++ q) ≡ words k p
@@ -39,6 +22,23 @@ words_append (suc k) p q h =
     let r : 4 * k ≤ length (drop 4 p) = omega (arith, length-drop 4 p) in
     ap₂ (λ (x : ℕ) (t : List ℕ). x ∷ t) (be-append 4 p q l)
     (ap (words k) (drop-append-le 4 p q l) ∙ words_append k (drop 4 p) q r)
+
+-- a block b in front, and less than one
+pub chain-block : (z : State) (p b q : List ℕ) → p ≡ b ++ q → length b ≡ 64
+    → chain (length q / 64) (compressed z (block_words b)) q ≡ chain (length p / 64) z p
+unfolding chain
+chain-block z p b q e l =
+    let n : length (b ++ q) / 64 ≡ suc (length q / 64) = omega (arith, length-append b q) in
+    sym
+    (ap (λ (p : List ℕ). chain (length p / 64) z p) e
+    ∙ ap (λ (k : ℕ). chain k z (b ++ q)) n
+    ∙ λ i. chain (length q / 64) (compressed z (words_append 16 b q (omega arith) i)) (drop_at b q 64 l i))
+
+pub chain-rest : (z : State) (p : List ℕ) → length p < 64 → z ≡ chain (length p / 64) z p
+unfolding chain
+chain-rest z p h =
+    let n : 0 ≡ length p / 64 = omega arith in
+    ap (λ (k : ℕ). chain k z p) n
 
 chain-append : (n k : ℕ) (h : State) (s q : List ℕ) → 64 * n ≤ length s
     → chain (n + k) h (s ++ q) ≡ chain k (chain n h s) (drop (64 * n) s ++ q)

@@ -27,10 +27,9 @@ pub fn initial() -> State
 fn whole_blocks(h: State, s: &[u8]) -> State
     ensures { result ≡ chain (length s.now / 64) h s.now }
 {
-    let n = s.len() / 64;
     let mut z = h;
-    for i in 0..n {
-        z = compress(z, &s[64 * i..]);
+    for block in s.chunks_exact(64) {
+        z = compress(z, block);
     }
     z
 }
@@ -60,7 +59,7 @@ fn with_length(h: State, b: [u8; 64], bits: u64) -> State
 fn bit_length(blocks: u64, n: u64) -> u64
     ensures { result ≡ 8 * (64 * blocks + n) % 2 ^ 64 }
 {
-    std::num::wrapping_add_u64(blocks << 6, n) << 3
+    (blocks << 6).wrapping_add(n) << 3
 }
 
 // The hash value of a message of which the first blocks have led to h, and s is left.

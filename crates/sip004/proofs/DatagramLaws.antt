@@ -1,5 +1,6 @@
 -- A datagram as the sealer leaves it in the buffer and as the opener finds it.
 -- Assumes nothing.
+use Rattle.std.specs.Prelude.{is_ok, Result}
 use mathlib.Core.Path.{◌≡◌, refl, sym, ap, ◌∙◌, subst}
 use mathlib.Core.Bool.{Bool, true, false, cond, ◌&&◌}
 use mathlib.Core.List.{List, ◌++◌}
@@ -12,13 +13,12 @@ use Rattle.octets.proofs.BufferLaws.{put-behind, put_whole, part-put}
 use Rattle.aes.specs.Keyed.{nk_of}
 use Rattle.gcm.specs.Gcm.{seal}
 use Rattle.gcm.specs.Keyed.{max_text, ciph_of, fits, seal_lawful, sealed, answer, open_answer, open_out}
-use Rattle.gcm.specs.declared.Opened.{Opened as Answer}
-use Rattle.gcm.specs.declared.Opened.TheVariants.{Text, Forged, Unlawful}
 use Rattle.gcm.proofs.GcmLaws.{length-seal}
-use Rattle.gcm.proofs.KeyedLaws.{open-lawful, open-decided, answer-text, answer-forged, answer-lawful}
+use Rattle.gcm.proofs.KeyedLaws.{open-lawful, open-decided}
 use Rattle.sip004.specs.Subkey.{subkey}
 use Rattle.sip004.specs.Datagram.{max_datagram, overhead, zero_nonce, datagram, subkey_of, body_authentic, payload_of}
 use Rattle.sip004.proofs.SubkeyLaws.{length-subkey}
+use Rattle.gcm.specs.declared.OpenError.{OpenError}
 
 -- ---- sealed
 
@@ -65,14 +65,14 @@ module _ (key salt : List ℕ) (k : 0 < nk_of (length key)) where
 -- ---- opened
 
 -- GCM's answer and what it leaves in the buffer, by the tag
-pub record BodyOpened (key s out : List ℕ) (a : Answer) (o : List ℕ) : Type 0 where
+pub record BodyOpened (key s out : List ℕ) (a : Result Unit OpenError) (o : List ℕ) : Type 0 where
   pub answers : answer true (body_authentic key s) ≡ a
   pub leaves : cond (body_authentic key s) (put out 0 (payload_of key s)) out ≡ o
 
 module _ (key s out : List ℕ) where
   pub body-opened : 0 < nk_of (length key) → overhead (length key) ≤ length s → length s ≤ max_datagram
       → length s - overhead (length key) ≤ length out → (sub b : List ℕ) → sub ≡ subkey_of key s → b ≡ drop (length key) s
-      → (a : Answer) (o : List ℕ) → a ≡ open_answer sub zero_nonce b out → o ≡ open_out sub zero_nonce b out → BodyOpened key s out a o
+      → (a : Result Unit OpenError) (o : List ℕ) → a ≡ open_answer sub zero_nonce b out → o ≡ open_out sub zero_nonce b out → BodyOpened key s out a o
   unfolding body_authentic payload_of subkey_of
   body-opened k least most room sub b es eb a o ea eo =
       let t = drop (length key) s in
@@ -87,16 +87,13 @@ module _ (key s out : List ℕ) where
         leaves = d.1 ∙ sym (eo ∙ (λ i. open_out (es i) zero_nonce (eb i) out));
       }
 
-  module _ (a : Answer) (o : List ℕ) (d : BodyOpened key s out a o) where
-    body-decided : (b : Bool) → body_authentic key s ≡ b → (b ≡ body_authentic key s) × (o ≡ cond b (put out 0 (payload_of key s)) out)
-    body-decided b e = (sym e, sym d.leaves ∙ ap (λ (t : Bool). cond t (put out 0 (payload_of key s)) out) e)
-
-    pub body-text : a ≡ Text → (true ≡ body_authentic key s) × (o ≡ put out 0 (payload_of key s))
-    body-text e = body-decided true (answer-text (body_authentic key s) (d.answers ∙ e))
-
-    pub body-forged : a ≡ Forged → (false ≡ body_authentic key s) × (o ≡ out)
-    body-forged e = body-decided false (answer-forged (body_authentic key s) (d.answers ∙ e))
-
-    -- GCM refuses no length here
-    pub body-lawful : a ≡ Unlawful → ⊥
-    body-lawful e = answer-lawful (body_authentic key s) (d.answers ∙ e)
+  -- a text is given exactly if the tag is good: GCM refuses no length here
+  pub body-answer : (a : Result Unit OpenError) (o : List ℕ) → BodyOpened key s out a o → (b : Bool) → b ≡ is_ok a
+      → (b ≡ body_authentic key s) × (o ≡ cond b (put out 0 (payload_of key s)) out)
+  body-answer a o d b e =
+      let same : b ≡ body_authentic key s = e ∙ ap is_ok (sym d.answers) ∙ answered (body_authentic key s) in
+      (same, sym d.leaves ∙ ap (λ (t : Bool). cond t (put out 0 (payload_of key s)) out) (sym same))
+    where
+      answered : (t : Bool) → is_ok (answer true t) ≡ t
+      answered true = refl
+      answered false = refl

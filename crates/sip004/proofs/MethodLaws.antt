@@ -1,5 +1,6 @@
 -- What the method of a number asks for.
 -- Assumes nothing.
+use Rattle.std.specs.Prelude.{None, Option, Some}
 use mathlib.Core.Path.{◌≡◌, refl, sym, ap, ◌∙◌, subst}
 use mathlib.Core.Bool.{Bool, true, false, cond, ◌&&◌, false≢true, and-eq-true_iff}
 use Prim.Native.Nat.{ℕ, ◌<◌}
@@ -7,34 +8,11 @@ use lib.Dec.{eqb, lit<}
 use borrow.Author.Tests.{eqb-true, eq-eqb, ne_eqb}
 use Rattle.aes.specs.Keyed.{nk_of}
 use Rattle.sip004.specs.declared.Method.{Method}
-use Rattle.sip004.specs.declared.Numbered.{Numbered}
-use Rattle.sip004.specs.declared.Numbered.TheVariants.{Known, Unknown}
 use Rattle.sip004.specs.Method.{aes128, aes192, aes256, method_of, asks_key, key_fits, asks_both, settings_fit, key_in, key_length}
 
--- the method that was found, and what it is
-module _ (method : ℕ) (p q : Numbered) (e : p ≡ method_of method) (f : p ≡ q) where
-  pub key-law : (k : ℕ) → asks_key q k ≡ key_fits method k
-  unfolding key_fits
-  key-law k = ap (λ (n : Numbered). asks_key n k) (sym f ∙ e)
-
-  pub both-law : (k s : ℕ) → asks_both q k s ≡ settings_fit method k s
-  unfolding settings_fit
-  both-law k s = ap (λ (n : Numbered). asks_both n k s) (sym f ∙ e)
-
-  pub length-law : key_in q ≡ key_length method
-  unfolding key_length
-  length-law = ap key_in (sym f ∙ e)
-
--- the key is looked at first, and then the salt
-pub key-and-salt : (m : Method) (k s : ℕ) → m.key ≡ k → eqb m.salt s ≡ asks_both (Known m) k s
-key-and-salt m k s h = ap (λ (b : Bool). b && eqb m.salt s) (sym (eq-eqb m.key k h))
-
-pub other_key : (m : Method) (k s : ℕ) → (m.key ≡ k → ⊥) → eqb m.key k ≡ asks_both (Known m) k s
-other_key m k s h = let e = ne_eqb m.key k h in e ∙ ap (λ (b : Bool). b && eqb m.salt s) (sym e)
-
 -- by the tests for the three numbers
-abbrev chosen : Bool → Bool → Bool → Numbered
-chosen a b c = cond a (Known aes128) (cond b (Known aes192) (cond c (Known aes256) Unknown))
+abbrev chosen : Bool → Bool → Bool → Option Method
+chosen a b c = cond a (Some aes128) (cond b (Some aes192) (cond c (Some aes256) None))
 
 -- a salt that fits is as long as its key
 pub settings-both : (method k s : ℕ) → settings_fit method k s ≡ (key_fits method k && eqb k s)

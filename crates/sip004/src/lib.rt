@@ -21,27 +21,6 @@ pub struct Method {
     pub salt: usize,
 }
 
-// The method of a number, if there is one.
-#[derive(Clone, Copy)]
-pub enum Numbered {
-    Known(Method),
-    Unknown,
-}
-
-// What sealing a datagram answers: the datagram's length, or why there is none.
-#[derive(Clone, Copy)]
-pub enum Sealed {
-    Datagram(usize),
-    Refused(Refusal),
-}
-
-// What opening one answers: the payload's length, or why there is none.
-#[derive(Clone, Copy)]
-pub enum Opened {
-    Text(usize),
-    Refused(Refusal),
-}
-
 impl Method {
     pub const AES_128_GCM: u64 = 11;
 
@@ -79,50 +58,41 @@ impl Method {
         }
     }
 
-    pub fn numbered(number: u64) -> Numbered
+    #[tactic(auto, unfolding(crate::specs::Method::method_of))]
+    pub fn numbered(number: u64) -> Option<Method>
         ensures { result ≡ method_of number }
     {
-        if number == Self::AES_128_GCM {
-            return Numbered::Known(Self::aes_128_gcm());
+        match number {
+            Self::AES_128_GCM => Some(Self::aes_128_gcm()),
+            Self::AES_192_GCM => Some(Self::aes_192_gcm()),
+            Self::AES_256_GCM => Some(Self::aes_256_gcm()),
+            _ => None,
         }
-        if number == Self::AES_192_GCM {
-            return Numbered::Known(Self::aes_192_gcm());
-        }
-        if number == Self::AES_256_GCM {
-            return Numbered::Known(Self::aes_256_gcm());
-        }
-        Numbered::Unknown
     }
 }
 
 // Whether there is a method of this number and the key has its length.
+#[tactic(auto, unfolding(crate::specs::Method::key_fits))]
 pub fn key_fits(method: u64, key: usize) -> bool
     ensures { result ≡ key_fits method key }
 {
-    match Method::numbered(method) {
-        Numbered::Known(m) => m.key == key,
-        Numbered::Unknown => false,
-    }
+    Method::numbered(method).is_some_and(|m| m.key == key)
 }
 
 // The same of key and salt.
+#[tactic(auto, unfolding(crate::specs::Method::settings_fit))]
 pub fn settings_fit(method: u64, key: usize, salt: usize) -> bool
     ensures { result ≡ settings_fit method key salt }
 {
-    match Method::numbered(method) {
-        Numbered::Known(m) => m.key == key && m.salt == salt,
-        Numbered::Unknown => false,
-    }
+    Method::numbered(method).is_some_and(|m| m.key == key && m.salt == salt)
 }
 
 // The length of a method's key; 0 where there is no such method.
+#[tactic(auto, unfolding(crate::specs::Method::key_length))]
 pub fn key_length(method: u64) -> usize
     ensures { result ≡ key_length method }
 {
-    match Method::numbered(method) {
-        Numbered::Known(m) => m.key,
-        Numbered::Unknown => 0,
-    }
+    Method::numbered(method).map_or(0, |m| m.key)
 }
 
 // The subkey of a key and a salt, as long as the key, to the front of a lent buffer with room for the longest.

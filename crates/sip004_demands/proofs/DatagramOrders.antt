@@ -1,5 +1,6 @@
 -- Sealing and opening a datagram answer by their orders.
 -- Assumes nothing.
+use Rattle.std.specs.Prelude.{None, Ok, Result, Some}
 use mathlib.Core.Path.{◌≡◌, refl, sym, ap, ◌∙◌}
 use mathlib.Core.Bool.{Bool, true, false, cond, not, ◌&&◌, ◌||◌, or-false, and-eq-true_iff}
 use mathlib.Core.List.{List, [], ◌∷◌}
@@ -8,9 +9,6 @@ use native.Mathlib.Omega.{arith}
 use lib.Dec.{T, eqb, leb, eqb→eq}
 use lib.ListN.{length}
 use borrow.Author.Tests.{leb-true}
-use Rattle.sip004.specs.declared.Numbered.TheVariants.{Known, Unknown}
-use Rattle.sip004.specs.declared.Opened.{Opened}
-use Rattle.sip004.specs.declared.Opened.TheVariants.{Text}
 use Rattle.sip004.specs.Method.{aes128, aes192, aes256, method_of, asks_key, key_fits, settings_fit}
 use Rattle.sip004.specs.Datagram.{max_datagram, overhead, length_answer, seal_answer, due_answer, lawful_answer, body_authentic, judged, open_answer}
 use Rattle.sip004.proofs.MethodLaws.{settings-both}
@@ -18,6 +16,7 @@ use Rattle.protocol.specs.Orders.{rule, Said, gives, first}
 use Rattle.protocol.proofs.OrderLaws.{next, done, not-and, under, under-or-over, eqb-turned}
 use Rattle.sip004_demands.specs.DatagramOrders.{said_sealed, said_opened, other_key, sealed_bytes, seal_order, due_bytes, open_order, DatagramOrders}
 use Rattle.sip004_demands.proofs.DatagramLaws.{authentic-is}
+use Rattle.protocol.specs.declared.Refusal.{Refusal}
 
 -- ---- settings
 
@@ -27,7 +26,7 @@ other_key_lem method k = go (eqb method 11) (eqb method 12) (eqb method 13) (eqb
   where
     go : (a b c : Bool) → (T a → method ≡ 11) → (T b → method ≡ 12) → (T c → method ≡ 13)
         → not (a && eqb k 16 || (b && eqb k 24 || c && eqb k 32))
-        ≡ not (asks_key (cond a (Known aes128) (cond b (Known aes192) (cond c (Known aes256) Unknown))) k)
+        ≡ not (asks_key (cond a (Some aes128) (cond b (Some aes192) (cond c (Some aes256) None))) k)
     go true true c f g h = absurd (let x = f tt in let y = g tt in omega arith)
     go true false true f g h = absurd (let x = f tt in let y = h tt in omega arith)
     go true false false f g h = ap not (or-false (eqb k 16) ∙ eqb-turned k 16)
@@ -62,7 +61,7 @@ module _ (method key salt payload room : ℕ) where
 -- ---- opening
 
 -- the tag's rule
-tagged : (n : ℕ) (b : Bool) → said_opened (judged (Text n) b) ≡ first (rule 4 (not b) ∷ []) n
+tagged : (n : ℕ) (b : Bool) → said_opened (judged (Ok n) b) ≡ first (rule 4 (not b) ∷ []) n
 unfolding first
 tagged n true = refl
 tagged n false = refl
@@ -72,7 +71,7 @@ module _ (method : ℕ) (key s : List ℕ) (room : ℕ) where
   due = due_bytes key s
 
   -- what is said where the lengths came to this answer
-  abbrev said : Opened → Said ℕ
+  abbrev said : Result ℕ Refusal → Said ℕ
   said a = said_opened (judged a (body_authentic key s))
 
   open_order_lem : said_opened (open_answer method key s room) ≡ first (open_order method key s room) due

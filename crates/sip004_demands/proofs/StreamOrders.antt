@@ -1,5 +1,6 @@
 -- A step and the sealing of a chunk answer by their orders.
 -- Assumes nothing.
+use Rattle.std.specs.Prelude.{None, Some}
 use mathlib.Core.Path.{◌≡◌, refl, sym, ◌∙◌}
 use mathlib.Core.Bool.{Bool, true, false, cond, not, ◌||◌, or-false}
 use mathlib.Core.List.{List, [], ◌∷◌}
@@ -20,7 +21,6 @@ use Rattle.stream_open.specs.Steps.{length_read, length_answer, turn_answer}
 use Rattle.stream_open.specs.Steps as steps
 use Rattle.stream_chunks.specs.Orders.{is_ended, text_bytes, due_bytes, length_told, said_step, said_piece}
 use Rattle.stream_chunks.proofs.ChunkOrders.{piece-order, size-order}
-use Rattle.sip004.specs.declared.Numbered.TheVariants.{Known, Unknown}
 use Rattle.sip004.specs.Method.{aes128, aes192, aes256, method_of, key_in, key_length}
 use Rattle.sip004_stream.specs.Streams.{max_payload, framing_of, stream_key, step_answer, chunk_answer}
 use Rattle.sip004_demands.proofs.FramingLaws.{none-under}
@@ -30,7 +30,7 @@ other-method : (method : ℕ) → other_method method ≡ eqb (key_length method
 unfolding key_length method_of
 other-method method = go (eqb method 11) (eqb method 12) (eqb method 13)
   where
-    go : (a b c : Bool) → not (a || (b || c)) ≡ eqb (key_in (cond a (Known aes128) (cond b (Known aes192) (cond c (Known aes256) Unknown)))) 0
+    go : (a b c : Bool) → not (a || (b || c)) ≡ eqb (key_in (cond a (Some aes128) (cond b (Some aes192) (cond c (Some aes256) None)))) 0
     go true b c = refl
     go false true c = refl
     go false false true = refl

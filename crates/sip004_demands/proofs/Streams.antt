@@ -1,5 +1,6 @@
 -- The promises about streams: both editions' laws of chunks, under this edition's framing.
 -- Assumes nothing.
+use Rattle.std.specs.Prelude.{Err, Ok, Result}
 use mathlib.Core.Path.{◌≡◌, refl, sym, ap, ◌∙◌, subst}
 use mathlib.Core.Bool.{Bool, true, false, cond, ◌||◌}
 use mathlib.Core.List.{List}
@@ -22,8 +23,6 @@ use Rattle.stream_open.specs.declared.Turn.{Turn}
 use Rattle.stream_open.specs.declared.Turn.TheVariants.{Variable, Length, Payload, Ended}
 use Rattle.stream_open.specs.declared.Receiver.{Receiver}
 use Rattle.stream_open.specs.declared.Chunk.{Chunk}
-use Rattle.stream_open.specs.declared.Stepped.{Stepped}
-use Rattle.stream_open.specs.declared.Stepped.TheVariants.{Opened, Refused as Unopened}
 use Rattle.stream_open.specs.Steps as steps
 use Rattle.stream_chunks.specs.Opens.{TurnOpens}
 use Rattle.stream_chunks.proofs.StepLaws.{step-tells, step-exactly-when, over-exactly-when, own-nonce}
@@ -85,17 +84,17 @@ turn-capped (Payload n) method key counter s room c d =
 turn-capped Ended method key counter s room c d = absurd d
 turn-capped (Variable n) method key counter s room c d = absurd d
 
-either_way : (b : Bool) (x : Stepped) → cond b x x ≡ x
+either_way : (b : Bool) (x : Result Chunk Refusal) → cond b x x ≡ x
 either_way true x = refl
 either_way false x = refl
 
-capped-turn : (st : Receiver) (s : List ℕ) (room n : ℕ) → st.turn ≡ Payload n → 16383 < n → step_answer st s room ≡ Unopened Settings
+capped-turn : (st : Receiver) (s : List ℕ) (room n : ℕ) → st.turn ≡ Payload n → 16383 < n → step_answer st s room ≡ Err Settings
 unfolding steps.step_answer
 capped-turn st s room n e h =
-    ap (λ (u : Turn). cond (eqb (key_length st.method) 0) (Unopened Settings) (steps.turn_answer (framing_of st.method) u st s room)) e
-    ∙ ap (λ (b : Bool). cond (eqb (key_length st.method) 0) (Unopened Settings) (cond (b || under (framing_of st.method) n) (Unopened Settings)
-    (steps.piece_answer (stream_key st) st.counter n s n room (Opened (record { used = n + 16; length = n }))))) (lt-ltb 16383 n h)
-    ∙ either_way (eqb (key_length st.method) 0) (Unopened Settings)
+    ap (λ (u : Turn). cond (eqb (key_length st.method) 0) (Err Settings) (steps.turn_answer (framing_of st.method) u st s room)) e
+    ∙ ap (λ (b : Bool). cond (eqb (key_length st.method) 0) (Err Settings) (cond (b || under (framing_of st.method) n) (Err Settings)
+    (steps.piece_answer (stream_key st) st.counter n s n room (Ok (record { used = n + 16; length = n }))))) (lt-ltb 16383 n h)
+    ∙ either_way (eqb (key_length st.method) 0) (Err Settings)
 
 pub streams-exactly : StreamsExactly
 streams-exactly =

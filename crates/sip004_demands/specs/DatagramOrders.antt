@@ -1,24 +1,21 @@
 -- The orders of refusals of the 2017 edition's datagrams, as lists to be held beside the scope's own lines, with its numbers written
 -- out. Sums are of whole numbers.
 -- Assumes nothing.
-use Rattle.std.specs.Prelude.{◌≡◌, Bool, not, ◌&&◌, ◌||◌, List, [], ◌∷◌, ℕ, ◌+◌, ◌-◌, eqb, ltb, length}
+use Rattle.std.specs.Prelude.{◌≡◌, Bool, not, ◌&&◌, ◌||◌, List, [], ◌∷◌, ℕ, ◌+◌, ◌-◌, eqb, ltb, length, Err, Ok, Result}
 use Rattle.octets.specs.Buffers.{same}
 use Rattle.gcm.specs.Gcm.{tag}
-use Rattle.sip004.specs.declared.Sealed.{Sealed}
-use Rattle.sip004.specs.declared.Sealed.TheVariants.{Datagram, Refused as NotSealed}
-use Rattle.sip004.specs.declared.Opened.{Opened}
-use Rattle.sip004.specs.declared.Opened.TheVariants.{Text, Refused as NotOpened}
 use Rattle.sip004.specs.Datagram.{seal_answer, open_answer}
 use Rattle.protocol.specs.Orders.{Rule, rule, Said, gives, first, refuses_with}
 use Rattle.sip004_demands.specs.Datagrams.{cipher, nonce, salt_in, body_in, tag_in}
+use Rattle.protocol.specs.declared.Refusal.{Refusal}
 
-abbrev pub said_sealed : Sealed → Said ℕ
-said_sealed (Datagram n) = gives n
-said_sealed (NotSealed r) = refuses_with r
+abbrev pub said_sealed : Result ℕ Refusal → Said ℕ
+said_sealed (Ok n) = gives n
+said_sealed (Err r) = refuses_with r
 
-abbrev pub said_opened : Opened → Said ℕ
-said_opened (Text n) = gives n
-said_opened (NotOpened r) = refuses_with r
+abbrev pub said_opened : Result ℕ Refusal → Said ℕ
+said_opened (Ok n) = gives n
+said_opened (Err r) = refuses_with r
 
 -- a method other than 11 to 13, or a key of another length than its own
 abbrev pub other_key : (method k : ℕ) → Bool

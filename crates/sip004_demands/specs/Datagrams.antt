@@ -2,15 +2,13 @@
 -- payload][tag], under HKDF_SHA1(key, salt, "ss-subkey") and a nonce of zeros. Numbers are written out. A method enters by the length
 -- of its key alone, which is that of its salt.
 -- Assumes nothing.
-use Rattle.std.specs.Prelude.{◌≡◌, true, List, [], ◌∷◌, ◌++◌, ◌↔◌, ℕ, ◌+◌, ◌-◌, ◌≤◌, length, take, drop, replicate}
+use Rattle.std.specs.Prelude.{◌≡◌, true, List, [], ◌∷◌, ◌++◌, ◌↔◌, ℕ, ◌+◌, ◌-◌, ◌≤◌, length, take, drop, replicate, Err, Ok}
 use Rattle.gcm.specs.Gcm.{tag, crypt}
 use Rattle.gcm.specs.Keyed.{ciph_of}
 use Rattle.hkdf.specs.Hkdf.{hkdf}
 use Rattle.protocol.specs.declared.Refusal.{Refusal}
 use Rattle.protocol.specs.declared.Refusal.TheVariants.{NotAuthentic}
 use Rattle.protocol.specs.Refusal.{refusal_number}
-use Rattle.sip004.specs.declared.Sealed.TheVariants.{Datagram, Refused as NotSealed}
-use Rattle.sip004.specs.declared.Opened.TheVariants.{Text, Refused as NotOpened}
 use Rattle.sip004.specs.Method.{key_fits}
 use Rattle.sip004.specs.Datagram.{datagram, seal_answer, seal_out, payload_of, open_answer, open_out}
 use Rattle.protocol.specs.Orders.{among}
@@ -57,8 +55,8 @@ abbrev pub TagGood : (key s : List ℕ) → Type 0
 TagGood key s = tag_in s ≡ tag (cipher key (salt_in (length key) s)) nonce (body_in (length key) s)
 
 pub record OpensExactly (method : ℕ) (key s out : List ℕ) : Type 0 where
-  pub accepted : (n : ℕ) → (open_answer method key s (length out) ≡ Text n) ↔ ((n ≡ length s - (length key + 16)) × TagGood key s)
-  pub refused : (open_answer method key s (length out) ≡ NotOpened NotAuthentic) ↔ (TagGood key s → ⊥)
+  pub accepted : (n : ℕ) → (open_answer method key s (length out) ≡ Ok n) ↔ ((n ≡ length s - (length key + 16)) × TagGood key s)
+  pub refused : (open_answer method key s (length out) ≡ Err NotAuthentic) ↔ (TagGood key s → ⊥)
   -- the text stands at the front, and behind it what was there
   pub text : TagGood key s
       → open_leaves method key s out
@@ -80,35 +78,35 @@ pub record SealsBytes (method : ℕ) (key salt payload out : List ℕ) (n : ℕ)
 abbrev pub DatagramsBytes : Type 0
 DatagramsBytes =
     (method : ℕ) (key salt payload out : List ℕ) (n : ℕ)
-    → seal_answer method (length key) (length salt) (length payload) (length out) ≡ Datagram n → SealsBytes method key salt payload out n
+    → seal_answer method (length key) (length salt) (length payload) (length out) ≡ Ok n → SealsBytes method key salt payload out n
 
 -- ---- what is sealed opens to the same payload
 
 -- the first n bytes that the sealer left in its buffer, opened into another with room for the payload
 pub record OpensBack (method : ℕ) (key payload s out : List ℕ) : Type 0 where
-  pub answer : open_answer method key s (length out) ≡ Text (length payload)
+  pub answer : open_answer method key s (length out) ≡ Ok (length payload)
   pub text : open_leaves method key s out ≡ payload ++ drop (length payload) out
 
 abbrev pub DatagramsBack : Type 0
 DatagramsBack =
     (method : ℕ) (key salt payload sent : List ℕ) (n : ℕ)
-    → seal_answer method (length key) (length salt) (length payload) (length sent) ≡ Datagram n
+    → seal_answer method (length key) (length salt) (length payload) (length sent) ≡ Ok n
     → (out : List ℕ) → length payload ≤ length out → OpensBack method key payload (take n (seal_leaves method key salt payload sent)) out
 
 -- ---- what refusals there are, and what is kept
 
 pub record SealKeeps (method : ℕ) (key salt payload out : List ℕ) : Type 0 where
-  pub refusals : (r : Refusal) → seal_answer method (length key) (length salt) (length payload) (length out) ≡ NotSealed r
+  pub refusals : (r : Refusal) → seal_answer method (length key) (length salt) (length payload) (length out) ≡ Err r
       → among (1 ∷ 2 ∷ 3 ∷ []) (refusal_number r) ≡ true
-  pub refused-keeps : (r : Refusal) → seal_answer method (length key) (length salt) (length payload) (length out) ≡ NotSealed r
+  pub refused-keeps : (r : Refusal) → seal_answer method (length key) (length salt) (length payload) (length out) ≡ Err r
       → seal_leaves method key salt payload out ≡ out
-  pub behind-kept : (n : ℕ) → seal_answer method (length key) (length salt) (length payload) (length out) ≡ Datagram n
+  pub behind-kept : (n : ℕ) → seal_answer method (length key) (length salt) (length payload) (length out) ≡ Ok n
       → drop n (seal_leaves method key salt payload out) ≡ drop n out
   pub length-kept : length (seal_leaves method key salt payload out) ≡ length out
 
 pub record OpenKeeps (method : ℕ) (key s out : List ℕ) : Type 0 where
-  pub refusals : (r : Refusal) → open_answer method key s (length out) ≡ NotOpened r → among (1 ∷ 2 ∷ 3 ∷ 4 ∷ []) (refusal_number r) ≡ true
-  pub refused-keeps : (r : Refusal) → open_answer method key s (length out) ≡ NotOpened r → open_leaves method key s out ≡ out
+  pub refusals : (r : Refusal) → open_answer method key s (length out) ≡ Err r → among (1 ∷ 2 ∷ 3 ∷ 4 ∷ []) (refusal_number r) ≡ true
+  pub refused-keeps : (r : Refusal) → open_answer method key s (length out) ≡ Err r → open_leaves method key s out ≡ out
   -- whatever is answered
   pub past-due-kept : drop (length s - (length key + 16)) (open_leaves method key s out) ≡ drop (length s - (length key + 16)) out
   pub length-kept : length (open_leaves method key s out) ≡ length out

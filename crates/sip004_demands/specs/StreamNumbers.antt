@@ -1,18 +1,16 @@
 -- The 2017 edition's numbers of streams, as the definitions compute them and as they should be, written out.
 -- Assumes nothing.
-use Rattle.std.specs.Prelude.{◌≡◌, [], ◌∷◌, map, ℕ, replicate}
+use Rattle.std.specs.Prelude.{◌≡◌, [], ◌∷◌, map, ℕ, replicate, Err, Ok, Result}
 use Rattle.protocol.specs.Refusal.{refusal_number}
-use Rattle.stream_open.specs.declared.Stepped.{Stepped}
-use Rattle.stream_open.specs.declared.Stepped.TheVariants.{Opened, Refused}
 use Rattle.stream_open.specs.declared.Turn.TheVariants.{Payload}
 use Rattle.stream_open.specs.declared.Receiver.{Receiver}
 use Rattle.stream_open.specs.Steps.{length_answer}
-use Rattle.stream_seal.specs.declared.Sealed.{Sealed}
-use Rattle.stream_seal.specs.declared.Sealed.TheVariants.{Bytes, Refused as Unsealed}
 use Rattle.stream_seal.specs.declared.Sender.{Sender}
 use Rattle.stream_pieces.specs.declared.Subkey.{Subkey}
 use Rattle.sip004_stream.specs.Streams.{framing_of, step_answer, chunk_answer}
 use Rattle.sip004_demands.specs.DatagramNumbers.{others}
+use Rattle.stream_open.specs.declared.Chunk.{Chunk}
+use Rattle.protocol.specs.declared.Refusal.{Refusal}
 
 abbrev pub no_subkey : Subkey
 no_subkey = record { a = 0; b = 0; c = 0; d = 0 }
@@ -25,13 +23,13 @@ abbrev pub sender_of : (method counter : ℕ) → Sender
 sender_of method counter = record { method = method; counter = counter; subkey = no_subkey }
 
 -- a refusal's number, and 0 for a value
-abbrev pub stepped : Stepped → ℕ
-stepped (Opened c) = 0
-stepped (Refused r) = refusal_number r
+abbrev pub stepped : Result Chunk Refusal → ℕ
+stepped (Ok c) = 0
+stepped (Err r) = refusal_number r
 
-abbrev pub sealed : Sealed → ℕ
-sealed (Bytes n next) = 0
-sealed (Unsealed r) = refusal_number r
+abbrev pub sealed : Result (ℕ × Sender) Refusal → ℕ
+sealed (Ok (n, next)) = 0
+sealed (Err r) = refusal_number r
 
 pub record StreamNumbers : Type 0 where
   pub keys : map (λ (m : ℕ). (framing_of m).key) (11 ∷ 12 ∷ 13 ∷ []) ≡ 16 ∷ 24 ∷ 32 ∷ []

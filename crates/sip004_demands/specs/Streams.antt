@@ -1,7 +1,7 @@
 -- What sealing and opening the chunks of a stream of the 2017 edition (SIP004) answer and leave. A method enters by the length of its
 -- key alone. What both editions' chunks promise is stated in crate stream_chunks, over the edition's framing.
 -- Assumes nothing.
-use Rattle.std.specs.Prelude.{◌≡◌, true, List, [], ◌∷◌, ◌++◌, ◌↔◌, ℕ, ◌*◌, ◌≤◌, ◌<◌, length}
+use Rattle.std.specs.Prelude.{◌≡◌, true, List, [], ◌∷◌, ◌++◌, ◌↔◌, ℕ, ◌*◌, ◌≤◌, ◌<◌, length, Err, Ok}
 use Rattle.hkdf.specs.Hkdf.{hkdf}
 use Rattle.protocol.specs.declared.Cipher.TheVariants.{AesGcm}
 use Rattle.protocol.specs.declared.Refusal.TheVariants.{Settings, Malformed}
@@ -10,25 +10,22 @@ use Rattle.stream_seal.specs.Sealing.{chunk}
 use Rattle.stream_open.specs.declared.Turn.TheVariants.{Payload}
 use Rattle.stream_open.specs.declared.Receiver.{Receiver}
 use Rattle.stream_open.specs.declared.Chunk.{Chunk}
-use Rattle.stream_open.specs.declared.Stepped.TheVariants.{Opened, Refused as Unopened}
 use Rattle.stream_chunks.specs.Opens.{StepExactlyWhen, ReadsLength}
 use Rattle.stream_chunks.specs.Flows.{sent_all, sender_after, AllSealed, Fit}
 use Rattle.stream_chunks.specs.Back.{ChunksGivenBack, StreamBack, StreamsGivenBack, OwnNonces, SendersCount}
 use Rattle.stream_chunks.specs.Keeps.{StepKeeps, SealKeeps}
 use Rattle.stream_pieces.specs.Pieces.{keyed}
 use Rattle.sip004.specs.Method.{settings_fit}
-use Rattle.sip004_stream.specs.declared.SenderBegun.TheVariants.{Begun as SealBegun, Refused as SealRefused}
-use Rattle.sip004_stream.specs.declared.ReceiverBegun.TheVariants.{Begun as OpenBegun, Refused as OpenRefused}
 use Rattle.sip004_stream.specs.Streams.{framing_of, subkey_of, sender, receiver, sender_begun, receiver_begun, sender_key, stream_key, chunk_answer, step_answer}
 
 -- ---- a stream is begun with its salt
 
 -- 1 where the settings do not fit; else the key, which is AES-GCM's, is HKDF_SHA1(key, salt, "ss-subkey"), and the counter 0
 pub record Begins (method : ℕ) (key salt : List ℕ) : Type 0 where
-  pub seals : settings_fit method (length key) (length salt) ≡ true → sender_begun method key salt ≡ SealBegun (sender method (subkey_of key salt))
-  pub opens : settings_fit method (length key) (length salt) ≡ true → receiver_begun method key salt ≡ OpenBegun (receiver method (subkey_of key salt))
-  pub unfit-seals : (settings_fit method (length key) (length salt) ≡ true → ⊥) → sender_begun method key salt ≡ SealRefused Settings
-  pub unfit-opens : (settings_fit method (length key) (length salt) ≡ true → ⊥) → receiver_begun method key salt ≡ OpenRefused Settings
+  pub seals : settings_fit method (length key) (length salt) ≡ true → sender_begun method key salt ≡ Ok (sender method (subkey_of key salt))
+  pub opens : settings_fit method (length key) (length salt) ≡ true → receiver_begun method key salt ≡ Ok (receiver method (subkey_of key salt))
+  pub unfit-seals : (settings_fit method (length key) (length salt) ≡ true → ⊥) → sender_begun method key salt ≡ Err Settings
+  pub unfit-opens : (settings_fit method (length key) (length salt) ≡ true → ⊥) → receiver_begun method key salt ≡ Err Settings
   pub sealing-key : settings_fit method (length key) (length salt) ≡ true
       → sender_key (sender method (subkey_of key salt)) ≡ keyed AesGcm (hkdf salt key (115 ∷ 115 ∷ 45 ∷ 115 ∷ 117 ∷ 98 ∷ 107 ∷ 101 ∷ 121 ∷ []) (length key))
   pub opening-key : settings_fit method (length key) (length salt) ≡ true
@@ -40,15 +37,15 @@ pub record Begins (method : ℕ) (key salt : List ℕ) : Type 0 where
 abbrev pub TooLongExactlyWhen : Type 0
 TooLongExactlyWhen =
     (st : Receiver) (s : List ℕ) (room : ℕ)
-    → (step_answer st s room ≡ Unopened Malformed) ↔ ((n : ℕ) × (ReadsLength (framing_of st.method) st s room n × (16383 < n)))
+    → (step_answer st s room ≡ Err Malformed) ↔ ((n : ℕ) × (ReadsLength (framing_of st.method) st s room n × (16383 < n)))
 
 pub record StreamsExactly : Type 0 where
   pub steps : StepExactlyWhen framing_of
   pub too_long : TooLongExactlyWhen
   -- what a step tells as a length, or hands out, is at most so long
-  pub capped : (st : Receiver) (s : List ℕ) (room : ℕ) (c : Chunk) → step_answer st s room ≡ Opened c → c.length ≤ 16383
+  pub capped : (st : Receiver) (s : List ℕ) (room : ℕ) (c : Chunk) → step_answer st s room ≡ Ok c → c.length ≤ 16383
   -- a payload's turn that is longer is none of ours
-  pub capped-turn : (st : Receiver) (s : List ℕ) (room n : ℕ) → st.turn ≡ Payload n → 16383 < n → step_answer st s room ≡ Unopened Settings
+  pub capped-turn : (st : Receiver) (s : List ℕ) (room n : ℕ) → st.turn ≡ Payload n → 16383 < n → step_answer st s room ≡ Err Settings
 
 -- ---- byte for byte, and back
 

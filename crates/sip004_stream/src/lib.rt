@@ -17,20 +17,6 @@ pub const MAX_PAYLOAD: usize = 16383;
 // The counter of a stream's first piece.
 const FIRST_COUNTER: u64 = 0;
 
-// A stream that was begun to seal, or why there is none.
-#[derive(Clone, Copy)]
-pub enum SenderBegun {
-    Begun(Sender),
-    Refused(Refusal),
-}
-
-// A stream that was begun to open, or why there is none.
-#[derive(Clone, Copy)]
-pub enum ReceiverBegun {
-    Begun(Receiver),
-    Refused(Refusal),
-}
-
 // The framing by the number of a method, without a key where there is no such method. A payload may be empty.
 pub fn framing_of(method: u64) -> Framing
     ensures { result ≡ framing_of method }
@@ -56,30 +42,32 @@ fn derive(key: &[u8], salt: &[u8]) -> Subkey
 }
 
 // Begins a stream behind a fresh salt. Refused with 1 (method, or length of key or salt).
-pub fn begin_seal(method: u64, key: &[u8], salt: &[u8]) -> SenderBegun
+#[tactic(auto, unfolding(crate::specs::Streams::sender_begun))]
+pub fn begin_seal(method: u64, key: &[u8], salt: &[u8]) -> Result<Sender, Refusal>
     ensures { result ≡ sender_begun method key.now salt.now }
 {
-    if sip004::settings_fit(method, key.len(), salt.len()) {
-        return SenderBegun::Begun(Sender {
-            method,
-            counter: FIRST_COUNTER,
-            subkey: derive(key, salt),
-        });
+    if !sip004::settings_fit(method, key.len(), salt.len()) {
+        return Err(Refusal::Settings);
     }
-    SenderBegun::Refused(Refusal::Settings)
+    Ok(Sender {
+        method,
+        counter: FIRST_COUNTER,
+        subkey: derive(key, salt),
+    })
 }
 
 // The same of a stream that is opened, behind the salt that it came with.
-pub fn begin_open(method: u64, key: &[u8], salt: &[u8]) -> ReceiverBegun
+#[tactic(auto, unfolding(crate::specs::Streams::receiver_begun))]
+pub fn begin_open(method: u64, key: &[u8], salt: &[u8]) -> Result<Receiver, Refusal>
     ensures { result ≡ receiver_begun method key.now salt.now }
 {
-    if sip004::settings_fit(method, key.len(), salt.len()) {
-        return ReceiverBegun::Begun(Receiver {
-            method,
-            turn: Turn::Length,
-            counter: FIRST_COUNTER,
-            subkey: derive(key, salt),
-        });
+    if !sip004::settings_fit(method, key.len(), salt.len()) {
+        return Err(Refusal::Settings);
     }
-    ReceiverBegun::Refused(Refusal::Settings)
+    Ok(Receiver {
+        method,
+        turn: Turn::Length,
+        counter: FIRST_COUNTER,
+        subkey: derive(key, salt),
+    })
 }

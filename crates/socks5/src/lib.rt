@@ -20,34 +20,30 @@ pub struct Address {
     pub end: usize,
 }
 
-#[derive(Clone, Copy)]
-pub enum Parsed {
-    Found(Address),
-    Malformed,
-}
-
-fn parse_v4(s: &[u8], at: usize) -> Parsed
+#[tactic(auto, unfolding(crate::specs::Address::v4_at))]
+fn parse_v4(s: &[u8], at: usize) -> Option<Address>
     requires { at ≤ length s.now }
     ensures { result ≡ v4_at s.now at }
 {
     if s.len() - at < 7 {
-        return Parsed::Malformed;
+        return None;
     }
-    Parsed::Found(Address {
+    Some(Address {
         target: Target::V4(octets::read_u32_be(s, at + 1)),
         port: octets::read_u16_be(s, at + 5),
         end: at + 7,
     })
 }
 
-fn parse_v6(s: &[u8], at: usize) -> Parsed
+#[tactic(auto, unfolding(crate::specs::Address::v6_at))]
+fn parse_v6(s: &[u8], at: usize) -> Option<Address>
     requires { at ≤ length s.now }
     ensures { result ≡ v6_at s.now at }
 {
     if s.len() - at < 19 {
-        return Parsed::Malformed;
+        return None;
     }
-    Parsed::Found(Address {
+    Some(Address {
         target: Target::V6(
             octets::read_u64_be(s, at + 1),
             octets::read_u64_be(s, at + 9),
@@ -57,19 +53,20 @@ fn parse_v6(s: &[u8], at: usize) -> Parsed
     })
 }
 
-fn parse_name(s: &[u8], at: usize) -> Parsed
+#[tactic(auto, unfolding(crate::specs::Address::name_at))]
+fn parse_name(s: &[u8], at: usize) -> Option<Address>
     requires { at ≤ length s.now }
     ensures { result ≡ name_at s.now at (get_or s.now (at + 1) 0) }
 {
     let n = octets::byte_or_zero(s, at + 1) as usize;
     if n == 0 {
-        return Parsed::Malformed;
+        return None;
     }
     if s.len() - at < n + 4 {
-        return Parsed::Malformed;
+        return None;
     }
     let port = at + 2 + n;
-    Parsed::Found(Address {
+    Some(Address {
         target: Target::Name(at + 2, n),
         port: octets::read_u16_be(s, port),
         end: port + 2,
@@ -77,27 +74,22 @@ fn parse_name(s: &[u8], at: usize) -> Parsed
 }
 
 // The address at a place. Nothing but kinds 1, 3 and 4 is an address, and nothing past the end is.
-pub fn parse(s: &[u8], at: usize) -> Parsed
+#[tactic(auto, unfolding(crate::specs::Address::parse_at))]
+pub fn parse(s: &[u8], at: usize) -> Option<Address>
     ensures { result ≡ parse_at s.now at }
 {
-    if s.len() <= at {
-        return Parsed::Malformed;
-    }
-    let kind = s[at];
-    match kind {
+    match *s.get(at)? {
         1 => parse_v4(s, at),
         3 => parse_name(s, at),
         4 => parse_v6(s, at),
-        0 | 2 | 5..=255 => Parsed::Malformed,
+        _ => None,
     }
 }
 
 // Whether the bytes are exactly one address, with nothing behind it.
+#[tactic(auto, unfolding(crate::specs::Address::is_address))]
 pub fn is_address(s: &[u8]) -> bool
     ensures { result ≡ is_address s.now }
 {
-    match parse(s, 0) {
-        Parsed::Found(a) => a.end == s.len(),
-        Parsed::Malformed => false,
-    }
+    parse(s, 0).is_some_and(|a| a.end == s.len())
 }

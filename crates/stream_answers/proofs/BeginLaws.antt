@@ -1,15 +1,19 @@
 -- What stands after a stream was begun in lent words, case by case. Assumes nothing.
+use Rattle.std.specs.Prelude.{Err, Ok, Result, MatchResult, IsOkAnd}
 use Prim.Native.Nat.{ℕ}
 use mathlib.Core.Bool.{Bool, true, false, cond}
 use mathlib.Core.List.{List}
-use mathlib.Core.Path.{◌≡◌, sym, ap, ◌∙◌}
+use mathlib.Core.Path.{◌≡◌, refl, sym, ap, ◌∙◌}
 use lib.Dec.{eqb}
 use lib.ListN.{length}
 use lib.Seq.{sets}
 use borrow.Author.Tests.{eq-eqb, ne_eqb}
-use Rattle.words.specs.States.{stream_size}
+use Rattle.protocol.specs.declared.Refusal.{Refusal}
+use Rattle.stream_seal.specs.declared.Sender.{Sender}
+use Rattle.stream_open.specs.declared.Receiver.{Receiver}
+use Rattle.words.specs.States.{stream_size, sender_words, receiver_words}
 use Rattle.words.proofs.LentLaws.{filled}
-use Rattle.stream_answers.specs.Beginning.{AfterBegin, begins}
+use Rattle.stream_answers.specs.Beginning.{AfterBegin, begins, words_told, sender_told, receiver_told}
 
 module _ (x : AfterBegin) (w : List ℕ) where
   by_size : (b : Bool) → eqb (length w) stream_size ≡ b → cond b x (record { number = 1; stream = w }) ≡ begins x w

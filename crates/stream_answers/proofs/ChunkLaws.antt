@@ -1,4 +1,5 @@
 -- What stands after a call about a chunk, case by case. Assumes nothing.
+use Rattle.std.specs.Prelude.{Err, Result}
 use Prim.Native.Nat.{ℕ, ◌≤◌, ◌<◌}
 use mathlib.Core.Bool.{Bool, true, false, cond, ◌&&◌, and-eq-true_iff}
 use mathlib.Core.List.{List}
@@ -11,16 +12,15 @@ use Rattle.protocol.specs.declared.Refusal.TheVariants.{Settings, NotAuthentic, 
 use Rattle.protocol.specs.Refusal.{refusal_number}
 use Rattle.stream_pieces.specs.declared.Framing.{Framing}
 use Rattle.stream_pieces.specs.Framing.{under}
-use Rattle.stream_seal.specs.declared.Sealed.{Sealed}
-use Rattle.stream_seal.specs.declared.Sealed.TheVariants.{Refused}
 use Rattle.stream_seal.specs.Sealing.{framed_answer, seal_out}
 use Rattle.stream_open.specs.declared.Receiver.{Receiver}
-use Rattle.stream_open.specs.declared.Stepped.{Stepped}
 use Rattle.stream_open.specs.Steps.{step_answer, step_out, step_next}
 use Rattle.words.specs.Answers.{answer_words}
 use Rattle.words.specs.States.{stream_size, turn_of, sender_in, receiver_lawful, receiver_in}
 use Rattle.stream_answers.specs.Told.{sealed_number, sealed_words, sealed_stream, stepped_number, stepped_answer, step_stream}
 use Rattle.stream_answers.specs.Chunks.{fits, AfterChunk, seals, not_sealing, chunk_sealed, opens, step_told, opens_chunk}
+use Rattle.stream_seal.specs.declared.Sender.{Sender}
+use Rattle.stream_open.specs.declared.Chunk.{Chunk}
 
 -- ---- a stream and an answer of these lengths
 
@@ -32,12 +32,12 @@ module _ (k a : ℕ) (e : fits k a ≡ true) where
 
 -- ---- sealing on lent words: x is what is answered where they fit
 
-module _ (x : Sealed) (text out w answer : List ℕ) (b : Bool) (e : b ≡ fits (length w) (length answer)) where
+module _ (x : Result (ℕ × Sender) Refusal) (text out w answer : List ℕ) (b : Bool) (e : b ≡ fits (length w) (length answer)) where
   abbrev A : AfterChunk
   A = seals x text out w answer
 
   -- what stands after an answer y
-  abbrev after : Sealed → AfterChunk
+  abbrev after : Result (ℕ × Sender) Refusal → AfterChunk
   after y = record { number = sealed_number y; out = seal_out y text out; stream = sealed_stream y w; answer = sealed_words y answer }
 
   by-fit : (z : Bool) → b ≡ z → cond z (after x) (record { number = 1; out = out; stream = w; answer = answer }) ≡ A
@@ -47,47 +47,27 @@ module _ (x : Sealed) (text out w answer : List ℕ) (b : Bool) (e : b ≡ fits 
   pub unfit : b ≡ false → record { number = 1; out = out; stream = w; answer = answer } ≡ A
   unfit f = by-fit false f
 
-  pub sealed-fit : b ≡ true → (y : Sealed) (n : ℕ) (o s a : List ℕ) → y ≡ x → o ≡ seal_out y text out → n ≡ sealed_number y → s ≡ sealed_stream y w
+  pub sealed-fit : b ≡ true → (y : Result (ℕ × Sender) Refusal) (n : ℕ) (o s a : List ℕ) → y ≡ x → o ≡ seal_out y text out → n ≡ sealed_number y → s ≡ sealed_stream y w
       → a ≡ sealed_words y answer → record { number = n; out = o; stream = s; answer = a } ≡ A
   sealed-fit f y n o s a g h i j l = (λ k. record { number = i k; out = h k; stream = j k; answer = l k }) ∙ ap after g ∙ by-fit true f
 
-  pub unsealed-fit : b ≡ true → (r : Refusal) (n : ℕ) → x ≡ Refused r → n ≡ refusal_number r
+  pub unsealed-fit : b ≡ true → (r : Refusal) (n : ℕ) → x ≡ Err r → n ≡ refusal_number r
       → record { number = n; out = out; stream = w; answer = answer } ≡ A
-  unsealed-fit f r n g h = sealed-fit f (Refused r) n out w answer (sym g) refl h refl refl
+  unsealed-fit f r n g h = sealed-fit f (Err r) n out w answer (sym g) refl h refl refl
 
 -- ---- a chunk, by the stream's turn
 
 module _ (f : Framing) (w : List ℕ) (payload room : ℕ) where
-  abbrev by_turn : Bool → Sealed
-  by_turn b = cond b (framed_answer f (sender_in w) payload room) (Refused (not_sealing f (turn_of w) payload))
+  abbrev by_turn : Bool → Result (ℕ × Sender) Refusal
+  by_turn b = cond b (framed_answer f (sender_in w) payload room) (Err (not_sealing f (turn_of w) payload))
 
   pub at-sealing : turn_of w ≡ 3 → framed_answer f (sender_in w) payload room ≡ chunk_sealed f w payload room
   unfolding chunk_sealed
   at-sealing e = sym (ap by_turn (eq-eqb (turn_of w) 3 e))
 
-  pub not-at-sealing : (turn_of w ≡ 3 → ⊥) → chunk_sealed f w payload room ≡ Refused (not_sealing f (turn_of w) payload)
+  pub not-at-sealing : (turn_of w ≡ 3 → ⊥) → chunk_sealed f w payload room ≡ Err (not_sealing f (turn_of w) payload)
   unfolding chunk_sealed
   not-at-sealing e = ap by_turn (ne_eqb (turn_of w) 3 e)
-
-module _ (f : Framing) (turn payload : ℕ) where
-  decided : (a b c : Bool) → eqb turn 0 ≡ a → eqb f.key 0 ≡ b → under f payload ≡ c
-      → cond a (cond b Settings (cond c Empty NotAuthentic)) Settings ≡ not_sealing f turn payload
-  unfolding not_sealing
-  decided a b c ea eb ec = λ i. cond (sym ea i) (cond (sym eb i) Settings (cond (sym ec i) Empty NotAuthentic)) Settings
-
-  pub another-turn : (turn ≡ 0 → ⊥) → Settings ≡ not_sealing f turn payload
-  another-turn e = decided false _ _ (ne_eqb turn 0 e) refl refl
-
-  module _ (e : turn ≡ 0) where
-    pub no-method : f.key ≡ 0 → Settings ≡ not_sealing f turn payload
-    no-method g = decided true true _ (eq-eqb turn 0 e) (eq-eqb f.key 0 g) refl
-
-    module _ (known : f.key ≡ 0 → ⊥) where
-      pub too_few : payload < f.least → Empty ≡ not_sealing f turn payload
-      too_few h = decided true false true (eq-eqb turn 0 e) (ne_eqb f.key 0 known) (lt-ltb payload f.least h)
-
-      pub has_ended : f.least ≤ payload → NotAuthentic ≡ not_sealing f turn payload
-      has_ended h = decided true false false (eq-eqb turn 0 e) (ne_eqb f.key 0 known) (le-ltb payload f.least h)
 
 -- ---- opening on lent words
 
@@ -119,11 +99,11 @@ module _ (f : Framing) (w s out answer : List ℕ) where
     pub step-unlawful : b ≡ false → untouched ≡ T
     step-unlawful g = step_by false (opens_by w answer l b e ∙ g)
 
-    pub step-told : b ≡ true → (st : Receiver) → st ≡ receiver_in w → (x : Stepped) (next : Receiver) (n : ℕ) (o left a : List ℕ)
+    pub step-told : b ≡ true → (st : Receiver) → st ≡ receiver_in w → (x : Result Chunk Refusal) (next : Receiver) (n : ℕ) (o left a : List ℕ)
         → x ≡ step_answer f st s (length out) → next ≡ step_next st x → o ≡ step_out f st s out → n ≡ stepped_number x → left ≡ step_stream x next w
         → a ≡ stepped_answer x answer → record { number = n; out = o; stream = left; answer = a } ≡ T
     step-told t st g x next n o left a h i j m p q =
         (λ k. record { number = m k; out = j k; stream = (p ∙ ap (λ (z : Receiver). step_stream x z w) i) k; answer = q k })
-        ∙ ap (λ (z : Stepped). step_told f z st s out w answer) h
+        ∙ ap (λ (z : Result Chunk Refusal). step_told f z st s out w answer) h
         ∙ ap (λ (z : Receiver). step_told f (step_answer f z s (length out)) z s out w answer) g
         ∙ step_by true (opens_by w answer l b e ∙ t)

@@ -1,3 +1,2 @@
-mod ToldLaws
 pub mod ChunkLaws
 mod BeginLaws

@@ -11,33 +11,28 @@ use stream_pieces::Framing;
 use stream_seal::seal_framed;
 use words::{ANSWER, ENDED, SEALING, STREAM, is_receiver, receiver_in, sender_in};
 
-// Refusal 1, which stands before every other.
+// Refusal 1, which stands before every other, by the number that C is given.
 pub const SETTINGS: u64 = 1;
 
 // Whether a lent stream and a lent answer have their lengths.
 pub fn fits(stream: usize, answer: usize) -> bool
     ensures { result ≡ fits_of stream answer }
 {
-    if stream != STREAM {
-        return false;
-    }
-    answer == ANSWER
+    stream == STREAM && answer == ANSWER
 }
 
 // Why a stream that is not at the turn of sealing is refused.
+#[tactic(auto, unfolding(crate::specs::Chunks::not_sealing))]
 fn not_sealing(f: Framing, turn: u64, payload: usize) -> Refusal
     ensures { result ≡ not_sealing f turn payload }
 {
-    if turn == ENDED {
-        if f.key == 0 {
-            return Refusal::Settings;
-        }
-        if payload < f.least {
-            return Refusal::Empty;
-        }
-        return Refusal::NotAuthentic;
+    if turn != ENDED || f.key == 0 {
+        return Refusal::Settings;
     }
-    Refusal::Settings
+    if payload < f.least {
+        return Refusal::Empty;
+    }
+    Refusal::NotAuthentic
 }
 
 // Seals a length with its payload to the front of the lent buffer and moves the stream two counters further.
@@ -53,15 +48,14 @@ pub fn seal_on(
     ensures { record { number = result; out = out.new; stream = stream.new; answer = answer.new }
         ≡ seals_chunk f stream.old payload.now out.old answer.old }
 {
-    if fits(stream.len(), answer.len()) {
-        if stream[0] == SEALING {
-            let sealed = seal_framed(f, sender_in(stream), payload, out);
-            return write_sealed(sealed, stream, answer);
-        }
-        let refusal = not_sealing(f, stream[0], payload.len());
-        return refusal.number();
+    if !fits(stream.len(), answer.len()) {
+        return SETTINGS;
     }
-    SETTINGS
+    if stream[0] != SEALING {
+        return not_sealing(f, stream[0], payload.len()).number();
+    }
+    let sealed = seal_framed(f, sender_in(stream), payload, out);
+    write_sealed(sealed, stream, answer)
 }
 
 // Opens the next piece: a length, or a payload to the front of the lent buffer.
@@ -76,12 +70,9 @@ pub fn open_on(
     ensures { record { number = result; out = out.new; stream = stream.new; answer = answer.new }
         ≡ opens_chunk f stream.old bytes.now out.old answer.old }
 {
-    if answer.len() != ANSWER {
+    if answer.len() != ANSWER || !is_receiver(stream) {
         return SETTINGS;
     }
-    if is_receiver(stream) {
-        let step = open_framed(f, receiver_in(stream), bytes, out);
-        return write_step(step, stream, answer);
-    }
-    SETTINGS
+    let step = open_framed(f, receiver_in(stream), bytes, out);
+    write_step(step, stream, answer)
 }

@@ -2,18 +2,19 @@
 // 0 or the number of a refusal. Calls about a chunk are in chunks.rt, and streams of SIP004 are begun in begin.rt.
 #![tactic(auto)]
 
-ghost use Rattle.std.specs.Prelude.{◌≡◌, length};
+ghost use Rattle.std.specs.Prelude.{◌≡◌, ◌≤◌, length};
+ghost use Rattle.std.proofs.lemmas.List.Edits.{sets};
 ghost use Rattle.protocol.specs.Refusal.{refusal_number};
 ghost use Rattle.words.specs.Answers.{answer_words, refused_answer};
-ghost use Rattle.words.specs.States.{stream_size};
+ghost use Rattle.words.specs.States.{stream_size, receiver_words};
 ghost use Rattle.stream_answers.specs.Told as told;
 
 use protocol::Refusal;
-use stream_open::{Step, Stepped};
-use stream_open_request::RequestOpened;
-use stream_open_response::ResponseOpened;
-use stream_open_variable::{VariableOpened, VariableStep};
-use stream_seal::Sealed;
+use stream_open::{Receiver, Step};
+use stream_open_request::Request;
+use stream_open_response::Response;
+use stream_open_variable::VariableStep;
+use stream_seal::Sender;
 use words::{ENDED, chunk_words, head_words, receiver_words, refuse, sender_words, variable_words};
 
 mod begin;
@@ -23,7 +24,11 @@ pub use begin::{write_receiver, write_sender};
 pub use chunks::{SETTINGS, fits, open_on, seal_on};
 
 // Gives the stream and the number of bytes sealed to the caller.
-pub fn write_sealed(sealed: Sealed, stream: &mut [u64], answer: &mut [u64]) -> u64
+pub fn write_sealed(
+    sealed: Result<(usize, Sender), Refusal>,
+    stream: &mut [u64],
+    answer: &mut [u64],
+) -> u64
     requires stream_len { length stream.old ≡ stream_size }
     requires answer_len { length answer.old ≡ answer_words }
     ensures value { result ≡ told.sealed_number sealed }
@@ -31,18 +36,34 @@ pub fn write_sealed(sealed: Sealed, stream: &mut [u64], answer: &mut [u64]) -> u
     ensures answer_after { answer.new ≡ told.sealed_words sealed answer.old }
 {
     match sealed {
-        Sealed::Bytes(n, sender) => {
-            let words = sender_words(sender);
-            records::write(stream, 0, &words);
+        Ok((n, sender)) => {
+            records::write(stream, 0, &sender_words(sender));
             answer[0] = n as u64;
             0
         }
-        Sealed::Refused(refusal) => refusal.number(),
+        Err(refusal) => refusal.number(),
     }
 }
 
+// Gives the words of what was opened, and the stream, to the caller.
+fn write_opened(words: &[u64], next: Receiver, stream: &mut [u64], answer: &mut [u64]) -> u64
+    requires stream_len { length stream.old ≡ stream_size }
+    requires in_bounds { length words.now ≤ length answer.old }
+    ensures value { result ≡ 0 }
+    ensures stream_after { stream.new ≡ receiver_words next }
+    ensures answer_after { answer.new ≡ sets answer.old 0 words.now }
+{
+    records::write(stream, 0, &receiver_words(next));
+    records::write(answer, 0, words);
+    0
+}
+
 // Gives what a request's front says, and the stream, to the caller.
-pub fn write_request(opened: RequestOpened, stream: &mut [u64], answer: &mut [u64]) -> u64
+pub fn write_request(
+    opened: Result<(Request, Receiver), Refusal>,
+    stream: &mut [u64],
+    answer: &mut [u64],
+) -> u64
     requires stream_len { length stream.old ≡ stream_size }
     requires answer_len { length answer.old ≡ answer_words }
     ensures value { result ≡ told.request_number opened }
@@ -50,14 +71,11 @@ pub fn write_request(opened: RequestOpened, stream: &mut [u64], answer: &mut [u6
     ensures answer_after { answer.new ≡ told.request_answer opened answer.old }
 {
     match opened {
-        RequestOpened::Accepted(header, receiver) => {
-            let state = receiver_words(receiver);
-            records::write(stream, 0, &state);
-            let words = head_words(header.used, header.length, header.time);
-            records::write(answer, 0, &words);
-            0
+        Ok((head, receiver)) => {
+            let words = head_words(head.used, head.length, head.time);
+            write_opened(&words, receiver, stream, answer)
         }
-        RequestOpened::Refused(refusal) => refuse(refusal, answer),
+        Err(refusal) => refuse(refusal, answer),
     }
 }
 
@@ -71,7 +89,6 @@ fn write_refused(refusal: Refusal, stream: &mut [u64], answer: &mut [u64]) -> u6
 {
     if refusal.ends_stream() {
         stream[0] = ENDED;
-        return refuse(refusal, answer);
     }
     refuse(refusal, answer)
 }
@@ -84,22 +101,18 @@ pub fn write_variable(step: VariableStep, stream: &mut [u64], answer: &mut [u64]
     ensures stream_after { stream.new ≡ told.variable_stream step.answer step.stream stream.old }
     ensures answer_after { answer.new ≡ told.variable_told step.answer answer.old }
 {
-    let opened = step.answer;
-    match opened {
-        VariableOpened::Header(header) => {
-            let next = step.stream;
-            let state = receiver_words(next);
-            records::write(stream, 0, &state);
-            let words = variable_words(header);
-            records::write(answer, 0, &words);
-            0
-        }
-        VariableOpened::Refused(refusal) => write_refused(refusal, stream, answer),
+    match step.answer {
+        Ok(header) => write_opened(&variable_words(header), step.stream, stream, answer),
+        Err(refusal) => write_refused(refusal, stream, answer),
     }
 }
 
 // Gives the counts and the stream to the caller.
-pub fn write_response(opened: ResponseOpened, stream: &mut [u64], answer: &mut [u64]) -> u64
+pub fn write_response(
+    opened: Result<(Response, Receiver), Refusal>,
+    stream: &mut [u64],
+    answer: &mut [u64],
+) -> u64
     requires stream_len { length stream.old ≡ stream_size }
     requires answer_len { length answer.old ≡ answer_words }
     ensures value { result ≡ told.response_number opened }
@@ -107,14 +120,11 @@ pub fn write_response(opened: ResponseOpened, stream: &mut [u64], answer: &mut [
     ensures answer_after { answer.new ≡ told.response_answer opened answer.old }
 {
     match opened {
-        ResponseOpened::Accepted(header, receiver) => {
-            let state = receiver_words(receiver);
-            records::write(stream, 0, &state);
-            let words = head_words(header.used, header.length, header.time);
-            records::write(answer, 0, &words);
-            0
+        Ok((head, receiver)) => {
+            let words = head_words(head.used, head.length, head.time);
+            write_opened(&words, receiver, stream, answer)
         }
-        ResponseOpened::Refused(refusal) => refuse(refusal, answer),
+        Err(refusal) => refuse(refusal, answer),
     }
 }
 
@@ -126,16 +136,8 @@ pub fn write_step(step: Step, stream: &mut [u64], answer: &mut [u64]) -> u64
     ensures stream_after { stream.new ≡ told.step_stream step.answer step.stream stream.old }
     ensures answer_after { answer.new ≡ told.stepped_answer step.answer answer.old }
 {
-    let stepped = step.answer;
-    match stepped {
-        Stepped::Opened(chunk) => {
-            let next = step.stream;
-            let state = receiver_words(next);
-            records::write(stream, 0, &state);
-            let words = chunk_words(chunk);
-            records::write(answer, 0, &words);
-            0
-        }
-        Stepped::Refused(refusal) => write_refused(refusal, stream, answer),
+    match step.answer {
+        Ok(chunk) => write_opened(&chunk_words(chunk), step.stream, stream, answer),
+        Err(refusal) => write_refused(refusal, stream, answer),
     }
 }

@@ -1,5 +1,6 @@
 -- What a chunk was sealed from is read back from it, piece by piece. For every key length of AES.
 -- Assumes nothing.
+use Rattle.std.specs.Prelude.{Err, Ok, Result}
 use mathlib.Core.Path.{◌≡◌, refl, sym, ap, ◌∙◌, subst}
 use mathlib.Core.Bool.{Bool, true, false, cond}
 use mathlib.Core.List.{List, ◌++◌, append_assoc}
@@ -21,14 +22,11 @@ use Rattle.stream_pieces.specs.Pieces.{Keyed, keyed, seal_at, authentic_at, open
 use Rattle.stream_pieces.proofs.FramingLaws.{not-over}
 use Rattle.stream_pieces.proofs.LengthLaws.{length-seal_at}
 use Rattle.stream_seal.specs.declared.Sender.{Sender}
-use Rattle.stream_seal.specs.declared.Sealed.{Sealed}
-use Rattle.stream_seal.specs.declared.Sealed.TheVariants.{Bytes, Refused as Unsealed}
 use Rattle.stream_seal.specs.Sealing.{chunk, moved, size_answer, framed_answer}
 use Rattle.stream_seal.proofs.LengthLaws.{length-chunk}
 use Rattle.stream_open.specs.declared.Turn.{Turn}
 use Rattle.stream_open.specs.declared.Turn.TheVariants.{Length, Payload}
 use Rattle.stream_open.specs.declared.Receiver.{Receiver}
-use Rattle.stream_open.specs.declared.Stepped.TheVariants.{Opened}
 use Rattle.stream_open.specs.Chunks.{receiver}
 use Rattle.stream_pieces.proofs.PieceLaws.{piece_back}
 use Rattle.stream_open.specs.Steps.{step_answer, step_out}
@@ -40,35 +38,35 @@ use Rattle.stream_chunks.proofs.StepLaws.{step_given, step-text}
 
 -- ---- what an answered length says
 
-abbrev is_bytes : Sealed → ℕ
-is_bytes (Bytes n s) = 1
-is_bytes (Unsealed r) = 0
+abbrev is_bytes : Result (ℕ × Sender) Refusal → ℕ
+is_bytes (Ok (n, s)) = 1
+is_bytes (Err r) = 0
 
-not-bytes : (r : Refusal) (n : ℕ) (s : Sender) → Unsealed r ≡ Bytes n s → ⊥
+not-bytes : (r : Refusal) (n : ℕ) (s : Sender) → ◌≡◌ {A = Result (ℕ × Sender) Refusal} (Err r) (Ok (n, s)) → ⊥
 not-bytes r n s e = let z : ◌≡◌ {A = ℕ} 0 1 = ap is_bytes e in omega arith
 
-abbrev bytes_in : Sealed → ℕ
-bytes_in (Bytes n s) = n
-bytes_in (Unsealed r) = 0
+abbrev bytes_in : Result (ℕ × Sender) Refusal → ℕ
+bytes_in (Ok (n, s)) = n
+bytes_in (Err r) = 0
 
-abbrev sender_in : Sealed → Sender → Sender
-sender_in (Bytes n s) other = s
-sender_in (Unsealed r) other = other
+abbrev sender_in : Result (ℕ × Sender) Refusal → Sender → Sender
+sender_in (Ok (n, s)) other = s
+sender_in (Err r) other = other
 
-pub record Answers (b : Bool) (x : Sealed) (n : ℕ) (s : Sender) : Type 0 where
+pub record Answers (b : Bool) (x : Result (ℕ × Sender) Refusal) (n : ℕ) (s : Sender) : Type 0 where
   pub test : b ≡ true
-  pub then : x ≡ Bytes n s
+  pub then : x ≡ Ok (n, s)
 
-pub answers : (b : Bool) (x : Sealed) (r : Refusal) (n : ℕ) (s : Sender) → cond b x (Unsealed r) ≡ Bytes n s → Answers b x n s
+pub answers : (b : Bool) (x : Result (ℕ × Sender) Refusal) (r : Refusal) (n : ℕ) (s : Sender) → cond b x (Err r) ≡ Ok (n, s) → Answers b x n s
 answers true x r n s e = record { test = refl; then = e }
 answers false x r n s e = absurd (not-bytes r n s e)
 
 -- the same where the refusal is given by a test that holds
-pub record Denied (b : Bool) (x : Sealed) (n : ℕ) (s : Sender) : Type 0 where
+pub record Denied (b : Bool) (x : Result (ℕ × Sender) Refusal) (n : ℕ) (s : Sender) : Type 0 where
   pub test : b ≡ false
-  pub then : x ≡ Bytes n s
+  pub then : x ≡ Ok (n, s)
 
-pub denied : (b : Bool) (x : Sealed) (r : Refusal) (n : ℕ) (s : Sender) → cond b (Unsealed r) x ≡ Bytes n s → Denied b x n s
+pub denied : (b : Bool) (x : Result (ℕ × Sender) Refusal) (r : Refusal) (n : ℕ) (s : Sender) → cond b (Err r) x ≡ Ok (n, s) → Denied b x n s
 denied false x r n s e = record { test = refl; then = e }
 denied true x r n s e = absurd (not-bytes r n s e)
 
@@ -79,7 +77,7 @@ pub record Sized (greatest size before room : ℕ) (s : Sender) (n : ℕ) (next 
   pub count : n ≡ before + size + 16
   pub after : next ≡ s
 
-pub sized : (greatest size before room : ℕ) (s : Sender) (n : ℕ) (next : Sender) → size_answer greatest size before room s ≡ Bytes n next
+pub sized : (greatest size before room : ℕ) (s : Sender) (n : ℕ) (next : Sender) → size_answer greatest size before room s ≡ Ok (n, next)
     → Sized greatest size before room s n next
 unfolding size_answer
 sized greatest size before room s n next e =
@@ -89,7 +87,7 @@ sized greatest size before room s n next e =
       small = leb-true size greatest e₁.test;
       fits = leb-true (before + size + 16) room e₂.test;
       count = sym (ap bytes_in e₂.then);
-      after = sym (ap (λ (x : Sealed). sender_in x s) e₂.then);
+      after = sym (ap (λ (x : Result (ℕ × Sender) Refusal). sender_in x s) e₂.then);
     }
 
 pub record Chunkable (f : Framing) (s : Sender) (payload room n : ℕ) (next : Sender) : Type 0 where
@@ -98,7 +96,7 @@ pub record Chunkable (f : Framing) (s : Sender) (payload room n : ℕ) (next : S
   pub counter : s.counter < last_counter - 1
   pub sizes : Sized f.greatest payload 18 room (moved s) n next
 
-pub chunkable : (f : Framing) (s : Sender) (payload room n : ℕ) (next : Sender) → framed_answer f s payload room ≡ Bytes n next
+pub chunkable : (f : Framing) (s : Sender) (payload room n : ℕ) (next : Sender) → framed_answer f s payload room ≡ Ok (n, next)
     → Chunkable f s payload room n next
 unfolding framed_answer
 chunkable f s payload room n next e =
@@ -150,7 +148,7 @@ module _ (f : Framing) (method counter : ℕ) (w : Subkey) (known : eqb f.key 0 
         record { usable = usable; whole = leb-true (n + 16) (length sent) (sent-long n e); has_room = h; authentic = sent-authentic n e }
 
   length-step : (n : ℕ) → Within f n → n ≤ max_chunk → (rest : List ℕ) (room : ℕ)
-      → step_answer f (at Length) (seal_at key counter (to_be 2 n) ++ rest) room ≡ Opened (record { used = 18; length = n })
+      → step_answer f (at Length) (seal_at key counter (to_be 2 n) ++ rest) room ≡ Ok (record { used = 18; length = n })
   length-step n allows h rest room =
       let text = to_be 2 n in
       let here : be 2 (open_at key counter (take 18 (sent text rest))) ≡ n =
@@ -170,7 +168,7 @@ module _ (f : Framing) (method counter : ℕ) (w : Subkey) (known : eqb f.key 0 
 
   pub payload-step : (text rest : List ℕ) → Within f (length text) → (room : ℕ) → length text ≤ room
       → step_answer f (at (Payload (length text))) (seal_at key counter text ++ rest) room
-      ≡ Opened (record { used = length text + 16; length = length text })
+      ≡ Ok (record { used = length text + 16; length = length text })
   payload-step text rest allows room h =
       step_given f (at (Payload (length text))) (sent text rest) room (record { used = length text + 16; length = length text })
       (record {
@@ -192,7 +190,7 @@ within-said : (f : Framing) (n : ℕ) → under f n ≡ false → n ≤ f.greate
 within-said f n u h = (ltb-false n f.least u, not-over f n h)
 
 module _ (edition : Edition) (capped : (method : ℕ) → (edition method).greatest ≤ max_chunk) (s next : Sender) (payload : List ℕ) (space n : ℕ)
-    (answered : sealing edition s (length payload) space ≡ Bytes n next) where
+    (answered : sealing edition s (length payload) space ≡ Ok (n, next)) where
   abbrev f : Framing
   f = edition s.method
 

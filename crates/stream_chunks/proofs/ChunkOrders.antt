@@ -1,5 +1,6 @@
 -- The order of refusals of a piece that is opened, and of the sizes of one that is sealed.
 -- Assumes nothing.
+use Rattle.std.specs.Prelude.{Result}
 use mathlib.Core.Path.{◌≡◌, refl}
 use mathlib.Core.Bool.{not}
 use mathlib.Core.List.{List, [], ◌∷◌}
@@ -12,13 +13,13 @@ use Rattle.stream_pieces.specs.Pieces.{authentic_at, Keyed}
 use Rattle.stream_seal.specs.declared.Sender.{Sender}
 use Rattle.stream_seal.specs.Sealing.{size_answer}
 use Rattle.stream_open.specs.declared.Chunk.{Chunk}
-use Rattle.stream_open.specs.declared.Stepped.{Stepped}
 use Rattle.stream_open.specs.Steps.{piece_answer}
 use Rattle.stream_chunks.specs.Orders.{said_step, said_piece}
+use Rattle.protocol.specs.declared.Refusal.{Refusal}
 
 module _ (key : Keyed) (counter : ℕ) (s : List ℕ) (room : ℕ) where
   -- 11, 10, 3, 4 of a piece of n bytes of plaintext, and what is said of it then
-  pub piece-order : (n asked : ℕ) (good : Stepped) (rs : List Rule) (c : Chunk) → said_step good ≡ first rs c
+  pub piece-order : (n asked : ℕ) (good : Result Chunk Refusal) (rs : List Rule) (c : Chunk) → said_step good ≡ first rs c
       → said_step (piece_answer key counter n s asked room good)
       ≡ first
       (rule 11 (eqb counter (2 ^ 64 - 1)) ∷ more (n + 16) (ltb (length s) (n + 16)) ∷ rule 3 (ltb room asked)

@@ -1,5 +1,6 @@
 -- Every step and every sealing answers or refuses, and what a refusal leaves.
 -- Assumes nothing.
+use Rattle.std.specs.Prelude.{Err, Ok, Result}
 use mathlib.Core.Path.{◌≡◌, refl, sym, ap, ◌∙◌}
 use mathlib.Core.Bool.{Bool, true, false, cond}
 use mathlib.Core.List.{List}
@@ -22,16 +23,12 @@ use Rattle.stream_pieces.specs.Framing.{under, over, unframed}
 use Rattle.stream_pieces.specs.Pieces.{authentic_at, open_at, key_of, last_counter, Keyed, keyed}
 use Rattle.stream_pieces.proofs.LengthLaws.{length-open_at}
 use Rattle.stream_seal.specs.declared.Sender.{Sender}
-use Rattle.stream_seal.specs.declared.Sealed.{Sealed}
-use Rattle.stream_seal.specs.declared.Sealed.TheVariants.{Bytes, Refused as Unsealed}
 use Rattle.stream_seal.specs.Sealing.{chunk, moved, size_answer, framed_answer, seal_out}
 use Rattle.stream_seal.proofs.LengthLaws.{length-chunk}
 use Rattle.stream_open.specs.declared.Turn.{Turn}
 use Rattle.stream_open.specs.declared.Turn.TheVariants.{Variable, Length, Payload, Ended}
 use Rattle.stream_open.specs.declared.Receiver.{Receiver}
 use Rattle.stream_open.specs.declared.Chunk.{Chunk}
-use Rattle.stream_open.specs.declared.Stepped.{Stepped}
-use Rattle.stream_open.specs.declared.Stepped.TheVariants.{Opened, Refused as Unopened}
 use Rattle.stream_open.specs.Steps.{key_in, piece_answer, length_read, length_answer, turn_answer, written_by, payload_piece, step_answer, step_out, ended, step_next}
 use Rattle.stream_chunks.specs.Opens.{TurnOpens, turn_text}
 use Rattle.stream_chunks.specs.Keeps.{StepAnswered, opened-step, refused-step, due_at, StepKeeps, SealAnswered, sealed-text, refused-text, SealKeeps}
@@ -62,9 +59,9 @@ front-none n written out e = record { past = ap (drop n) e; size = ap length e }
 
 -- ---- a step
 
-abbrev among_steps : List ℕ → Stepped → Bool
-among_steps ks (Opened c) = true
-among_steps ks (Unopened r) = among ks (refusal_number r)
+abbrev among_steps : List ℕ → Result Chunk Refusal → Bool
+among_steps ks (Ok c) = true
+among_steps ks (Err r) = among ks (refusal_number r)
 
 -- the numbers that a step answers under a framing, and those of them that end the stream
 pub record StepNumbers (ks ending : List ℕ) (f : Framing) : Type 0 where
@@ -79,24 +76,24 @@ pub record StepNumbers (ks ending : List ℕ) (f : Framing) : Type 0 where
   pub ends : (r : Refusal) → among ks (refusal_number r) ≡ true → among ending (refusal_number r) ≡ ends_stream r
 
 module _ (ks : List ℕ) where
-  step-among : (b : Bool) (x : Stepped) (r : Refusal) → among_steps ks x ≡ true → among ks (refusal_number r) ≡ true
-      → among_steps ks (cond b x (Unopened r)) ≡ true
+  step-among : (b : Bool) (x : Result Chunk Refusal) (r : Refusal) → among_steps ks x ≡ true → among ks (refusal_number r) ≡ true
+      → among_steps ks (cond b x (Err r)) ≡ true
   step-among true x r e g = e
   step-among false x r e g = g
 
-  step-denied : (b : Bool) (x : Stepped) (r : Refusal) → among_steps ks x ≡ true → among ks (refusal_number r) ≡ true
-      → among_steps ks (cond b (Unopened r) x) ≡ true
+  step-denied : (b : Bool) (x : Result Chunk Refusal) (r : Refusal) → among_steps ks x ≡ true → among ks (refusal_number r) ≡ true
+      → among_steps ks (cond b (Err r) x) ≡ true
   step-denied true x r e g = g
   step-denied false x r e g = e
 
   -- a test that does not hold, or a number that is listed
-  step-either : (b : Bool) (x : Stepped) (r : Refusal) → among_steps ks x ≡ true → (b ≡ false) ⊎ (among ks (refusal_number r) ≡ true)
-      → among_steps ks (cond b (Unopened r) x) ≡ true
-  step-either b x r e (inl g) = ap (λ (y : Bool). among_steps ks (cond y (Unopened r) x)) g ∙ e
+  step-either : (b : Bool) (x : Result Chunk Refusal) (r : Refusal) → among_steps ks x ≡ true → (b ≡ false) ⊎ (among ks (refusal_number r) ≡ true)
+      → among_steps ks (cond b (Err r) x) ≡ true
+  step-either b x r e (inl g) = ap (λ (y : Bool). among_steps ks (cond y (Err r) x)) g ∙ e
   step-either b x r e (inr g) = step-denied b x r e g
 
 module _ (ks ending : List ℕ) (f : Framing) (l : StepNumbers ks ending f) where
-  piece-among : (key : Keyed) (counter n : ℕ) (s : List ℕ) (asked room : ℕ) (good : Stepped) → among_steps ks good ≡ true
+  piece-among : (key : Keyed) (counter n : ℕ) (s : List ℕ) (asked room : ℕ) (good : Result Chunk Refusal) → among_steps ks good ≡ true
       → among_steps ks (piece_answer key counter n s asked room good) ≡ true
   unfolding piece_answer
   piece-among key counter n s asked room good g =
@@ -132,31 +129,31 @@ turn-front f Ended key counter s out c d = absurd d
 turn-front f (Variable n) key counter s out c d = absurd d
 
 module _ (ks ending : List ℕ) (f : Framing) (l : StepNumbers ks ending f) (st : Receiver) (s out : List ℕ) where
-  abbrev step : Stepped
+  abbrev step : Result Chunk Refusal
   step = step_answer f st s (length out)
 
-  listed : (r : Refusal) → step ≡ Unopened r → among ks (refusal_number r) ≡ true
+  listed : (r : Refusal) → step ≡ Err r → among ks (refusal_number r) ≡ true
   listed r e = ap (among_steps ks) (sym e) ∙ among-step ks ending f l st s (length out)
 
   step-answered : StepAnswered ks step
   step-answered = go step refl
     where
-      go : (a : Stepped) → step ≡ a → StepAnswered ks step
-      go (Opened c) e = opened-step c e
-      go (Unopened r) e = refused-step r (listed r e) e
+      go : (a : Result Chunk Refusal) → step ≡ a → StepAnswered ks step
+      go (Ok c) e = opened-step c e
+      go (Err r) e = refused-step r (listed r e) e
 
-  refused-keeps-out : (r : Refusal) → step ≡ Unopened r → step_out f st s out ≡ out
+  refused-keeps-out : (r : Refusal) → step ≡ Err r → step_out f st s out ≡ out
   unfolding step_out
   refused-keeps-out r e =
-      ap (λ (a : Stepped). written_by a st.turn (open_at (key_in f st) st.counter (payload_piece st.turn s)) out) e
+      ap (λ (a : Result Chunk Refusal). written_by a st.turn (open_at (key_in f st) st.counter (payload_piece st.turn s)) out) e
 
-  next-as : (r : Refusal) → step ≡ Unopened r → (b : Bool) → among ending (refusal_number r) ≡ b → step_next st step ≡ cond b (ended st) st
+  next-as : (r : Refusal) → step ≡ Err r → (b : Bool) → among ending (refusal_number r) ≡ b → step_next st step ≡ cond b (ended st) st
   next-as r e b eb =
       ap (step_next st) e ∙ ap (λ (x : Bool). cond x (ended st) st) (sym (l.ends r (listed r e)) ∙ eb)
 
-  ended-refuses : (f.key ≡ 0 → ⊥) → (bytes : List ℕ) (room : ℕ) → step_answer f (ended st) bytes room ≡ Unopened NotAuthentic
+  ended-refuses : (f.key ≡ 0 → ⊥) → (bytes : List ℕ) (room : ℕ) → step_answer f (ended st) bytes room ≡ Err NotAuthentic
   unfolding step_answer
-  ended-refuses known bytes room = ap (λ (b : Bool). cond b (Unopened Settings) (Unopened NotAuthentic)) (ne_eqb f.key 0 known)
+  ended-refuses known bytes room = ap (λ (b : Bool). cond b (Err Settings) (Err NotAuthentic)) (ne_eqb f.key 0 known)
 
   step-front : Front (due_at st.turn) (step_out f st s out) out
   step-front = go step-answered
@@ -181,18 +178,18 @@ module _ (ks ending : List ℕ) (f : Framing) (l : StepNumbers ks ending f) (st 
 
 -- ---- sealing
 
-abbrev pub among_sealed : List ℕ → Sealed → Bool
-among_sealed ks (Bytes n s) = true
-among_sealed ks (Unsealed r) = among ks (refusal_number r)
+abbrev pub among_sealed : List ℕ → Result (ℕ × Sender) Refusal → Bool
+among_sealed ks (Ok (n, s)) = true
+among_sealed ks (Err r) = among ks (refusal_number r)
 
 module _ (ks : List ℕ) where
-  pub sealed-among : (b : Bool) (x : Sealed) (r : Refusal) → among_sealed ks x ≡ true → among ks (refusal_number r) ≡ true
-      → among_sealed ks (cond b x (Unsealed r)) ≡ true
+  pub sealed-among : (b : Bool) (x : Result (ℕ × Sender) Refusal) (r : Refusal) → among_sealed ks x ≡ true → among ks (refusal_number r) ≡ true
+      → among_sealed ks (cond b x (Err r)) ≡ true
   sealed-among true x r e g = e
   sealed-among false x r e g = g
 
-  pub sealed-denied : (b : Bool) (x : Sealed) (r : Refusal) → among_sealed ks x ≡ true → among ks (refusal_number r) ≡ true
-      → among_sealed ks (cond b (Unsealed r) x) ≡ true
+  pub sealed-denied : (b : Bool) (x : Result (ℕ × Sender) Refusal) (r : Refusal) → among_sealed ks x ≡ true → among ks (refusal_number r) ≡ true
+      → among_sealed ks (cond b (Err r) x) ≡ true
   sealed-denied true x r e g = g
   sealed-denied false x r e g = e
 
@@ -202,21 +199,21 @@ module _ (ks : List ℕ) where
   among-sizes two three greatest n before room s =
       sealed-among (leb n greatest) _ TooLong (sealed-among (leb (before + n + 16) room) _ Room refl three) two
 
-module _ (ks : List ℕ) (a : Sealed) (text out : List ℕ) (listed : among_sealed ks a ≡ true)
-    (sizes : (n : ℕ) (next : Sender) → a ≡ Bytes n next → (length text ≡ n) × (n ≤ length out)) where
+module _ (ks : List ℕ) (a : Result (ℕ × Sender) Refusal) (text out : List ℕ) (listed : among_sealed ks a ≡ true)
+    (sizes : (n : ℕ) (next : Sender) → a ≡ Ok (n, next) → (length text ≡ n) × (n ≤ length out)) where
   seal-answered : SealAnswered ks a
   seal-answered = go a refl
     where
-      go : (x : Sealed) → a ≡ x → SealAnswered ks a
-      go (Bytes n next) e = sealed-text n next e
-      go (Unsealed r) e = refused-text r (ap (among_sealed ks) (sym e) ∙ listed) e
+      go : (x : Result (ℕ × Sender) Refusal) → a ≡ x → SealAnswered ks a
+      go (Ok (n, next)) e = sealed-text n next e
+      go (Err r) e = refused-text r (ap (among_sealed ks) (sym e) ∙ listed) e
 
-  writes_nothing : (r : Refusal) → a ≡ Unsealed r → seal_out a text out ≡ out
-  writes_nothing r e = ap (λ (x : Sealed). seal_out x text out) e
+  writes_nothing : (r : Refusal) → a ≡ Err r → seal_out a text out ≡ out
+  writes_nothing r e = ap (λ (x : Result (ℕ × Sender) Refusal). seal_out x text out) e
 
-  seal-front : (n : ℕ) (next : Sender) → a ≡ Bytes n next → Front n (seal_out a text out) out
+  seal-front : (n : ℕ) (next : Sender) → a ≡ Ok (n, next) → Front n (seal_out a text out) out
   seal-front n next e =
-      front_same n (seal_out a text out) out (put out 0 text) (ap (λ (x : Sealed). seal_out x text out) e)
+      front_same n (seal_out a text out) out (put out 0 text) (ap (λ (x : Result (ℕ × Sender) Refusal). seal_out x text out) e)
       (front_kept out text n (sizes n next e).0 (sizes n next e).1)
 
   seal-length : SealAnswered ks a → length (seal_out a text out) ≡ length out
@@ -249,9 +246,9 @@ module _ (ks : List ℕ) (f : Framing) where
       (empty-or _ (empty payload)
       (sealed-among ks (ltb s.counter (last_counter - 1)) _ Counter (among-sizes ks two three f.greatest payload 18 room (moved s)) eleven)) one
     where
-      empty-or : (x : Sealed) → (under f payload ≡ false) ⊎ (among ks 14 ≡ true) → among_sealed ks x ≡ true
-          → among_sealed ks (cond (under f payload) (Unsealed Empty) x) ≡ true
-      empty-or x (inl g) e = ap (λ (b : Bool). among_sealed ks (cond b (Unsealed Empty) x)) g ∙ e
+      empty-or : (x : Result (ℕ × Sender) Refusal) → (under f payload ≡ false) ⊎ (among ks 14 ≡ true) → among_sealed ks x ≡ true
+          → among_sealed ks (cond (under f payload) (Err Empty) x) ≡ true
+      empty-or x (inl g) e = ap (λ (b : Bool). among_sealed ks (cond b (Err Empty) x)) g ∙ e
       empty-or x (inr g) e = sealed-denied ks (under f payload) x Empty e g
 
   pub chunk-keeps : among ks 1 ≡ true → among ks 2 ≡ true → among ks 3 ≡ true → among ks 11 ≡ true

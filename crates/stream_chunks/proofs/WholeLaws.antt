@@ -1,5 +1,6 @@
 -- A stream of any number of chunks is given back, and each chunk has its own counters.
 -- Assumes nothing.
+use Rattle.std.specs.Prelude.{Ok, Result}
 use mathlib.Core.Path.{◌≡◌, refl, sym, ap, ap₂, ◌∙◌, subst}
 use mathlib.Core.List.{List, [], ◌∷◌, ◌++◌, append_assoc}
 use Prim.Native.Nat.{ℕ, suc, ◌+◌, ◌*◌, ◌≤◌}
@@ -10,17 +11,15 @@ use Rattle.octets.specs.Buffers.{put}
 use Rattle.octets.proofs.BufferLaws.{length-put, take_put}
 use Rattle.stream_pieces.specs.Pieces.{max_chunk}
 use Rattle.stream_seal.specs.declared.Sender.{Sender}
-use Rattle.stream_seal.specs.declared.Sealed.{Sealed}
-use Rattle.stream_seal.specs.declared.Sealed.TheVariants.{Bytes}
 use Rattle.stream_seal.specs.Sealing.{chunk, moved}
 use Rattle.stream_open.specs.declared.Turn.TheVariants.{Length, Payload}
 use Rattle.stream_open.specs.declared.Chunk.{Chunk}
-use Rattle.stream_open.specs.declared.Stepped.TheVariants.{Opened}
 use Rattle.stream_open.specs.Steps.{step_next}
 use Rattle.stream_chunks.specs.Opens.{Edition}
 use Rattle.stream_chunks.specs.Flows.{Flow, answer_to, written_in, used_by, stepped, after, gives, received, AllOpened, sent_by, leaves, key_for, sealing, sent_chunk, sent_all, chunks_from, sender_after, AllSealed, Fit}
 use Rattle.stream_chunks.specs.Back.{partner, midway, ChunkBack, StreamBack, StreamsGivenBack, SendersCount}
 use Rattle.stream_chunks.proofs.ChunkBackLaws.{chunkable, chunk_back}
+use Rattle.protocol.specs.declared.Refusal.{Refusal}
 
 -- ---- buffers
 
@@ -38,7 +37,7 @@ module _ (edition : Edition) (capped : (method : ℕ) → (edition method).great
   -- a payload of p that was opened: from f on to g
   pub record GivesPayload (f : Flow) (p : List ℕ) (g : Flow) : Type 0 where
     pub opened : Chunk
-    pub answer : answer_to edition f ≡ Opened opened
+    pub answer : answer_to edition f ≡ Ok opened
     pub at-payload : f.stream.turn ≡ Payload (length p)
     pub text : take (length p) (written_in edition f) ≡ p
     pub next : stepped edition f ≡ g
@@ -58,7 +57,7 @@ module _ (edition : Edition) (capped : (method : ℕ) → (edition method).great
   -- a length: no payload
   record GivesLength (f : Flow) (g : Flow) : Type 0 where
     opened : Chunk
-    answer : answer_to edition f ≡ Opened opened
+    answer : answer_to edition f ≡ Ok opened
     at_length : f.stream.turn ≡ Length
     next : stepped edition f ≡ g
 
@@ -74,7 +73,7 @@ module _ (edition : Edition) (capped : (method : ℕ) → (edition method).great
 
   -- ---- a chunk in front of others
 
-  module _ (space : ℕ) (s next : Sender) (p : List ℕ) (n : ℕ) (answered : sealing edition s (length p) space ≡ Bytes n next)
+  module _ (space : ℕ) (s next : Sender) (p : List ℕ) (n : ℕ) (answered : sealing edition s (length p) space ≡ Ok (n, next))
       (more out : List ℕ) (room : length p ≤ length out) where
     back : ChunkBack edition s next n p more out
     back = chunk_back edition capped s next p space n answered more out room
@@ -141,14 +140,14 @@ module _ (edition : Edition) (capped : (method : ℕ) → (edition method).great
       let n = o.0.0 in
       let next = o.0.1.0 in
       let answered = o.0.1.1 in
-      let later : leaves (sealing edition s (length p) space) s ≡ next = ap (λ (a : Sealed). leaves a s) answered in
+      let later : leaves (sealing edition s (length p) space) s ≡ next = ap (λ (a : Result (ℕ × Sender) Refusal). leaves a s) answered in
       let more = sent_all edition space next ps ++ rest in
       let inner =
       stream-back space next ps (subst (λ (x : Sender). AllSealed edition space x ps) later o.1) rest (put out 0 p)
       (fit_same (length out) (length (put out 0 p)) (sym (kept-length out p h.0)) ps h.1) in
       let here = chunk-first space s next p n answered more out h.0 (2 * length ps) ps (sender_after edition space next ps) rest inner in
       let bytes : sent_all edition space s (p ∷ ps) ++ rest ≡ chunk (key_for edition s) s.counter p ++ more =
-      ap₂ (λ (a : Sealed) (x : Sender). (sent_by a (chunk (key_for edition s) s.counter p) ++ sent_all edition space x ps) ++ rest) answered later
+      ap₂ (λ (a : Result (ℕ × Sender) Refusal) (x : Sender). (sent_by a (chunk (key_for edition s) s.counter p) ++ sent_all edition space x ps) ++ rest) answered later
       ∙ append_assoc (chunk (key_for edition s) s.counter p) (sent_all edition space next ps) rest in
       subst (λ (k : ℕ). StreamBack edition k (record { stream = partner s; bytes = sent_all edition space s (p ∷ ps) ++ rest; buffer = out }) (p ∷ ps)
       (sender_after edition space s (p ∷ ps)) rest) (two-more (length ps))
@@ -163,7 +162,7 @@ module _ (edition : Edition) (capped : (method : ℕ) → (edition method).great
   moves : (space : ℕ) (s : Sender) (p : List ℕ) (ps : List (List ℕ)) → AllSealed edition space s (p ∷ ps)
       → leaves (sealing edition s (length p) space) s ≡ moved s
   moves space s p ps o =
-      ap (λ (a : Sealed). leaves a s) o.0.1.1 ∙ (chunkable (edition s.method) s (length p) space o.0.0 o.0.1.0 o.0.1.1).sizes.after
+      ap (λ (a : Result (ℕ × Sender) Refusal). leaves a s) o.0.1.1 ∙ (chunkable (edition s.method) s (length p) space o.0.0 o.0.1.0 o.0.1.1).sizes.after
 
   -- and so those behind it were sealed by the moved one
   behind-it : (space : ℕ) (s : Sender) (p : List ℕ) (ps : List (List ℕ)) → AllSealed edition space s (p ∷ ps) → AllSealed edition space (moved s) ps
@@ -175,7 +174,7 @@ module _ (edition : Edition) (capped : (method : ℕ) → (edition method).great
   own-chunk : (space : ℕ) (s : Sender) (before : List (List ℕ)) (p : List ℕ) (behind : List (List ℕ)) → AllSealed edition space s (before ++ p ∷ behind)
       → sent_chunk edition space (sender_after edition space s before) p ≡ chunk (key_for edition s) (s.counter + 2 * length before) p
   own-chunk space s [] p behind o =
-      ap (λ (a : Sealed). sent_by a (chunk (key_for edition s) s.counter p)) o.0.1.1
+      ap (λ (a : Result (ℕ × Sender) Refusal). sent_by a (chunk (key_for edition s) s.counter p)) o.0.1.1
       ∙ ap (λ (c : ℕ). chunk (key_for edition s) c p) (sym (add-zero s.counter))
   own-chunk space s (q ∷ qs) p behind o =
       ap (λ (x : Sender). sent_chunk edition space (sender_after edition space x qs) p) (moves space s q (qs ++ p ∷ behind) o)

@@ -1,21 +1,19 @@
 -- What is sealed is given back, chunk by chunk and as a whole; each piece has its own nonce.
 -- Assumes nothing.
-use Rattle.std.specs.Prelude.{◌≡◌, List, ◌∷◌, ◌++◌, ℕ, ◌+◌, ◌*◌, ◌^◌, ◌≤◌, ◌<◌, length, drop}
+use Rattle.std.specs.Prelude.{◌≡◌, List, ◌∷◌, ◌++◌, ℕ, ◌+◌, ◌*◌, ◌^◌, ◌≤◌, ◌<◌, length, drop, Ok, Result}
 use Rattle.octets.specs.Buffers.{put}
 use Rattle.octets.specs.Numbers.{to_be}
 use Rattle.stream_pieces.specs.Pieces.{nonce, seal_at}
 use Rattle.stream_seal.specs.declared.Sender.{Sender}
-use Rattle.stream_seal.specs.declared.Sealed.TheVariants.{Bytes}
 use Rattle.stream_seal.specs.Sealing.{chunk}
 use Rattle.stream_open.specs.declared.Turn.TheVariants.{Length, Payload}
 use Rattle.stream_open.specs.declared.Receiver.{Receiver}
 use Rattle.stream_open.specs.declared.Chunk.{Chunk}
-use Rattle.stream_open.specs.declared.Stepped.{Stepped}
-use Rattle.stream_open.specs.declared.Stepped.TheVariants.{Opened}
 use Rattle.stream_open.specs.Chunks.{receiver}
 use Rattle.stream_open.specs.Steps.{key_in, step_answer, step_out, step_next}
 use Rattle.stream_chunks.specs.Opens.{Edition, TurnOpens, turn_text}
 use Rattle.stream_chunks.specs.Flows.{Flow, answer_to, written_in, after, received, AllOpened, key_for, sealing, sent_chunk, sent_all, sender_after, AllSealed, Fit, chunks_from}
+use Rattle.protocol.specs.declared.Refusal.{Refusal}
 
 -- ---- one chunk
 
@@ -28,7 +26,7 @@ abbrev pub midway : Sender → ℕ → Receiver
 midway s n = receiver s.method (Payload n) (s.counter + 1) s.subkey
 
 module _ (edition : Edition) where
-  abbrev answered : Receiver → List ℕ → ℕ → Stepped
+  abbrev answered : Receiver → List ℕ → ℕ → Result Chunk Refusal
   answered st s room = step_answer (edition st.method) st s room
 
   abbrev written : Receiver → List ℕ → List ℕ → List ℕ
@@ -39,15 +37,15 @@ module _ (edition : Edition) where
     pub sealed-length : length (chunk (key_for edition s) s.counter payload) ≡ n
     -- the length
     pub length-read : (room : ℕ)
-        → answered (partner s) (chunk (key_for edition s) s.counter payload ++ rest) room ≡ Opened (record { used = 18; length = length payload })
+        → answered (partner s) (chunk (key_for edition s) s.counter payload ++ rest) room ≡ Ok (record { used = 18; length = length payload })
     pub length-writes-nothing : (o : List ℕ) → written (partner s) (chunk (key_for edition s) s.counter payload ++ rest) o ≡ o
-    pub length-next : step_next (partner s) (Opened (record { used = 18; length = length payload })) ≡ midway s (length payload)
+    pub length-next : step_next (partner s) (Ok (record { used = 18; length = length payload })) ≡ midway s (length payload)
     -- the payload
     pub payload-read : answered (midway s (length payload)) (drop 18 (chunk (key_for edition s) s.counter payload ++ rest)) (length out)
-        ≡ Opened (record { used = length payload + 16; length = length payload })
+        ≡ Ok (record { used = length payload + 16; length = length payload })
     pub payload-written : written (midway s (length payload)) (drop 18 (chunk (key_for edition s) s.counter payload ++ rest)) out
         ≡ put out 0 payload
-    pub payload-next : step_next (midway s (length payload)) (Opened (record { used = length payload + 16; length = length payload }))
+    pub payload-next : step_next (midway s (length payload)) (Ok (record { used = length payload + 16; length = length payload }))
         ≡ partner next
     -- the two use all of it
     pub used_all : 18 + (length payload + 16) ≡ n
@@ -56,7 +54,7 @@ module _ (edition : Edition) where
   -- whatever sealing answered a length n for, on a buffer with `space` bytes
   abbrev pub ChunksGivenBack : Type 0
   ChunksGivenBack =
-      (s next : Sender) (payload : List ℕ) (space n : ℕ) → sealing edition s (length payload) space ≡ Bytes n next
+      (s next : Sender) (payload : List ℕ) (space n : ℕ) → sealing edition s (length payload) space ≡ Ok (n, next)
       → (rest out : List ℕ) → length payload ≤ length out → ChunkBack s next n payload rest out
 
   -- ---- each chunk has its own nonce
@@ -66,10 +64,10 @@ module _ (edition : Edition) where
     pub counts : (after edition k w).stream.counter ≡ w.stream.counter + k
     pub same-method : (after edition k w).stream.method ≡ w.stream.method
     pub same_key : key_in (edition w.stream.method) (after edition k w).stream ≡ key_in (edition w.stream.method) w.stream
-    pub opens-there : (c : Chunk) → answer_to edition (after edition k w) ≡ Opened c
+    pub opens-there : (c : Chunk) → answer_to edition (after edition k w) ≡ Ok c
         → TurnOpens (edition w.stream.method) (key_in (edition w.stream.method) w.stream) (w.stream.counter + k)
         (after edition k w).stream.turn (after edition k w).bytes (length (after edition k w).buffer) c
-    pub text-there : (c : Chunk) → answer_to edition (after edition k w) ≡ Opened c
+    pub text-there : (c : Chunk) → answer_to edition (after edition k w) ≡ Ok c
         → written_in edition (after edition k w)
         ≡ turn_text (key_in (edition w.stream.method) w.stream) (w.stream.counter + k) (after edition k w).stream.turn
         (after edition k w).bytes (after edition k w).buffer

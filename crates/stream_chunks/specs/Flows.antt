@@ -1,18 +1,15 @@
 -- Steps one after another, and payloads sealed one after another.
-use Rattle.std.specs.Prelude.{◌≡◌, List, [], ◌∷◌, ◌++◌, ℕ, zero, suc, ◌+◌, ◌≤◌, length, take, drop}
+use Rattle.std.specs.Prelude.{◌≡◌, List, [], ◌∷◌, ◌++◌, ℕ, zero, suc, ◌+◌, ◌≤◌, length, take, drop, Err, Ok, Result}
 use Rattle.stream_pieces.specs.Pieces.{key_of, Keyed, keyed}
 use Rattle.stream_seal.specs.declared.Sender.{Sender}
-use Rattle.stream_seal.specs.declared.Sealed.{Sealed}
-use Rattle.stream_seal.specs.declared.Sealed.TheVariants.{Bytes, Refused as Unsealed}
 use Rattle.stream_seal.specs.Sealing.{chunk, framed_answer}
 use Rattle.stream_open.specs.declared.Turn.{Turn}
 use Rattle.stream_open.specs.declared.Turn.TheVariants.{Variable, Length, Payload, Ended}
 use Rattle.stream_open.specs.declared.Receiver.{Receiver}
 use Rattle.stream_open.specs.declared.Chunk.{Chunk}
-use Rattle.stream_open.specs.declared.Stepped.{Stepped}
-use Rattle.stream_open.specs.declared.Stepped.TheVariants.{Opened, Refused as Unopened}
 use Rattle.stream_open.specs.Steps.{step_answer, step_out, step_next}
 use Rattle.stream_chunks.specs.Opens.{Edition}
+use Rattle.protocol.specs.declared.Refusal.{Refusal}
 
 -- ---- opening
 
@@ -23,20 +20,20 @@ pub record Flow : Type 0 where
   pub buffer : List ℕ
 
 -- how many bytes a step used
-abbrev pub used_by : Stepped → ℕ
-used_by (Opened c) = c.used
-used_by (Unopened r) = 0
+abbrev pub used_by : Result Chunk Refusal → ℕ
+used_by (Ok c) = c.used
+used_by (Err r) = 0
 
 -- the payload of a step, in front of others
-abbrev pub gives : Stepped → Turn → List ℕ → List (List ℕ) → List (List ℕ)
-gives (Opened c) (Payload n) out more = take n out ∷ more
-gives (Opened c) Length out more = more
-gives (Opened c) Ended out more = more
-gives (Opened c) (Variable n) out more = more
-gives (Unopened r) turn out more = more
+abbrev pub gives : Result Chunk Refusal → Turn → List ℕ → List (List ℕ) → List (List ℕ)
+gives (Ok c) (Payload n) out more = take n out ∷ more
+gives (Ok c) Length out more = more
+gives (Ok c) Ended out more = more
+gives (Ok c) (Variable n) out more = more
+gives (Err r) turn out more = more
 
 module _ (edition : Edition) where
-  unfoldable pub answer_to : Flow → Stepped
+  unfoldable pub answer_to : Flow → Result Chunk Refusal
   answer_to w = step_answer (edition w.stream.method) w.stream w.bytes (length w.buffer)
 
   unfoldable pub written_in : Flow → List ℕ
@@ -58,18 +55,18 @@ module _ (edition : Edition) where
   -- each of k steps is accepted
   abbrev pub AllOpened : (k : ℕ) → Flow → Type 0
   AllOpened zero w = Unit {0}
-  AllOpened (suc k) w = ((c : Chunk) × (answer_to w ≡ Opened c)) × AllOpened k (stepped w)
+  AllOpened (suc k) w = ((c : Chunk) × (answer_to w ≡ Ok c)) × AllOpened k (stepped w)
 
 -- ---- sealing
 
 -- what a call of the sealer sends, and the sender it leaves
-abbrev pub sent_by : Sealed → List ℕ → List ℕ
-sent_by (Bytes n next) text = text
-sent_by (Unsealed r) text = []
+abbrev pub sent_by : Result (ℕ × Sender) Refusal → List ℕ → List ℕ
+sent_by (Ok (n, next)) text = text
+sent_by (Err r) text = []
 
-abbrev pub leaves : Sealed → Sender → Sender
-leaves (Bytes n next) s = next
-leaves (Unsealed r) s = s
+abbrev pub leaves : Result (ℕ × Sender) Refusal → Sender → Sender
+leaves (Ok (n, next)) s = next
+leaves (Err r) s = s
 
 -- none is longer than the buffer
 abbrev pub Fit : (room : ℕ) → List (List ℕ) → Type 0
@@ -87,7 +84,7 @@ module _ (edition : Edition) where
   key_for s = keyed (edition s.method).cipher (key_of s.subkey (edition s.method).key)
 
   -- what the sealer answers to n bytes, on a buffer with `space` bytes
-  abbrev pub sealing : Sender → (n space : ℕ) → Sealed
+  abbrev pub sealing : Sender → (n space : ℕ) → Result (ℕ × Sender) Refusal
   sealing s n space = framed_answer (edition s.method) s n space
 
   -- one payload sealed into such a buffer
@@ -107,5 +104,5 @@ module _ (edition : Edition) where
   abbrev pub AllSealed : (space : ℕ) → Sender → List (List ℕ) → Type 0
   AllSealed space s [] = Unit {0}
   AllSealed space s (p ∷ ps) =
-      ((n : ℕ) × ((next : Sender) × (sealing s (length p) space ≡ Bytes n next)))
+      ((n : ℕ) × ((next : Sender) × (sealing s (length p) space ≡ Ok (n, next))))
       × AllSealed space (leaves (sealing s (length p) space) s) ps

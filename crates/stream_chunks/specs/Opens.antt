@@ -1,6 +1,6 @@
 -- When exactly a step opens a piece under a framing, and when it refuses a length.
 -- Assumes nothing.
-use Rattle.std.specs.Prelude.{◌≡◌, true, false, List, ◌↔◌, ℕ, ◌+◌, ◌≤◌, ◌<◌, length, take}
+use Rattle.std.specs.Prelude.{◌≡◌, true, false, List, ◌↔◌, ℕ, ◌+◌, ◌≤◌, ◌<◌, length, take, Err, Ok}
 use Rattle.octets.specs.Buffers.{put}
 use Rattle.octets.specs.Numbers.{be}
 use Rattle.protocol.specs.declared.Refusal.TheVariants.{Malformed, Empty}
@@ -11,7 +11,6 @@ use Rattle.stream_open.specs.declared.Turn.{Turn}
 use Rattle.stream_open.specs.declared.Turn.TheVariants.{Variable, Length, Payload, Ended}
 use Rattle.stream_open.specs.declared.Receiver.{Receiver}
 use Rattle.stream_open.specs.declared.Chunk.{Chunk}
-use Rattle.stream_open.specs.declared.Stepped.TheVariants.{Opened, Refused}
 use Rattle.stream_open.specs.Steps.{key_in, step_answer, step_out}
 
 -- which framing the method of a number has
@@ -51,9 +50,9 @@ pub record StepOpens (f : Framing) (st : Receiver) (s : List ℕ) (room : ℕ) (
   pub opens : TurnOpens f (key_in f st) st.counter st.turn s room c
 
 pub record StepExactly (f : Framing) (st : Receiver) (s out : List ℕ) (c : Chunk) : Type 0 where
-  pub only-when : step_answer f st s (length out) ≡ Opened c → StepOpens f st s (length out) c
-  pub always-when : StepOpens f st s (length out) c → step_answer f st s (length out) ≡ Opened c
-  pub opened-text : step_answer f st s (length out) ≡ Opened c → step_out f st s out ≡ turn_text (key_in f st) st.counter st.turn s out
+  pub only-when : step_answer f st s (length out) ≡ Ok c → StepOpens f st s (length out) c
+  pub always-when : StepOpens f st s (length out) c → step_answer f st s (length out) ≡ Ok c
+  pub opened-text : step_answer f st s (length out) ≡ Ok c → step_out f st s out ≡ turn_text (key_in f st) st.counter st.turn s out
 
 abbrev pub StepExactlyWhen : Edition → Type 0
 StepExactlyWhen edition = (st : Receiver) (s out : List ℕ) (c : Chunk) → StepExactly (edition st.method) st s out c
@@ -71,12 +70,12 @@ pub record ReadsLength (f : Framing) (st : Receiver) (s : List ℕ) (room n : �
 abbrev pub UnderExactlyWhen : Edition → Type 0
 UnderExactlyWhen edition =
     (st : Receiver) (s : List ℕ) (room : ℕ)
-    → (step_answer (edition st.method) st s room ≡ Refused Empty)
+    → (step_answer (edition st.method) st s room ≡ Err Empty)
     ↔ ((n : ℕ) × (ReadsLength (edition st.method) st s room n × (n < (edition st.method).least)))
 
 -- 5: over the greatest
 abbrev pub OverExactlyWhen : Edition → Type 0
 OverExactlyWhen edition =
     (st : Receiver) (s : List ℕ) (room : ℕ)
-    → (step_answer (edition st.method) st s room ≡ Refused Malformed)
+    → (step_answer (edition st.method) st s room ≡ Err Malformed)
     ↔ ((n : ℕ) × (ReadsLength (edition st.method) st s room n × (((edition st.method).least ≤ n) × (over (edition st.method) n ≡ true))))

@@ -1,14 +1,11 @@
 -- What the orders of refusals of both editions say of chunks.
-use Rattle.std.specs.Prelude.{Bool, true, false, ℕ}
+use Rattle.std.specs.Prelude.{Bool, true, false, ℕ, Err, Ok, Result}
 use Rattle.protocol.specs.Orders.{Said, gives, refuses_with}
 use Rattle.stream_seal.specs.declared.Sender.{Sender}
-use Rattle.stream_seal.specs.declared.Sealed.{Sealed}
-use Rattle.stream_seal.specs.declared.Sealed.TheVariants.{Bytes, Refused as Unsealed}
 use Rattle.stream_open.specs.declared.Turn.{Turn}
 use Rattle.stream_open.specs.declared.Turn.TheVariants.{Variable, Length, Payload, Ended}
 use Rattle.stream_open.specs.declared.Chunk.{Chunk}
-use Rattle.stream_open.specs.declared.Stepped.{Stepped}
-use Rattle.stream_open.specs.declared.Stepped.TheVariants.{Opened, Refused as Unopened}
+use Rattle.protocol.specs.declared.Refusal.{Refusal}
 
 -- a stream that has ended
 abbrev pub is_ended : Turn → Bool
@@ -37,11 +34,11 @@ length_told (Payload m) read = m
 length_told Ended read = 0
 length_told (Variable m) read = m
 
-abbrev pub said_step : Stepped → Said Chunk
-said_step (Opened c) = gives c
-said_step (Unopened r) = refuses_with r
+abbrev pub said_step : Result Chunk Refusal → Said Chunk
+said_step (Ok c) = gives c
+said_step (Err r) = refuses_with r
 
 -- a sealer's: how many bytes, and the sender as it is then
-abbrev pub said_piece : Sealed → Said (ℕ × Sender)
-said_piece (Bytes n next) = gives (n, next)
-said_piece (Unsealed r) = refuses_with r
+abbrev pub said_piece : Result (ℕ × Sender) Refusal → Said (ℕ × Sender)
+said_piece (Ok (n, next)) = gives (n, next)
+said_piece (Err r) = refuses_with r

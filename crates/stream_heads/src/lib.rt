@@ -3,12 +3,12 @@
 #![tactic(auto)]
 
 ghost use Rattle.std.specs.Prelude.{◌≡◌, ◌+◌, ◌-◌, ◌≤◌, length, cond};
-ghost use Rattle.aead.specs.Aead.{KeyFor, keyed};
-ghost use Rattle.stream_pieces.specs.Pieces.{tag_length, authentic_at, open_at, key_of, max_chunk};
+ghost use Rattle.stream_pieces.specs.Pieces.{tag_length, authentic_at, open_at, max_chunk};
+ghost use Rattle.stream_pieces.specs.PieceKeys.{keyed_of};
 ghost use Rattle.stream_heads.specs.Heads.{read_fixed, open_fixed};
 
-use protocol::{Cipher, Refusal};
-use stream_pieces::{Subkey, open_piece};
+use protocol::Refusal;
+use stream_pieces::PieceKey;
 
 // The cap of a request's padding.
 pub const MAX_PADDING: usize = 900;
@@ -20,50 +20,39 @@ pub struct Fixed {
     pub length: u16,
 }
 
-#[derive(Clone, Copy)]
-pub enum FixedRead {
-    Read(Fixed),
-    Refused(Refusal),
-}
-
 // Refusals 6 and 7, in this order, or what the header says.
-fn read_fixed(kind: u8, clock: u64, plain: &[u8]) -> FixedRead
+fn read_fixed(kind: u8, clock: u64, plain: &[u8]) -> Result<Fixed, Refusal>
     requires { 2 ≤ length plain.now }
     ensures { result ≡ read_fixed kind clock plain.now }
 {
     if octets::byte_or_zero(plain, 0) != kind {
-        return FixedRead::Refused(Refusal::WrongType);
+        return Err(Refusal::WrongType);
     }
     let time = octets::read_u64_be(plain, 1);
-    if protocol::time_valid(time, clock) {
-        return FixedRead::Read(Fixed {
-            time: time,
-            length: octets::read_u16_be(plain, plain.len() - 2),
-        });
+    if !protocol::time_valid(time, clock) {
+        return Err(Refusal::WrongTime);
     }
-    FixedRead::Refused(Refusal::WrongTime)
+    let length = octets::read_u16_be(plain, plain.len() - 2);
+    Ok(Fixed { time, length })
 }
 
 // Refusals 4, 6 and 7, in this order, or what the header says; its plaintext fills the lent buffer where its tag is good.
 pub fn open_fixed(
-    cipher: Cipher,
-    w: Subkey,
-    k: usize,
+    key: PieceKey,
     kind: u8,
     clock: u64,
     s: &[u8],
     plain: &mut [u8],
-) -> FixedRead
-    requires key_for { KeyFor cipher k }
+) -> Result<Fixed, Refusal>
     requires in_bounds { 2 ≤ length plain.old }
     requires plain_len_bound { length plain.old ≤ max_chunk }
     requires s_len { length s.now ≡ length plain.old + tag_length }
-    ensures value { result ≡ open_fixed (keyed cipher (key_of w k)) kind clock s.now }
+    ensures value { result ≡ open_fixed (keyed_of key) kind clock s.now }
     ensures plain_after { plain.new
-        ≡ cond (authentic_at (keyed cipher (key_of w k)) 0 s.now) (open_at (keyed cipher (key_of w k)) 0 s.now) plain.old }
+        ≡ cond (authentic_at (keyed_of key) 0 s.now) (open_at (keyed_of key) 0 s.now) plain.old }
 {
-    if open_piece(cipher, w, k, 0, s, plain) {
-        return read_fixed(kind, clock, plain);
+    if !key.open_piece(0, s, plain) {
+        return Err(Refusal::NotAuthentic);
     }
-    FixedRead::Refused(Refusal::NotAuthentic)
+    read_fixed(kind, clock, plain)
 }

@@ -9,7 +9,7 @@ ghost use Rattle.stream_open.specs.declared.Turn.TheVariants.{Length, Payload};
 ghost use Rattle.stream_open.specs.Steps.{key_in, length_answer, turn_answer, written_by, step_answer, step_out, turn_after, advances, refused_next, step_next};
 
 use protocol::Refusal;
-use stream_pieces::{Framing, LAST_COUNTER, LENGTH_PIECE, Subkey, TAG, framing_of, open_piece};
+use stream_pieces::{Framing, LAST_COUNTER, LENGTH_PIECE, PieceKey, Subkey, TAG, framing_of};
 
 // What the receiving half of a stream opens next: a request's variable header of so many bytes, a length, a payload of so many
 // bytes, or nothing.
@@ -37,65 +37,61 @@ pub struct Chunk {
     pub length: u16,
 }
 
-#[derive(Clone, Copy)]
-pub enum Stepped {
-    Opened(Chunk),
-    Refused(Refusal),
-}
-
 // The answer to a step, and the stream as it is then.
 #[derive(Clone, Copy)]
 pub struct Step {
-    pub answer: Stepped,
+    pub answer: Result<Chunk, Refusal>,
     pub stream: Receiver,
 }
 
 // A length that was opened: refusals 14 and 5, or what it says.
-fn length_answer(f: Framing, n: u16) -> Stepped
+fn length_answer(f: Framing, n: u16) -> Result<Chunk, Refusal>
     ensures { result ≡ length_answer f n }
 {
     let read = n as usize;
     if read < f.least {
-        return Stepped::Refused(Refusal::Empty);
+        return Err(Refusal::Empty);
     }
     if f.greatest < read {
-        return Stepped::Refused(Refusal::Malformed);
+        return Err(Refusal::Malformed);
     }
-    Stepped::Opened(Chunk {
+    Ok(Chunk {
         used: LENGTH_PIECE,
         length: n,
     })
 }
 
 // A length: refusals 11, 10, 4, 14 and 5, in this order, or what it says. Nothing is written.
-fn open_length(f: Framing, stream: Receiver, s: &[u8], room: usize) -> Stepped
+fn open_length(f: Framing, stream: Receiver, s: &[u8], room: usize) -> Result<Chunk, Refusal>
     requires { KeyFor f.cipher f.key }
     ensures { result ≡ turn_answer f Length stream s.now room }
 {
     if stream.counter == LAST_COUNTER {
-        return Stepped::Refused(Refusal::Counter);
+        return Err(Refusal::Counter);
     }
     if s.len() < LENGTH_PIECE {
-        return Stepped::Refused(Refusal::More(LENGTH_PIECE as u64));
+        return Err(Refusal::More(LENGTH_PIECE as u64));
     }
     let mut text = [0u8; 2];
-    let cipher = f.cipher;
-    let w = stream.subkey;
-    if open_piece(
-        cipher,
-        w,
-        f.key,
-        stream.counter,
-        &s[..LENGTH_PIECE],
-        &mut text,
-    ) {
-        return length_answer(f, octets::read_u16_be(&text, 0));
+    let key = PieceKey {
+        cipher: f.cipher,
+        subkey: stream.subkey,
+        length: f.key,
+    };
+    if !key.open_piece(stream.counter, &s[..LENGTH_PIECE], &mut text) {
+        return Err(Refusal::NotAuthentic);
     }
-    Stepped::Refused(Refusal::NotAuthentic)
+    length_answer(f, octets::read_u16_be(&text, 0))
 }
 
 // A payload of n bytes: refusals 1, 11, 10, 3 and 4, in this order, or it is in the buffer.
-fn open_payload(f: Framing, stream: Receiver, n: u16, s: &[u8], out: &mut [u8]) -> Stepped
+fn open_payload(
+    f: Framing,
+    stream: Receiver,
+    n: u16,
+    s: &[u8],
+    out: &mut [u8],
+) -> Result<Chunk, Refusal>
     requires { KeyFor f.cipher f.key }
     ensures value { result ≡ turn_answer f (Payload n) stream s.now (length out.old) }
     ensures out_after { out.new
@@ -103,46 +99,45 @@ fn open_payload(f: Framing, stream: Receiver, n: u16, s: &[u8], out: &mut [u8]) 
         out.old }
 {
     let due = n as usize;
-    if f.greatest < due {
-        return Stepped::Refused(Refusal::Settings);
-    }
-    if due < f.least {
-        return Stepped::Refused(Refusal::Settings);
+    if f.greatest < due || due < f.least {
+        return Err(Refusal::Settings);
     }
     if stream.counter == LAST_COUNTER {
-        return Stepped::Refused(Refusal::Counter);
+        return Err(Refusal::Counter);
     }
     if s.len() < due + TAG {
-        return Stepped::Refused(Refusal::More((due + TAG) as u64));
+        return Err(Refusal::More((due + TAG) as u64));
     }
     if out.len() < due {
-        return Stepped::Refused(Refusal::Room);
+        return Err(Refusal::Room);
     }
-    let cipher = f.cipher;
-    let w = stream.subkey;
-    if open_piece(cipher, w, f.key, stream.counter, &s[..due + TAG], out) {
-        return Stepped::Opened(Chunk {
-            used: due + TAG,
-            length: n,
-        });
+    let key = PieceKey {
+        cipher: f.cipher,
+        subkey: stream.subkey,
+        length: f.key,
+    };
+    if !key.open_piece(stream.counter, &s[..due + TAG], out) {
+        return Err(Refusal::NotAuthentic);
     }
-    Stepped::Refused(Refusal::NotAuthentic)
+    Ok(Chunk {
+        used: due + TAG,
+        length: n,
+    })
 }
 
-fn open_turn(f: Framing, stream: Receiver, s: &[u8], out: &mut [u8]) -> Stepped
+fn open_turn(f: Framing, stream: Receiver, s: &[u8], out: &mut [u8]) -> Result<Chunk, Refusal>
     requires { HasCipher f }
     ensures value { result ≡ step_answer f stream s.now (length out.old) }
     ensures out_after { out.new ≡ step_out f stream s.now out.old }
 {
     if f.key == 0 {
-        return Stepped::Refused(Refusal::Settings);
+        return Err(Refusal::Settings);
     }
-    let turn = stream.turn;
-    match turn {
+    match stream.turn {
         Turn::Length => open_length(f, stream, s, out.len()),
         Turn::Payload(n) => open_payload(f, stream, n, s, out),
-        Turn::Ended => Stepped::Refused(Refusal::NotAuthentic),
-        Turn::Variable(_) => Stepped::Refused(Refusal::Settings),
+        Turn::Ended => Err(Refusal::NotAuthentic),
+        Turn::Variable(_) => Err(Refusal::Settings),
     }
 }
 
@@ -153,9 +148,8 @@ fn turn_after(turn: Turn, n: u16) -> Turn
 {
     match turn {
         Turn::Length => Turn::Payload(n),
-        Turn::Payload(_) => Turn::Length,
+        Turn::Payload(_) | Turn::Variable(_) => Turn::Length,
         Turn::Ended => Turn::Ended,
-        Turn::Variable(_) => Turn::Length,
     }
 }
 
@@ -164,13 +158,10 @@ fn advanced(stream: Receiver, n: u16) -> Receiver
     requires { stream.counter ≡ last_counter → ⊥ }
     ensures { result ≡ advances stream n }
 {
-    let turn = stream.turn;
-    let w = stream.subkey;
     Receiver {
-        method: stream.method,
-        turn: turn_after(turn, n),
+        turn: turn_after(stream.turn, n),
         counter: stream.counter + 1,
-        subkey: w,
+        ..stream
     }
 }
 
@@ -179,12 +170,9 @@ pub fn refused_next(stream: Receiver, refusal: Refusal) -> Receiver
     ensures { result ≡ refused_next refusal stream }
 {
     if refusal.ends_stream() {
-        let w = stream.subkey;
         return Receiver {
-            method: stream.method,
             turn: Turn::Ended,
-            counter: stream.counter,
-            subkey: w,
+            ..stream
         };
     }
     stream
@@ -200,16 +188,11 @@ pub fn open_framed(f: Framing, stream: Receiver, s: &[u8], out: &mut [u8]) -> St
     ensures out_after { out.new ≡ step_out f stream s.now out.old }
 {
     let answer = open_turn(f, stream, s, out);
-    match answer {
-        Stepped::Opened(c) => Step {
-            answer: answer,
-            stream: advanced(stream, c.length),
-        },
-        Stepped::Refused(r) => Step {
-            answer: answer,
-            stream: refused_next(stream, r),
-        },
-    }
+    let stream = match answer {
+        Ok(chunk) => advanced(stream, chunk.length),
+        Err(refusal) => refused_next(stream, refusal),
+    };
+    Step { answer, stream }
 }
 
 // Opens the next piece of a stream of SIP022, in which a length of 0 is refused with 14 and none with 5.

@@ -1,5 +1,6 @@
 -- Opening the head of a response: a law for each way out of each function.
 -- Assumes nothing.
+use Rattle.std.specs.Prelude.{Err, Ok, Result}
 use mathlib.Core.Path.{◌≡◌, refl, sym, ap, ap₂, ◌∙◌, subst}
 use mathlib.Core.Bool.{Bool, true, false, cond, ◌&&◌}
 use mathlib.Core.List.{List}
@@ -26,28 +27,26 @@ use Rattle.stream_pieces.proofs.KeyLaws.{key-of-method, length-subkey, octets-su
 use Rattle.stream_pieces.proofs.FramingLaws.{zero-empty, not-zero-some}
 use Rattle.stream_open.specs.declared.Turn.TheVariants.{Payload}
 use Rattle.stream_heads.specs.declared.Fixed.{Fixed}
-use Rattle.stream_heads.specs.declared.FixedRead.{FixedRead}
-use Rattle.stream_heads.specs.declared.FixedRead.TheVariants.{Read, Refused as Unread}
-use Rattle.stream_open_response.specs.declared.ResponseOpened.{ResponseOpened}
-use Rattle.stream_open_response.specs.declared.ResponseOpened.TheVariants.{Accepted, Refused}
 use Rattle.stream_heads.specs.Heads.{front_length, read_fixed, open_fixed}
 use Rattle.stream_open.specs.Chunks.{receiver}
 use Rattle.stream_open_response.specs.Responses.{binding_of, bound_as, bound_of, response_at, opened_response}
+use Rattle.stream_open_response.specs.declared.Response.{Response}
+use Rattle.stream_open.specs.declared.Receiver.{Receiver}
 
 -- ---- the fixed header, and the request's salt in it
 
 -- what was read was authentic
-read-authentic : (b : Bool) (x : FixedRead) (f : Fixed) → cond b x (Unread NotAuthentic) ≡ Read f → b ≡ true
+read-authentic : (b : Bool) (x : Result Fixed Refusal) (f : Fixed) → cond b x (Err NotAuthentic) ≡ Ok f → b ≡ true
 read-authentic true x f e = refl
 read-authentic false x f e = absurd (let z : ◌≡◌ {A = ℕ} 0 1 = cc in omega arith)
 
-module _ (method : ℕ) (w : Subkey) (key : Keyed) (clock n : ℕ) (salt s : List ℕ) (r : FixedRead) (er : r ≡ open_fixed key 1 clock s)
+module _ (method : ℕ) (w : Subkey) (key : Keyed) (clock n : ℕ) (salt s : List ℕ) (r : Result Fixed Refusal) (er : r ≡ open_fixed key 1 clock s)
   where
-    pub bound-refused : (q : Refusal) → r ≡ Unread q → Refused q ≡ bound_of method w key clock n salt s
+    pub bound-refused : (q : Refusal) → r ≡ Err q → Err q ≡ bound_of method w key clock n salt s
     unfolding bound_of
     bound-refused q e = ap (bound_as method w (front_length n n) (same (binding_of n (open_at key 0 s)) salt)) (sym e ∙ er)
 
-    module _ (plain o : List ℕ) (eo : o ≡ cond (authentic_at key 0 s) (open_at key 0 s) plain) (f : Fixed) (e : r ≡ Read f) (b : Bool)
+    module _ (plain o : List ℕ) (eo : o ≡ cond (authentic_at key 0 s) (open_at key 0 s) plain) (f : Fixed) (e : r ≡ Ok f) (b : Bool)
         (eb : b ≡ same (take (9 + n - 9) (drop 9 o)) salt)
       where
         plain-read : o ≡ open_at key 0 s
@@ -56,26 +55,26 @@ module _ (method : ℕ) (w : Subkey) (key : Keyed) (clock n : ℕ) (salt s : Lis
             let good = read-authentic (authentic_at key 0 s) (read_fixed 1 clock (open_at key 0 s)) f (sym er ∙ e) in
             eo ∙ ap (λ (d : Bool). cond d (open_at key 0 s) plain) good
 
-        abbrev accepted : ResponseOpened
-        accepted = Accepted (record { time = f.time; length = f.length; used = n + 27 + n }) (receiver method (Payload f.length) 1 w)
+        abbrev accepted : Result (Response × Receiver) Refusal
+        accepted = Ok (record { time = f.time; length = f.length; used = n + 27 + n }, receiver method (Payload f.length) 1 w)
 
-        bound_at : (d : Bool) → b ≡ d → bound_as method w (front_length n n) d (Read f) ≡ bound_of method w key clock n salt s
+        bound_at : (d : Bool) → b ≡ d → bound_as method w (front_length n n) d (Ok f) ≡ bound_of method w key clock n salt s
         unfolding bound_of
         bound_at d ed =
             let m : 9 + n - 9 ≡ n = omega arith in
             let ours = sym ed ∙ eb ∙ (λ i. same (take (m i) (drop 9 (plain-read i))) salt) in
             λ i. bound_as method w (front_length n n) (ours i) ((sym e ∙ er) i)
 
-        ours_at : b ≡ true → (d : Bool) → is_empty f.length ≡ d → cond d (Refused Empty) accepted ≡ bound_of method w key clock n salt s
-        ours_at ed d e = ap (λ (x : Bool). cond x (Refused Empty) accepted) (sym e) ∙ bound_at true ed
+        ours_at : b ≡ true → (d : Bool) → is_empty f.length ≡ d → cond d (Err Empty) accepted ≡ bound_of method w key clock n salt s
+        ours_at ed d e = ap (λ (x : Bool). cond x (Err Empty) accepted) (sym e) ∙ bound_at true ed
 
-        pub bound-empty : b ≡ true → f.length ≡ 0 → Refused Empty ≡ bound_of method w key clock n salt s
+        pub bound-empty : b ≡ true → f.length ≡ 0 → Err Empty ≡ bound_of method w key clock n salt s
         bound-empty ed e = ours_at ed true (zero-empty _ e)
 
         pub bound-ours : b ≡ true → (f.length ≡ 0 → ⊥) → accepted ≡ bound_of method w key clock n salt s
         bound-ours ed h = ours_at ed false (not-zero-some _ h)
 
-        pub bound-others : b ≡ false → Refused Binding ≡ bound_of method w key clock n salt s
+        pub bound-others : b ≡ false → Err Binding ≡ bound_of method w key clock n salt s
         bound-others ed = bound_at false ed
 
 -- behind the salt
@@ -85,7 +84,7 @@ length-fixed n s h =
     let l : n + 27 + n - n ≤ length (drop n s) = omega (arith, length-drop n s) in
     length-take-le (n + 27 + n - n) (drop n s) l ∙ m
 
-pub response-at : (method : ℕ) (w : Subkey) (key : Keyed) (clock n : ℕ) (salt s : List ℕ) (r : ResponseOpened)
+pub response-at : (method : ℕ) (w : Subkey) (key : Keyed) (clock n : ℕ) (salt s : List ℕ) (r : Result (Response × Receiver) Refusal)
     → r ≡ bound_of method w key clock n salt (take (n + 27 + n - n) (drop n s)) → r ≡ response_at method w key clock n salt s
 unfolding response_at bound_of
 response-at method w key clock n salt s r e =
@@ -115,28 +114,28 @@ module _ (method : ℕ) (key : List ℕ) (clock : ℕ) (salt s : List ℕ) (k : 
       → leb (front_length (salt_length method) (salt_length method)) (length s) ≡ c
       → cond (a && b)
       (cond c (response_at method (subkey_words sub) (keyed (cipher_of method) sub) clock (salt_length method) salt s)
-      (Refused (More (front_length (salt_length method) (salt_length method))))) (Refused Settings)
+      (Err (More (front_length (salt_length method) (salt_length method))))) (Err Settings)
       ≡ opened_response method key clock salt s
   unfolding opened_response
   opened-at a b c ea eb ec =
       λ i. cond ((sym ea ∙ ek) i && sym eb i)
       (cond (sym ec i) (response_at method (subkey_words sub) (keyed (cipher_of method) sub) clock (salt_length method) salt s)
-      (Refused (More (front_length (salt_length method) (salt_length method))))) (Refused Settings)
+      (Err (More (front_length (salt_length method) (salt_length method))))) (Err Settings)
 
-  pub response-settings : k ≡ false → Refused Settings ≡ opened_response method key clock salt s
+  pub response-settings : k ≡ false → Err Settings ≡ opened_response method key clock salt s
   response-settings e = opened-at false _ _ e refl refl
 
   module _ (fits : k ≡ true) (n : ℕ) (en : n ≡ salt_length method) where
-    pub response-salt : (length salt ≡ n → ⊥) → Refused Settings ≡ opened_response method key clock salt s
+    pub response-salt : (length salt ≡ n → ⊥) → Err Settings ≡ opened_response method key clock salt s
     response-salt h = opened-at true false _ fits (ne_eqb _ _ (λ e. h (e ∙ sym en))) refl
 
     module _ (same-salt : length salt ≡ n) where
-      pub response-more : length s < n + 27 + n → Refused (More (n + 27 + n)) ≡ opened_response method key clock salt s
+      pub response-more : length s < n + 27 + n → Err (More (n + 27 + n)) ≡ opened_response method key clock salt s
       response-more h =
           let l : length s < front_length (salt_length method) (salt_length method) = omega (arith, sym en) in
-          ap (λ (m : ℕ). Refused (More (m + 27 + m))) en ∙ opened-at true true false fits (eq-eqb _ _ (same-salt ∙ en)) (lt-leb _ _ l)
+          ap (λ (m : ℕ). Err (More (m + 27 + m))) en ∙ opened-at true true false fits (eq-eqb _ _ (same-salt ∙ en)) (lt-leb _ _ l)
 
-      pub response-done : n + 27 + n ≤ length s → (w : Subkey) (c : Cipher) (r : ResponseOpened) → w ≡ subkey_words (subkey key (take n s)) → c ≡ cipher_of method
+      pub response-done : n + 27 + n ≤ length s → (w : Subkey) (c : Cipher) (r : Result (Response × Receiver) Refusal) → w ≡ subkey_words (subkey key (take n s)) → c ≡ cipher_of method
           → r ≡ response_at method w (keyed c (key_of w n)) clock n salt s → r ≡ opened_response method key clock salt s
       response-done h w c r ew ec er =
           let salt-of = salted method key k n ek fits en in

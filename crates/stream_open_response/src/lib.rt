@@ -2,15 +2,15 @@
 #![tactic(auto)]
 
 ghost use Rattle.std.specs.Prelude.{◌≡◌, ◌+◌, ◌-◌, ◌<◌, ◌≤◌, length};
-ghost use Rattle.aead.specs.Aead.{KeyFor, keyed};
-ghost use Rattle.stream_pieces.specs.Pieces.{fixed_length, fixed_piece, key_of};
+ghost use Rattle.stream_pieces.specs.Pieces.{fixed_length, fixed_piece};
+ghost use Rattle.stream_pieces.specs.PieceKeys.{keyed_of};
 ghost use Rattle.stream_heads.specs.Heads.{front_length};
 ghost use Rattle.stream_open_response.specs.Responses.{bound_of, response_at, opened_response};
 
-use protocol::{Cipher, Refusal};
-use stream_heads::{FixedRead, open_fixed};
+use protocol::Refusal;
+use stream_heads::open_fixed;
 use stream_open::{Receiver, Turn};
-use stream_pieces::{FIXED, FIXED_PIECE, MAX_FIXED, Subkey, derive};
+use stream_pieces::{FIXED, FIXED_PIECE, MAX_FIXED, PieceKey, derive};
 
 // What the head of a response says: its time, the length of its first payload, and how many bytes were used.
 #[derive(Clone, Copy)]
@@ -20,78 +20,61 @@ pub struct Response {
     pub used: usize,
 }
 
-#[derive(Clone, Copy)]
-pub enum ResponseOpened {
-    Accepted(Response, Receiver),
-    Refused(Refusal),
-}
-
-// The fixed header of a response whose salt has n bytes, as the key has: refusals 4, 6, 7, 13 and 14, in this order, or what
+// The fixed header of a response whose salt is as long as the key: refusals 4, 6, 7, 13 and 14, in this order, or what
 // it says. Its plaintext fills the lent buffer.
 fn open_bound(
     method: u64,
-    cipher: Cipher,
-    w: Subkey,
-    n: usize,
+    key: PieceKey,
     clock: u64,
     request_salt: &[u8],
     s: &[u8],
     plain: &mut [u8],
-) -> ResponseOpened
-    requires key_for { KeyFor cipher n }
-    requires request_salt_len { length request_salt.now ≡ n }
-    requires plain_len { length plain.old ≡ fixed_length + n }
-    requires s_len { length s.now ≡ fixed_piece + n }
-    ensures { result ≡ bound_of method w (keyed cipher (key_of w n)) clock n request_salt.now s.now }
+) -> Result<(Response, Receiver), Refusal>
+    requires request_salt_len { length request_salt.now ≡ key.length }
+    requires plain_len { length plain.old ≡ fixed_length + key.length }
+    requires s_len { length s.now ≡ fixed_piece + key.length }
+    ensures { result ≡ bound_of method key.subkey (keyed_of key) clock key.length request_salt.now s.now }
 {
-    match open_fixed(cipher, w, n, 1, clock, s, plain) {
-        FixedRead::Read(fixed) => {
-            let binding = &plain[9..9 + n];
-            if octets::equal(binding, request_salt) {
-                if fixed.length == 0 {
-                    return ResponseOpened::Refused(Refusal::Empty);
-                }
-                return ResponseOpened::Accepted(
-                    Response {
-                        time: fixed.time,
-                        length: fixed.length,
-                        used: n + FIXED_PIECE + n,
-                    },
-                    Receiver {
-                        method: method,
-                        turn: Turn::Payload(fixed.length),
-                        counter: 1,
-                        subkey: w,
-                    },
-                );
-            }
-            ResponseOpened::Refused(Refusal::Binding)
-        }
-        FixedRead::Refused(r) => ResponseOpened::Refused(r),
+    let n = key.length;
+    let fixed = open_fixed(key, 1, clock, s, plain)?;
+    let binding = &plain[9..9 + n];
+    if !octets::equal(binding, request_salt) {
+        return Err(Refusal::Binding);
     }
+    if fixed.length == 0 {
+        return Err(Refusal::Empty);
+    }
+    let head = Response {
+        time: fixed.time,
+        length: fixed.length,
+        used: n + FIXED_PIECE + n,
+    };
+    let stream = Receiver {
+        method,
+        turn: Turn::Payload(fixed.length),
+        counter: 1,
+        subkey: key.subkey,
+    };
+    Ok((head, stream))
 }
 
 // The head of a response, behind refusals 1 and 10.
 fn open_response_at(
     method: u64,
-    cipher: Cipher,
-    w: Subkey,
-    n: usize,
+    key: PieceKey,
     clock: u64,
     request_salt: &[u8],
     s: &[u8],
-) -> ResponseOpened
-    requires key_for { KeyFor cipher n }
-    requires request_salt_len { length request_salt.now ≡ n }
-    requires n_in_bounds { front_length n n ≤ length s.now }
-    ensures { result ≡ response_at method w (keyed cipher (key_of w n)) clock n request_salt.now s.now }
+) -> Result<(Response, Receiver), Refusal>
+    requires request_salt_len { length request_salt.now ≡ key.length }
+    requires n_in_bounds { front_length key.length key.length ≤ length s.now }
+    ensures { result ≡ response_at method key.subkey (keyed_of key) clock key.length request_salt.now s.now }
 {
     let mut plain = [0u8; MAX_FIXED];
+    let n = key.length;
     open_bound(
         method,
-        cipher,
-        w,
-        n,
+        key,
         clock,
         request_salt,
         &s[n..n + FIXED_PIECE + n],
@@ -107,20 +90,21 @@ pub fn open_response(
     clock: u64,
     request_salt: &[u8],
     s: &[u8],
-) -> ResponseOpened
+) -> Result<(Response, Receiver), Refusal>
     ensures { result ≡ opened_response method key.now clock request_salt.now s.now }
 {
-    if protocol::key_fits(method, key.len()) {
-        let n = protocol::salt_length(method);
-        if request_salt.len() != n {
-            return ResponseOpened::Refused(Refusal::Settings);
-        }
-        if s.len() < n + FIXED_PIECE + n {
-            return ResponseOpened::Refused(Refusal::More((n + FIXED_PIECE + n) as u64));
-        }
-        let w = derive(key, &s[..n]);
-        let cipher = protocol::cipher_of(method);
-        return open_response_at(method, cipher, w, n, clock, request_salt, s);
+    let n = protocol::salt_length(method);
+    if !protocol::key_fits(method, key.len()) || request_salt.len() != n {
+        return Err(Refusal::Settings);
     }
-    ResponseOpened::Refused(Refusal::Settings)
+    let due = n + FIXED_PIECE + n;
+    if s.len() < due {
+        return Err(Refusal::More(due as u64));
+    }
+    let key = PieceKey {
+        cipher: protocol::cipher_of(method),
+        subkey: derive(key, &s[..n]),
+        length: n,
+    };
+    open_response_at(method, key, clock, request_salt, s)
 }

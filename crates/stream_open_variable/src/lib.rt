@@ -2,15 +2,14 @@
 #![tactic(auto)]
 
 ghost use Rattle.std.specs.Prelude.{◌≡◌, ◌≤◌, length};
-ghost use Rattle.aead.specs.Aead.{KeyFor, keyed};
-ghost use Rattle.stream_pieces.specs.Pieces.{key_of};
+ghost use Rattle.stream_pieces.specs.PieceKeys.{keyed_of};
 ghost use Rattle.stream_open_variable.specs.Variable.{padding_fits, read_variable, header_answer, settled, header_out, variable_answer, variable_out, variable_next};
 
-use protocol::{Cipher, Refusal};
-use socks5::{Parsed, Target};
+use protocol::Refusal;
+use socks5::Target;
 use stream_heads::MAX_PADDING;
 use stream_open::{Receiver, Turn, refused_next};
-use stream_pieces::{Subkey, TAG, open_piece};
+use stream_pieces::{PieceKey, TAG};
 
 // What a variable header says. A name's place and the payload's are places in its plaintext, which has the length given. So
 // many bytes were used.
@@ -24,16 +23,10 @@ pub struct VariableHeader {
     pub used: usize,
 }
 
-#[derive(Clone, Copy)]
-pub enum VariableOpened {
-    Header(VariableHeader),
-    Refused(Refusal),
-}
-
 // The answer, and the stream as it is then.
 #[derive(Clone, Copy)]
 pub struct VariableStep {
-    pub answer: VariableOpened,
+    pub answer: Result<VariableHeader, Refusal>,
     pub stream: Receiver,
 }
 
@@ -42,106 +35,89 @@ pub struct VariableStep {
 fn padding_fits(end: usize, plain: &[u8]) -> bool
     ensures { result ≡ padding_fits end plain.now }
 {
-    if plain.len() <= end {
-        return false;
-    }
-    let left = plain.len() - end;
+    let left = plain.len().saturating_sub(end);
     if left <= 2 {
         return false;
     }
     let padding = octets::read_u16_be(plain, end) as usize;
-    if MAX_PADDING < padding {
-        return false;
-    }
-    padding <= left - 2
+    padding <= MAX_PADDING && padding <= left - 2
 }
 
 // What a plaintext of n bytes says, or refusal 5.
-fn read_variable(n: u16, plain: &[u8]) -> VariableOpened
+fn read_variable(n: u16, plain: &[u8]) -> Result<VariableHeader, Refusal>
     ensures { result ≡ read_variable n plain.now }
 {
-    match socks5::parse(plain, 0) {
-        Parsed::Found(address) => {
-            let end = address.end;
-            if padding_fits(end, plain) {
-                let target = address.target;
-                let padding = octets::read_u16_be(plain, end);
-                return VariableOpened::Header(VariableHeader {
-                    target: target,
-                    port: address.port,
-                    padding: padding,
-                    payload: end + 2 + padding as usize,
-                    length: n,
-                    used: n as usize + TAG,
-                });
-            }
-            VariableOpened::Refused(Refusal::Malformed)
-        }
-        Parsed::Malformed => VariableOpened::Refused(Refusal::Malformed),
+    let Some(address) = socks5::parse(plain, 0) else {
+        return Err(Refusal::Malformed);
+    };
+    if !padding_fits(address.end, plain) {
+        return Err(Refusal::Malformed);
     }
+    let padding = octets::read_u16_be(plain, address.end);
+    Ok(VariableHeader {
+        target: address.target,
+        port: address.port,
+        padding,
+        payload: address.end + 2 + padding as usize,
+        length: n,
+        used: n as usize + TAG,
+    })
 }
 
 // A refusal clears what the plaintext has filled.
-fn clear_refused(answer: VariableOpened, due: usize, out: &mut [u8])
+fn clear_refused(answer: Result<VariableHeader, Refusal>, due: usize, out: &mut [u8])
     requires { due ≤ length out.old }
     ensures { out.new ≡ settled answer due out.old }
 {
-    if let VariableOpened::Refused(_) = answer {
+    if answer.is_err() {
         octets::zero(out, 0, due);
     }
 }
 
 // The piece with a variable header of n bytes, with counter 1: refusals 10, 3, 4 and 5, in this order, or the header.
-fn open_header(
-    cipher: Cipher,
-    w: Subkey,
-    k: usize,
-    n: u16,
-    s: &[u8],
-    out: &mut [u8],
-) -> VariableOpened
-    requires { KeyFor cipher k }
-    ensures value { result ≡ header_answer (keyed cipher (key_of w k)) n s.now (length out.old) }
-    ensures out_after { out.new ≡ header_out (keyed cipher (key_of w k)) n s.now out.old }
+fn open_header(key: PieceKey, n: u16, s: &[u8], out: &mut [u8]) -> Result<VariableHeader, Refusal>
+    ensures value { result ≡ header_answer (keyed_of key) n s.now (length out.old) }
+    ensures out_after { out.new ≡ header_out (keyed_of key) n s.now out.old }
 {
     let due = n as usize;
     if s.len() < due + TAG {
-        return VariableOpened::Refused(Refusal::More((due + TAG) as u64));
+        return Err(Refusal::More((due + TAG) as u64));
     }
     if out.len() < due {
-        return VariableOpened::Refused(Refusal::Room);
+        return Err(Refusal::Room);
     }
-    if open_piece(cipher, w, k, 1, &s[..due + TAG], out) {
-        let answer = read_variable(n, &out[..due]);
-        clear_refused(answer, due, out);
-        return answer;
+    if !key.open_piece(1, &s[..due + TAG], out) {
+        return Err(Refusal::NotAuthentic);
     }
-    VariableOpened::Refused(Refusal::NotAuthentic)
+    let answer = read_variable(n, &out[..due]);
+    clear_refused(answer, due, out);
+    answer
 }
 
 // A stream that the first call handed on has counter 1; any other, and one at another turn, is refusal 1. One that has ended is
 // at no turn, and is 4.
-fn open_turn(stream: Receiver, s: &[u8], out: &mut [u8]) -> VariableOpened
+fn open_turn(stream: Receiver, s: &[u8], out: &mut [u8]) -> Result<VariableHeader, Refusal>
     ensures value { result ≡ variable_answer stream s.now (length out.old) }
     ensures out_after { out.new ≡ variable_out stream s.now out.old }
 {
-    let k = protocol::key_length(stream.method);
-    if k == 0 {
-        return VariableOpened::Refused(Refusal::Settings);
+    let length = protocol::key_length(stream.method);
+    if length == 0 {
+        return Err(Refusal::Settings);
     }
-    let turn = stream.turn;
-    match turn {
+    match stream.turn {
         Turn::Variable(n) => {
             if stream.counter != 1 {
-                return VariableOpened::Refused(Refusal::Settings);
+                return Err(Refusal::Settings);
             }
-            let cipher = protocol::cipher_of(stream.method);
-            let w = stream.subkey;
-            open_header(cipher, w, k, n, s, out)
+            let key = PieceKey {
+                cipher: protocol::cipher_of(stream.method),
+                subkey: stream.subkey,
+                length,
+            };
+            open_header(key, n, s, out)
         }
-        Turn::Length => VariableOpened::Refused(Refusal::Settings),
-        Turn::Payload(_) => VariableOpened::Refused(Refusal::Settings),
-        Turn::Ended => VariableOpened::Refused(Refusal::NotAuthentic),
+        Turn::Length | Turn::Payload(_) => Err(Refusal::Settings),
+        Turn::Ended => Err(Refusal::NotAuthentic),
     }
 }
 
@@ -154,22 +130,13 @@ pub fn open_variable(stream: Receiver, s: &[u8], out: &mut [u8]) -> VariableStep
     ensures out_after { out.new ≡ variable_out stream s.now out.old }
 {
     let answer = open_turn(stream, s, out);
-    match answer {
-        VariableOpened::Header(_) => {
-            let w = stream.subkey;
-            VariableStep {
-                answer: answer,
-                stream: Receiver {
-                    method: stream.method,
-                    turn: Turn::Length,
-                    counter: 2,
-                    subkey: w,
-                },
-            }
-        }
-        VariableOpened::Refused(r) => VariableStep {
-            answer: answer,
-            stream: refused_next(stream, r),
+    let stream = match answer {
+        Ok(_) => Receiver {
+            turn: Turn::Length,
+            counter: 2,
+            ..stream
         },
-    }
+        Err(refusal) => refused_next(stream, refusal),
+    };
+    VariableStep { answer, stream }
 }

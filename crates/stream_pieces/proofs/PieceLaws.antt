@@ -15,6 +15,7 @@ use Rattle.protocol.specs.declared.Cipher.{Cipher}
 use Rattle.aead.specs.Aead.{Keyed, keyed, KeyFor, text_of, seal_by, authentic_by, opened_by}
 use Rattle.aead.proofs.AeadLaws.{key-for-most, sealed-authentic, sealed-opens}
 use Rattle.stream_pieces.specs.declared.Subkey.{Subkey}
+use Rattle.stream_pieces.specs.declared.key.PieceKey.{PieceKey}
 use Rattle.stream_pieces.specs.Pieces.{nonce, seal_at, authentic_at, open_at, subkey_words, subkey_bytes, key_of}
 use Rattle.stream_pieces.proofs.LengthLaws.{length-subkey_bytes}
 
@@ -70,18 +71,20 @@ bytes-law d v u t r w l ev eu et er =
 
 -- ---- the key of a piece
 
-module _ (c : Cipher) (w : Subkey) (k : ℕ) (has_key_lem : KeyFor c k) where
-  pub key-inside : k ≤ length (subkey_bytes w)
-  key-inside = omega (arith, key-for-most c k has_key_lem, length-subkey_bytes w)
+module _ (k : PieceKey) where
+  pub key-most : k.length ≤ 32
+  key-most = key-for-most k.cipher k.length k.key_for
 
-  pub length-key_of : length (key_of w k) ≡ k
-  unfolding key_of
-  length-key_of = length-take-le k (subkey_bytes w) key-inside
+  -- in the buffer that the subkey's bytes were written to
+  module _ (bytes : List ℕ) (e : bytes ≡ subkey_bytes k.subkey) where
+    pub key-inside : k.length ≤ length bytes
+    key-inside = omega (arith, key-most, ap length e, length-subkey_bytes k.subkey)
 
-  -- in the buffer that the bytes were written to
-  pub key-there : (key : List ℕ) → key ≡ subkey_bytes w → KeyFor c (length (take k key))
-  unfolding key_of
-  key-there key e = subst (KeyFor c) (sym (ap (λ (x : List ℕ). length (take k x)) e ∙ length-key_of)) has_key_lem
+    pub length-key : length (take k.length bytes) ≡ k.length
+    length-key = length-take-le k.length bytes key-inside
+
+    pub key-there : KeyFor k.cipher (length (take k.length bytes))
+    key-there = subst (KeyFor k.cipher) (sym length-key) k.key_for
 
 -- ---- two pieces, one behind the other
 

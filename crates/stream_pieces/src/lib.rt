@@ -2,16 +2,18 @@
 // payload are pieces; what both directions share of them is here.
 #![tactic(auto)]
 
-ghost use Rattle.std.specs.Prelude.{◌≡◌, ◌++◌, ◌+◌, ◌-◌, ◌*◌, ◌<◌, ◌≤◌, length, take, drop, cond};
-ghost use Rattle.octets.specs.Buffers.{put};
-ghost use Rattle.aead.specs.Aead.{KeyFor, text_of, keyed};
+ghost use Rattle.std.specs.Prelude.{◌≡◌, ◌≤◌, length};
 ghost use Rattle.protocol.specs.Method.{max_key};
 ghost use Rattle.protocol.specs.Subkey.{subkey as subkey_of};
 ghost use Rattle.stream_pieces.specs.Framing.{framing_of};
-ghost use Rattle.stream_pieces.specs.Pieces.{nonce as nonce_of, tag_length, seal_at, authentic_at, open_at, subkey_words, subkey_bytes, key_of, max_chunk, last_counter};
+ghost use Rattle.stream_pieces.specs.Pieces.{nonce as nonce_of, subkey_words, subkey_bytes};
+
+use protocol::{Cipher, MAX_KEY};
+
+mod key;
 
 pub use aead::TAG;
-use protocol::{Cipher, MAX_KEY};
+pub use key::PieceKey;
 
 // The longest plaintext of a piece with a length of its own.
 pub const MAX_CHUNK: usize = 65535;
@@ -29,8 +31,9 @@ pub const MAX_FIXED: usize = FIXED + MAX_KEY;
 // The counter that is never used.
 pub const LAST_COUNTER: u64 = 0xffff_ffff_ffff_ffff;
 
-// How an edition frames the payloads of a stream: its cipher, the length of its key, and the least and the greatest length of a
-// payload.
+// How an edition frames the payloads of a stream: its cipher, the length of its key, 0 where there is no such method, and the least
+// and the greatest length of a payload. Theorems are said of these four numbers alone (`framing_of`, `framed_answer`, `step_answer`),
+// so the key is no Option, and that it is one of the cipher (`HasCipher`) is asked for and no ghost field.
 #[derive(Clone, Copy)]
 pub struct Framing {
     pub cipher: Cipher,
@@ -101,44 +104,4 @@ pub fn derive(key: &[u8], salt: &[u8]) -> Subkey
     let mut s = [0u8; MAX_KEY];
     protocol::derive_subkey(key, salt, &mut s);
     subkey_words(&s)
-}
-
-// Seals the two pieces of one call in place, the first up to a place and the second from there on; the last bytes of each
-// are room for its tag.
-pub fn seal_pair(cipher: Cipher, w: Subkey, k: usize, counter: u64, at: usize, body: &mut [u8])
-    requires key_for { KeyFor cipher k }
-    requires counter_lt_last_counter { counter < last_counter }
-    requires tag_length_le_at { tag_length ≤ at }
-    requires tag_length_in_bounds { at + tag_length ≤ length body.old }
-    requires body_len_bound { length body.old ≤ 2 * (max_chunk + tag_length) }
-    ensures { body.new
-        ≡ seal_at (keyed cipher (key_of w k)) counter (text_of (take at body.old))
-        ++ seal_at (keyed cipher (key_of w k)) (counter + 1) (text_of (drop at body.old)) }
-{
-    let key = subkey_bytes(w);
-    let first = nonce(counter);
-    let second = nonce(counter + 1);
-    aead::seal_pair(cipher, &key[..k], &first, &second, at, body);
-}
-
-// Opens a piece to the front of a buffer: whether its tag is good; if not, nothing is written.
-pub fn open_piece(
-    cipher: Cipher,
-    w: Subkey,
-    k: usize,
-    counter: u64,
-    s: &[u8],
-    out: &mut [u8],
-) -> bool
-    requires key_for { KeyFor cipher k }
-    requires tag_length_in_bounds { tag_length ≤ length s.now }
-    requires s_len_bound { length s.now ≤ max_chunk + tag_length }
-    requires tag_length_in_bounds_2 { length s.now - tag_length ≤ length out.old }
-    ensures value { result ≡ authentic_at (keyed cipher (key_of w k)) counter s.now }
-    ensures out_after { out.new
-        ≡ cond result (put out.old 0 (open_at (keyed cipher (key_of w k)) counter s.now)) out.old }
-{
-    let key = subkey_bytes(w);
-    let n = nonce(counter);
-    aead::open(cipher, &key[..k], &n, s, out)
 }

@@ -1,6 +1,6 @@
 -- What the writers leave, step by step, is the chunk.
 -- Assumes nothing.
-use mathlib.Core.Path.{◌≡◌, sym, ap, ◌∙◌}
+use mathlib.Core.Path.{◌≡◌, ap, ◌∙◌}
 use mathlib.Core.List.{List, ◌++◌}
 use Prim.Native.Nat.{ℕ, ◌+◌}
 use native.Mathlib.Omega.{arith}
@@ -10,11 +10,8 @@ use Rattle.octets.specs.Numbers.{to_be}
 use Rattle.octets.proofs.BufferLaws.{part-put}
 use Rattle.octets.proofs.NumberLaws.{length-to_be}
 use Rattle.aead.specs.Aead.{text_of}
-use Rattle.protocol.specs.declared.Refusal.{Refusal}
 use Rattle.stream_pieces.specs.Pieces.{seal_at, Keyed}
-use Rattle.stream_seal.specs.declared.Sealed.{Sealed}
-use Rattle.stream_seal.specs.declared.Sealed.TheVariants.{Refused}
-use Rattle.stream_seal.specs.Sealing.{chunk, seal_out}
+use Rattle.stream_seal.specs.Sealing.{chunk}
 use Rattle.stream_pieces.proofs.PieceLaws.{pair-law}
 
 -- the length and its payload, sealed where they stand
@@ -31,7 +28,3 @@ chunk-law key d v o r counter payload l ev eo er =
 pub chunk-in-front : (key : Keyed) (n : ℕ) (d r : List ℕ) (counter : ℕ) (payload : List ℕ) → length r ≡ n
     → r ≡ chunk key counter payload → r ++ drop n d ≡ put d 0 (chunk key counter payload)
 chunk-in-front key n d r counter payload l er = part-put d r 0 n l ∙ ap (put d 0) er
-
--- a refusal writes nothing
-pub nothing-sealed : (text out : List ℕ) (r : Refusal) (x : Sealed) → x ≡ Refused r → out ≡ seal_out x text out
-nothing-sealed text out r x e = sym (ap (λ (y : Sealed). seal_out y text out) e)

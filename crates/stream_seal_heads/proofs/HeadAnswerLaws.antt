@@ -1,10 +1,11 @@
 -- What sealing a head answers: one law for each way out, and what an answered length tells.
 -- Assumes nothing.
+use Rattle.std.specs.Prelude.{Err, Ok, Result}
 use mathlib.Core.Path.{◌≡◌, refl, sym, ap, ap₂, ◌∙◌, subst}
 use mathlib.Core.Bool.{Bool, true, false, cond, ◌&&◌, and-eq-true_iff}
 use mathlib.Core.List.{List}
 use mathlib.Core.Logic.{◌⊎◌, inl, inr}
-use Prim.Native.Nat.{ℕ, ◌+◌, ◌≤◌, ◌<◌, min}
+use Prim.Native.Nat.{ℕ, ◌+◌, ◌-◌, ◌^◌, ◌≤◌, ◌<◌, min}
 use native.Mathlib.Decide.{dec_le}
 use native.Mathlib.Omega.{arith}
 use lib.Dec.{eqb, leb, ltb}
@@ -19,16 +20,15 @@ use Rattle.protocol.proofs.MethodLaws.{fits-sizes}
 use Rattle.socks5.specs.Address.{is_address}
 use Rattle.stream_pieces.specs.declared.Subkey.{Subkey}
 use Rattle.stream_seal.specs.declared.Sender.{Sender}
-use Rattle.stream_seal.specs.declared.Sealed.{Sealed}
-use Rattle.stream_seal.specs.declared.Sealed.TheVariants.{Bytes, Refused}
 use Rattle.stream_pieces.specs.Framing.{is_empty}
 use Rattle.stream_pieces.specs.Pieces.{subkey_words, key_of, max_chunk}
 use Rattle.stream_seal.specs.Sealing.{size_answer}
 use Rattle.stream_pieces.proofs.KeyLaws.{key-of-method, length-subkey, octets-subkey, words-of-either, subkey-back}
 use Rattle.stream_pieces.proofs.FramingLaws.{zero-empty, not-zero-some}
-use Rattle.stream_seal.proofs.SealAnswerLaws.{too_long, passed, escaped, sized}
+use Rattle.stream_seal.proofs.SealAnswerLaws.{too_long, passed, escaped, answered, sized}
 use Rattle.stream_heads.specs.Heads.{max_padding}
 use Rattle.stream_seal_heads.specs.HeadSealing.{variable_length, begun, sizes_fit, padding_lawful, request_answer, response_answer}
+use Rattle.protocol.specs.declared.Refusal.{Refusal}
 
 -- ---- the lengths of key and salt
 
@@ -72,29 +72,27 @@ module _ (padding payload : ℕ) where
   pub padding-over : max_padding < padding → false ≡ padding_lawful padding payload
   padding-over h = padding-decided false (ltb 0 (padding + payload)) (lt-leb padding max_padding h) refl
 
-  pub padding-none : padding ≤ max_padding → padding ≡ 0 → ltb 0 payload ≡ padding_lawful padding payload
+  pub padding-none : padding ≤ max_padding → padding ≤ 0 → ltb 0 payload ≡ padding_lawful padding payload
   padding-none h z =
       let e : padding + payload ≡ payload = omega (arith, z) in
       padding-decided true (ltb 0 payload) (le-leb padding max_padding h) (ap (ltb 0) e)
 
-  pub padding-some : padding ≤ max_padding → (padding ≡ 0 → ⊥) → true ≡ padding_lawful padding payload
+  pub padding-some : padding ≤ max_padding → 0 < padding → true ≡ padding_lawful padding payload
   padding-some h f =
-      let l : 0 < padding + payload = omega arith in
+      let l : 0 < padding + payload = omega (arith, f) in
       padding-decided true true (le-leb padding max_padding h) (lt-ltb 0 (padding + payload) l)
 
 -- ---- the variable header's length
 
+-- sums that stop at the last number of a word pass the cap where the length does
 module _ (address padding payload : ℕ) where
-  -- a part or the sum is too long
-  pub length_over : (x : ℕ) → max_chunk < x → x ≤ address + 2 + padding + payload
-      → max_chunk + 1 ≡ min (variable_length address padding payload) (max_chunk + 1)
-  unfolding variable_length
-  length_over x h l = omega arith
+  abbrev word : ℕ
+  word = 2 ^ 64 - 1
 
-  pub length-within : address + 2 + padding + payload ≤ max_chunk
-      → address + 2 + padding + payload ≡ min (variable_length address padding payload) (max_chunk + 1)
+  pub length-capped : (a b c m : ℕ) → a ≡ min (address + 2) word → b ≡ min (a + padding) word → c ≡ min (b + payload) word
+      → m ≡ min c (max_chunk + 1) → m ≡ min (variable_length address padding payload) (max_chunk + 1)
   unfolding variable_length
-  length-within h = omega arith
+  length-capped a b c m ea eb ec em = omega (arith, ea, eb, ec, em)
 
 -- one byte over the longest stands for every longer length
 capped_same : (n before room : ℕ) (s : Sender) → size_answer max_chunk (min n (max_chunk + 1)) before room s ≡ size_answer max_chunk n before room s
@@ -110,29 +108,29 @@ capped_same n before room s = go (dec_le n max_chunk)
 -- ---- the answer to a request
 
 module _ (method : ℕ) (key salt address : List ℕ) (padding payload room : ℕ) where
-  abbrev request_sizes : Sealed
+  abbrev request_sizes : Result (ℕ × Sender) Refusal
   request_sizes = size_answer max_chunk (variable_length (length address) padding payload) (length salt + 27) room (begun method key salt)
 
   request-decided : (a b : Bool) → sizes_fit method (length key) (length salt) ≡ a → (is_address address && padding_lawful padding payload) ≡ b
-      → cond a (cond b request_sizes (Refused Argument)) (Refused Settings) ≡ request_answer method key salt address padding payload room
+      → cond a (cond b request_sizes (Err Argument)) (Err Settings) ≡ request_answer method key salt address padding payload room
   unfolding request_answer
-  request-decided a b ea eb = λ i. cond (sym ea i) (cond (sym eb i) request_sizes (Refused Argument)) (Refused Settings)
+  request-decided a b ea eb = λ i. cond (sym ea i) (cond (sym eb i) request_sizes (Err Argument)) (Err Settings)
 
   pub request-unfit : sizes_fit method (length key) (length salt) ≡ false
-      → Refused Settings ≡ request_answer method key salt address padding payload room
+      → Err Settings ≡ request_answer method key salt address padding payload room
   request-unfit e = request-decided false (is_address address && padding_lawful padding payload) e refl
 
   pub request-no-address : sizes_fit method (length key) (length salt) ≡ true → is_address address ≡ false
-      → Refused Argument ≡ request_answer method key salt address padding payload room
+      → Err Argument ≡ request_answer method key salt address padding payload room
   request-no-address e f = request-decided true false e (ap (λ (b : Bool). b && padding_lawful padding payload) f)
 
   pub request-unlawful : sizes_fit method (length key) (length salt) ≡ true → is_address address ≡ true → padding_lawful padding payload ≡ false
-      → Refused Argument ≡ request_answer method key salt address padding payload room
+      → Err Argument ≡ request_answer method key salt address padding payload room
   request-unlawful e f g = request-decided true false e (ap₂ ◌&&◌ f g)
 
   pub request-sized : sizes_fit method (length key) (length salt) ≡ true → is_address address ≡ true → padding_lawful padding payload ≡ true
       → (n : ℕ) → n ≡ min (variable_length (length address) padding payload) (max_chunk + 1) → (s : Sender) → s ≡ begun method key salt
-      → (r : Sealed) → r ≡ size_answer max_chunk n (length salt + 27) room s → r ≡ request_answer method key salt address padding payload room
+      → (r : Result (ℕ × Sender) Refusal) → r ≡ size_answer max_chunk n (length salt + 27) room s → r ≡ request_answer method key salt address padding payload room
   request-sized e f g n en s es r er =
       er ∙ (λ i. size_answer max_chunk (en i) (length salt + 27) room (es i))
       ∙ capped_same (variable_length (length address) padding payload) (length salt + 27) room (begun method key salt)
@@ -141,27 +139,27 @@ module _ (method : ℕ) (key salt address : List ℕ) (padding payload room : �
 -- ---- the answer to a response
 
 module _ (method : ℕ) (key salt binding : List ℕ) (payload room : ℕ) where
-  abbrev response_sizes : Sealed
+  abbrev response_sizes : Result (ℕ × Sender) Refusal
   response_sizes = size_answer max_chunk payload (length salt + 27 + length binding) room (begun method key salt)
 
   response-decided : (a b c : Bool) → sizes_fit method (length key) (length salt) ≡ a → eqb (length binding) (length salt) ≡ b → is_empty payload ≡ c
-      → cond (a && b) (cond c (Refused Empty) response_sizes) (Refused Settings) ≡ response_answer method key salt binding payload room
+      → cond (a && b) (cond c (Err Empty) response_sizes) (Err Settings) ≡ response_answer method key salt binding payload room
   unfolding response_answer
-  response-decided a b c ea eb ec = λ i. cond (sym ea i && sym eb i) (cond (sym ec i) (Refused Empty) response_sizes) (Refused Settings)
+  response-decided a b c ea eb ec = λ i. cond (sym ea i && sym eb i) (cond (sym ec i) (Err Empty) response_sizes) (Err Settings)
 
-  pub response-unfit : sizes_fit method (length key) (length salt) ≡ false → Refused Settings ≡ response_answer method key salt binding payload room
+  pub response-unfit : sizes_fit method (length key) (length salt) ≡ false → Err Settings ≡ response_answer method key salt binding payload room
   response-unfit e = response-decided false (eqb (length binding) (length salt)) _ e refl refl
 
   module _ (suits : sizes_fit method (length key) (length salt) ≡ true) where
-    pub response-unbound : (length binding ≡ length salt → ⊥) → Refused Settings ≡ response_answer method key salt binding payload room
+    pub response-unbound : (length binding ≡ length salt → ⊥) → Err Settings ≡ response_answer method key salt binding payload room
     response-unbound f = response-decided true false _ suits (ne_eqb (length binding) (length salt) f) refl
 
     module _ (bound : length binding ≡ length salt) where
-      pub response-empty : payload ≡ 0 → Refused Empty ≡ response_answer method key salt binding payload room
+      pub response-empty : payload ≡ 0 → Err Empty ≡ response_answer method key salt binding payload room
       response-empty e = response-decided true true true suits (eq-eqb (length binding) (length salt) bound) (zero-empty payload e)
 
       pub response-sized : (payload ≡ 0 → ⊥) → (s : Sender) → s ≡ begun method key salt
-          → (r : Sealed) → r ≡ size_answer max_chunk payload (length salt + 27 + length binding) room s
+          → (r : Result (ℕ × Sender) Refusal) → r ≡ size_answer max_chunk payload (length salt + 27 + length binding) room s
           → r ≡ response_answer method key salt binding payload room
       response-sized some s es r er =
           er ∙ ap (size_answer max_chunk payload (length salt + 27 + length binding) room) es
@@ -192,7 +190,7 @@ pub record SealableRequest (method : ℕ) (key salt address : List ℕ) (padding
   pub held : key_of s.subkey (length salt) ≡ subkey key salt
 
 pub request-sealable : (method : ℕ) (key salt address : List ℕ) (padding payload room n : ℕ) (s : Sender)
-    → request_answer method key salt address padding payload room ≡ Bytes n s → SealableRequest method key salt address padding payload room n s
+    → request_answer method key salt address padding payload room ≡ Ok (n, s) → SealableRequest method key salt address padding payload room n s
 unfolding request_answer
 request-sealable method key salt address padding payload room n s e =
     let e₁ = passed (sizes_fit method (length key) (length salt)) _ _ n s e in
@@ -207,6 +205,12 @@ request-sealable method key salt address padding payload room n s e =
       held = key-held method key salt fit s.subkey z.words;
     }
 
+pub request-answered : (method : ℕ) (key salt address : List ℕ) (padding payload room n : ℕ) (s : Sender) (r : Result (ℕ × Sender) Refusal)
+    → r ≡ request_answer method key salt address padding payload room → r ≡ Ok (n, s)
+    → SealableRequest method key salt address padding payload room n s
+request-answered method key salt address padding payload room n s r e is =
+    request-sealable method key salt address padding payload room n s (answered r _ n s e is)
+
 pub record SealableResponse (method : ℕ) (key salt binding : List ℕ) (payload room n : ℕ) (s : Sender) : Type 0 where
   pub good : (c : Cipher) → c ≡ cipher_of method → KeyFor c (length salt)
   pub bound : length binding ≡ length salt
@@ -216,7 +220,7 @@ pub record SealableResponse (method : ℕ) (key salt binding : List ℕ) (payloa
   pub held : key_of s.subkey (length salt) ≡ subkey key salt
 
 pub response-sealable : (method : ℕ) (key salt binding : List ℕ) (payload room n : ℕ) (s : Sender)
-    → response_answer method key salt binding payload room ≡ Bytes n s → SealableResponse method key salt binding payload room n s
+    → response_answer method key salt binding payload room ≡ Ok (n, s) → SealableResponse method key salt binding payload room n s
 unfolding response_answer
 response-sealable method key salt binding payload room n s e =
     let e₁ = passed (sizes_fit method (length key) (length salt) && eqb (length binding) (length salt)) _ _ n s e in
@@ -232,3 +236,9 @@ response-sealable method key salt binding payload room n s e =
       space = z.space;
       held = key-held method key salt fit s.subkey z.words;
     }
+
+pub response-answered : (method : ℕ) (key salt binding : List ℕ) (payload room n : ℕ) (s : Sender) (r : Result (ℕ × Sender) Refusal)
+    → r ≡ response_answer method key salt binding payload room → r ≡ Ok (n, s)
+    → SealableResponse method key salt binding payload room n s
+response-answered method key salt binding payload room n s r e is =
+    response-sealable method key salt binding payload room n s (answered r _ n s e is)

@@ -4,7 +4,8 @@ use mathlib.Core.Path.{◌≡◌, refl, sym, ap, ◌∙◌}
 use mathlib.Core.List.{List, [], ◌∷◌, ◌++◌, append_assoc}
 use Prim.Native.Nat.{ℕ, ◌+◌, ◌-◌, ◌≤◌}
 use native.Mathlib.Omega.{arith}
-use lib.ListN.{length, take, drop, set, replicate, length-append, length-replicate}
+use lib.ListN.{length, take, drop, set, replicate, length-append, length-replicate, length-drop}
+use lib.Seq.{length-take-le}
 use Rattle.octets.specs.Buffers.{put}
 use Rattle.octets.specs.Numbers.{to_be}
 use Rattle.octets.proofs.BufferLaws.{put-behind, put_one}
@@ -16,6 +17,10 @@ use Rattle.stream_pieces.specs.Pieces.{seal_at, Keyed, keyed}
 use Rattle.stream_pieces.proofs.PieceLaws.{pair-law}
 use Rattle.stream_seal_heads.specs.HeadSealing.{fixed_part, front, variable_part, variable_length, request_at, request, response_of, response}
 use Rattle.stream_seal_heads.proofs.HeadLengthLaws.{length-fixed_part, length-variable_part}
+
+-- the part from a place up to n
+pub length-part : (n at : ℕ) (l : List ℕ) → n ≤ length l → length (take (n - at) (drop at l)) ≡ n - at
+length-part n at l h = length-take-le (n - at) (drop at l) (omega (arith, h, length-drop at l))
 
 -- ---- heads
 

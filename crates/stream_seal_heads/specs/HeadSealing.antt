@@ -1,5 +1,5 @@
 -- Sealing the head of a stream (SIP022, section 3.1): what is answered and what is written.
-use Rattle.std.specs.Prelude.{Bool, cond, ◌&&◌, List, [], ◌∷◌, ◌++◌, ℕ, ◌+◌, eqb, leb, ltb, length, replicate}
+use Rattle.std.specs.Prelude.{Bool, cond, ◌&&◌, List, [], ◌∷◌, ◌++◌, ℕ, ◌+◌, eqb, leb, ltb, length, replicate, Err, Result}
 use Rattle.octets.specs.Numbers.{to_be}
 use Rattle.protocol.specs.declared.Cipher.{Cipher}
 use Rattle.protocol.specs.declared.Refusal.TheVariants.{Settings, Argument, Empty}
@@ -7,12 +7,11 @@ use Rattle.protocol.specs.Method.{key_fits, salt_length}
 use Rattle.protocol.specs.Subkey.{subkey}
 use Rattle.socks5.specs.Address.{is_address}
 use Rattle.stream_seal.specs.declared.Sender.{Sender}
-use Rattle.stream_seal.specs.declared.Sealed.{Sealed}
-use Rattle.stream_seal.specs.declared.Sealed.TheVariants.{Refused}
 use Rattle.stream_pieces.specs.Framing.{is_empty}
 use Rattle.stream_pieces.specs.Pieces.{fixed_piece, seal_at, subkey_words, max_chunk, Keyed, keyed}
 use Rattle.stream_seal.specs.Sealing.{size_answer}
 use Rattle.stream_heads.specs.Heads.{max_padding}
+use Rattle.protocol.specs.declared.Refusal.{Refusal}
 
 -- ---- what is written
 
@@ -60,16 +59,16 @@ unfoldable pub padding_lawful : ℕ → ℕ → Bool
 padding_lawful padding payload = leb padding max_padding && ltb 0 (padding + payload)
 
 -- 1, 12, 2, 3
-unfoldable pub request_answer : ℕ → List ℕ → List ℕ → List ℕ → ℕ → ℕ → ℕ → Sealed
+unfoldable pub request_answer : ℕ → List ℕ → List ℕ → List ℕ → ℕ → ℕ → ℕ → Result (ℕ × Sender) Refusal
 request_answer method key salt address padding payload room =
     cond (sizes_fit method (length key) (length salt))
     (cond (is_address address && padding_lawful padding payload)
-    (size_answer max_chunk (variable_length (length address) padding payload) (length salt + fixed_piece) room (begun method key salt)) (Refused Argument))
-    (Refused Settings)
+    (size_answer max_chunk (variable_length (length address) padding payload) (length salt + fixed_piece) room (begun method key salt)) (Err Argument))
+    (Err Settings)
 
 -- 1, 14, 2, 3; the request's salt is as long as the response's
-unfoldable pub response_answer : ℕ → List ℕ → List ℕ → List ℕ → ℕ → ℕ → Sealed
+unfoldable pub response_answer : ℕ → List ℕ → List ℕ → List ℕ → ℕ → ℕ → Result (ℕ × Sender) Refusal
 response_answer method key salt binding payload room =
     cond (sizes_fit method (length key) (length salt) && eqb (length binding) (length salt))
-    (cond (is_empty payload) (Refused Empty)
-    (size_answer max_chunk payload (length salt + fixed_piece + length binding) room (begun method key salt))) (Refused Settings)
+    (cond (is_empty payload) (Err Empty)
+    (size_answer max_chunk payload (length salt + fixed_piece + length binding) room (begun method key salt))) (Err Settings)

@@ -4,16 +4,16 @@
 
 ghost use Rattle.std.specs.Prelude.{◌≡◌, [], ◌++◌, ◌+◌, ◌≤◌, min, length};
 ghost use Rattle.octets.specs.Buffers.{put};
-ghost use Rattle.aead.specs.Aead.{KeyFor, keyed};
 ghost use Rattle.protocol.specs.Method.{max_key, cipher_of};
-ghost use Rattle.stream_pieces.specs.Pieces.{tag_length, fixed_length, fixed_piece, seal_at, key_of, max_chunk};
+ghost use Rattle.stream_pieces.specs.Pieces.{tag_length, fixed_length, fixed_piece, seal_at, max_chunk};
+ghost use Rattle.stream_pieces.specs.PieceKeys.{keyed_of};
 ghost use Rattle.stream_seal.specs.Sealing.{seal_out};
 ghost use Rattle.stream_seal_heads.specs.HeadSealing.{fixed_part, variable_part, variable_length, request_at, request, response_of, response, begun, sizes_fit, padding_lawful, request_answer, response_answer};
 
-use protocol::{Cipher, Refusal};
+use protocol::Refusal;
 use stream_heads::MAX_PADDING;
-use stream_pieces::{FIXED_PIECE, MAX_CHUNK, Subkey, TAG, derive, seal_pair};
-use stream_seal::{Sealed, Sender, size_answer};
+use stream_pieces::{FIXED_PIECE, MAX_CHUNK, PieceKey, TAG, derive};
+use stream_seal::{Sender, size_answer};
 
 // How many bytes a request's two pieces have more than its variable header.
 const OVERHEAD: usize = FIXED_PIECE + TAG;
@@ -23,43 +23,25 @@ const OVERHEAD: usize = FIXED_PIECE + TAG;
 fn padding_lawful(padding: usize, payload: usize) -> bool
     ensures { result ≡ padding_lawful padding payload }
 {
-    if MAX_PADDING < padding {
-        return false;
-    }
-    if padding == 0 {
-        return 0 < payload;
-    }
-    true
+    padding <= MAX_PADDING && (0 < padding || 0 < payload)
 }
 
 // The length of the variable header, as far as one byte over the longest.
 fn variable_length(address: usize, padding: usize, payload: usize) -> usize
     ensures { result ≡ min (variable_length address padding payload) (max_chunk + 1) }
 {
-    if MAX_CHUNK < address {
-        return MAX_CHUNK + 1;
-    }
-    if MAX_CHUNK < padding {
-        return MAX_CHUNK + 1;
-    }
-    if MAX_CHUNK < payload {
-        return MAX_CHUNK + 1;
-    }
-    let v = address + 2 + padding + payload;
-    if MAX_CHUNK < v {
-        return MAX_CHUNK + 1;
-    }
-    v
+    address
+        .saturating_add(2)
+        .saturating_add(padding)
+        .saturating_add(payload)
+        .min(MAX_CHUNK + 1)
 }
 
 // Whether the key and a salt have the lengths of the method.
 fn sizes_fit(method: u64, key: usize, salt: usize) -> bool
     ensures { result ≡ sizes_fit method key salt }
 {
-    if protocol::key_fits(method, key) {
-        return salt == protocol::salt_length(method);
-    }
-    false
+    protocol::key_fits(method, key) && salt == protocol::salt_length(method)
 }
 
 // The stream behind a head.
@@ -69,7 +51,7 @@ fn begin(method: u64, key: &[u8], salt: &[u8]) -> Sender
     ensures { result ≡ begun method key.now salt.now }
 {
     Sender {
-        method: method,
+        method,
         counter: 2,
         subkey: derive(key, salt),
     }
@@ -84,26 +66,19 @@ fn request_answer(
     padding: usize,
     payload: usize,
     room: usize,
-) -> Sealed
+) -> Result<(usize, Sender), Refusal>
     ensures { result ≡ request_answer method key.now salt.now address.now padding payload
         room }
 {
-    if sizes_fit(method, key.len(), salt.len()) {
-        if socks5::is_address(address) {
-            if padding_lawful(padding, payload) {
-                let n = variable_length(address.len(), padding, payload);
-                return size_answer(
-                    MAX_CHUNK,
-                    n,
-                    salt.len() + FIXED_PIECE,
-                    room,
-                    begin(method, key, salt),
-                );
-            }
-        }
-        return Sealed::Refused(Refusal::Argument);
+    if !sizes_fit(method, key.len(), salt.len()) {
+        return Err(Refusal::Settings);
     }
-    Sealed::Refused(Refusal::Settings)
+    if !socks5::is_address(address) || !padding_lawful(padding, payload) {
+        return Err(Refusal::Argument);
+    }
+    let n = variable_length(address.len(), padding, payload);
+    let before = salt.len() + FIXED_PIECE;
+    size_answer(MAX_CHUNK, n, before, room, begin(method, key, salt))
 }
 
 // Refusals 1, 14, 2 and 3, in this order, or how many bytes are due.
@@ -114,22 +89,22 @@ fn response_answer(
     binding: &[u8],
     payload: usize,
     room: usize,
-) -> Sealed
+) -> Result<(usize, Sender), Refusal>
     ensures { result ≡ response_answer method key.now salt.now binding.now payload room }
 {
-    if sizes_fit(method, key.len(), salt.len()) {
-        if binding.len() == salt.len() {
-            if payload == 0 {
-                return Sealed::Refused(Refusal::Empty);
-            }
-            let before = salt.len() + FIXED_PIECE + binding.len();
-            return size_answer(MAX_CHUNK, payload, before, room, begin(method, key, salt));
-        }
+    if !sizes_fit(method, key.len(), salt.len()) || binding.len() != salt.len() {
+        return Err(Refusal::Settings);
     }
-    Sealed::Refused(Refusal::Settings)
+    if payload == 0 {
+        return Err(Refusal::Empty);
+    }
+    let before = salt.len() + FIXED_PIECE + binding.len();
+    size_answer(MAX_CHUNK, payload, before, room, begin(method, key, salt))
 }
 
 // ---- what is written
+
+// Address, padding and payload of a request stand apart: of a struct that borrows them a promise says `header.entry.address.now`.
 
 // The fixed header.
 fn write_fixed(out: &mut [u8], kind: u8, clock: u64, binding: &[u8], n: u16)
@@ -155,84 +130,67 @@ fn write_variable(out: &mut [u8], at: usize, address: &[u8], padding: usize, pay
     octets::copy(out, behind + 2 + padding, payload);
 }
 
-// A request's two headers, sealed in the buffer that they fill, under a key of k bytes.
+// A request's two headers, sealed in the buffer that they fill.
 fn seal_request_headers(
     body: &mut [u8],
-    cipher: Cipher,
-    w: Subkey,
-    k: usize,
+    key: PieceKey,
     clock: u64,
     address: &[u8],
     padding: usize,
     payload: &[u8],
 )
-    requires key_for { KeyFor cipher k }
     requires payload_bound { variable_length (length address.now) padding (length payload.now) ≤ max_chunk }
     requires body_len { length body.old
         ≡ fixed_piece + variable_length (length address.now) padding (length payload.now) + tag_length }
     ensures { body.new
-        ≡ seal_at (keyed cipher (key_of w k)) 0
+        ≡ seal_at (keyed_of key) 0
         (fixed_part 0 clock [] (length (variable_part address.now padding payload.now)))
-        ++ seal_at (keyed cipher (key_of w k)) 1 (variable_part address.now padding payload.now) }
+        ++ seal_at (keyed_of key) 1 (variable_part address.now padding payload.now) }
 {
     let v = body.len() - OVERHEAD;
     write_fixed(body, 0, clock, &address[..0], v as u16);
     write_variable(body, FIXED_PIECE, address, padding, payload);
-    seal_pair(cipher, w, k, 0, FIXED_PIECE, body);
+    key.seal_pair(0, FIXED_PIECE, body);
 }
 
-// A response's header and first payload, sealed in the buffer that they fill, under a key of k bytes.
-fn seal_response_headers(
-    body: &mut [u8],
-    cipher: Cipher,
-    w: Subkey,
-    k: usize,
-    clock: u64,
-    binding: &[u8],
-    payload: &[u8],
-)
-    requires key_for { KeyFor cipher k }
+// A response's header and first payload, sealed in the buffer that they fill.
+fn seal_response_headers(body: &mut [u8], key: PieceKey, clock: u64, binding: &[u8], payload: &[u8])
     requires binding_len_bound { length binding.now ≤ max_key }
     requires payload_len_bound { length payload.now ≤ max_chunk }
     requires body_len { length body.old ≡ fixed_piece + length binding.now + length payload.now + tag_length }
     ensures { body.new
-        ≡ seal_at (keyed cipher (key_of w k)) 0 (fixed_part 1 clock binding.now (length payload.now))
-        ++ seal_at (keyed cipher (key_of w k)) 1 payload.now }
+        ≡ seal_at (keyed_of key) 0 (fixed_part 1 clock binding.now (length payload.now))
+        ++ seal_at (keyed_of key) 1 payload.now }
 {
     let at = FIXED_PIECE + binding.len();
     write_fixed(body, 1, clock, binding, payload.len() as u16);
     octets::copy(body, at, payload);
-    seal_pair(cipher, w, k, 0, at, body);
+    key.seal_pair(0, at, body);
 }
 
-// The head of a request, of n bytes, to the front of a buffer. The key is as long as the salt.
+// The head of a request, of n bytes, to the front of a buffer.
 fn write_request(
     out: &mut [u8],
     n: usize,
-    cipher: Cipher,
-    w: Subkey,
+    key: PieceKey,
     salt: &[u8],
     clock: u64,
     address: &[u8],
     padding: usize,
     payload: &[u8],
 )
-    requires key_for { KeyFor cipher (length salt.now) }
     requires payload_bound { variable_length (length address.now) padding (length payload.now) ≤ max_chunk }
     requires n_value { n ≡ length salt.now + fixed_piece + variable_length (length address.now) padding (length payload.now) +
         tag_length }
     requires n_in_bounds { n ≤ length out.old }
     ensures { out.new
-        ≡ put out.old 0 (request_at (keyed cipher (key_of w (length salt.now))) salt.now clock
+        ≡ put out.old 0 (request_at (keyed_of key) salt.now clock
         address.now padding payload.now) }
 {
-    let k = salt.len();
     octets::copy(out, 0, salt);
     seal_request_headers(
-        &mut out[k..n],
-        cipher,
-        w,
-        k,
+        &mut out[salt.len()..n],
+        key,
         clock,
         address,
         padding,
@@ -244,25 +202,23 @@ fn write_request(
 fn write_response(
     out: &mut [u8],
     n: usize,
-    cipher: Cipher,
-    w: Subkey,
+    key: PieceKey,
     salt: &[u8],
     binding: &[u8],
     clock: u64,
     payload: &[u8],
 )
-    requires key_for { KeyFor cipher (length salt.now) }
+    requires key_len { key.length ≡ length salt.now }
     requires binding_len { length binding.now ≡ length salt.now }
     requires payload_len_bound { length payload.now ≤ max_chunk }
     requires n_value { n ≡ length salt.now + fixed_piece + length binding.now + length payload.now + tag_length }
     requires n_in_bounds { n ≤ length out.old }
     ensures { out.new
-        ≡ put out.old 0 (response_of (keyed cipher (key_of w (length salt.now))) salt.now binding.now
+        ≡ put out.old 0 (response_of (keyed_of key) salt.now binding.now
         clock payload.now) }
 {
-    let k = salt.len();
     octets::copy(out, 0, salt);
-    seal_response_headers(&mut out[k..n], cipher, w, k, clock, binding, payload);
+    seal_response_headers(&mut out[salt.len()..n], key, clock, binding, payload);
 }
 
 // ---- the whole
@@ -278,14 +234,14 @@ pub fn seal_request(
     padding: usize,
     payload: &[u8],
     out: &mut [u8],
-) -> Sealed
+) -> Result<(usize, Sender), Refusal>
     ensures value { result ≡ request_answer method key.now salt.now address.now padding
         (length payload.now) (length out.old) }
     ensures out_after { out.new
         ≡ seal_out result (request (cipher_of method) key.now salt.now clock address.now padding payload.now)
         out.old }
 {
-    let answer = request_answer(
+    let (n, stream) = request_answer(
         method,
         key,
         salt,
@@ -293,16 +249,14 @@ pub fn seal_request(
         padding,
         payload.len(),
         out.len(),
-    );
-    match answer {
-        Sealed::Bytes(n, stream) => {
-            let cipher = protocol::cipher_of(method);
-            let w = stream.subkey;
-            write_request(out, n, cipher, w, salt, clock, address, padding, payload);
-            answer
-        }
-        Sealed::Refused(_) => answer,
-    }
+    )?;
+    let key = PieceKey {
+        cipher: protocol::cipher_of(method),
+        subkey: stream.subkey,
+        length: salt.len(),
+    };
+    write_request(out, n, key, salt, clock, address, padding, payload);
+    Ok((n, stream))
 }
 
 // Seals the head of a response to the request with this salt, with the first payload, which may not be empty, to the front of
@@ -315,21 +269,19 @@ pub fn seal_response(
     clock: u64,
     payload: &[u8],
     out: &mut [u8],
-) -> Sealed
+) -> Result<(usize, Sender), Refusal>
     ensures value { result ≡ response_answer method key.now salt.now binding.now
         (length payload.now) (length out.old) }
     ensures out_after { out.new
         ≡ seal_out result (response (cipher_of method) key.now salt.now binding.now clock payload.now)
         out.old }
 {
-    let answer = response_answer(method, key, salt, binding, payload.len(), out.len());
-    match answer {
-        Sealed::Bytes(n, stream) => {
-            let cipher = protocol::cipher_of(method);
-            let w = stream.subkey;
-            write_response(out, n, cipher, w, salt, binding, clock, payload);
-            answer
-        }
-        Sealed::Refused(_) => answer,
-    }
+    let (n, stream) = response_answer(method, key, salt, binding, payload.len(), out.len())?;
+    let key = PieceKey {
+        cipher: protocol::cipher_of(method),
+        subkey: stream.subkey,
+        length: salt.len(),
+    };
+    write_response(out, n, key, salt, binding, clock, payload);
+    Ok((n, stream))
 }

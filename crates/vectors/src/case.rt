@@ -1,7 +1,5 @@
 // A case: the bytes of a group from its record on. A record is seven fields, each the place (4) and the length (4) of a string behind
 // it, counted from the record. What is not there is an empty string, or 0.
-ghost use Rattle.std.specs.Prelude.{◌≤◌};
-
 // The length of a record.
 const RECORD: usize = 56;
 
@@ -41,21 +39,9 @@ pub(crate) const METHOD: usize = 64;
 
 pub(crate) const CLOCK: usize = 72;
 
-pub(crate) fn least(a: usize, b: usize) -> usize
-    ensures { result ≤ b }
-{
-    if a < b { a } else { b }
-}
-
 // The n bytes of a string from a place on.
 fn part(s: &[u8], from: usize, n: usize) -> &[u8] {
-    if s.len() < from {
-        return &s[..0];
-    }
-    if s.len() - from < n {
-        return &s[..0];
-    }
-    &s[from..from + n]
+    s.get(from..).and_then(|rest| rest.get(..n)).unwrap_or(&[])
 }
 
 pub(crate) fn field(c: &[u8], at: usize) -> &[u8] {

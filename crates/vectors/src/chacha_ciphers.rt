@@ -1,5 +1,5 @@
 // Calls of ChaCha, HChaCha, Poly1305 and their AEAD, by a number of double rounds. Each answers 0, or 1 for what is not authentic or
-// has not the room.
+// has not the room. Calls of one shape stay apart: each is of another function.
 use crate::case::{DATA, KEY, SALT, field, number, size};
 use crate::ciphers::{fits, refused_unless};
 use chacha_poly::TAG;
@@ -110,29 +110,15 @@ fn open_extended(c: &[u8], out: &mut [u8]) -> u64 {
 }
 
 pub(crate) fn call(c: &[u8], kind: u64, out: &mut [u8]) -> u64 {
-    if kind == ENCRYPT {
-        return encrypt(c, out);
+    match kind {
+        ENCRYPT => encrypt(c, out),
+        BLOCK => block(c, out),
+        DERIVE => derive(c, out),
+        AUTHENTICATE => authenticate(c, out),
+        AUTHENTICATE_AEAD => authenticate_aead(c, out),
+        SEAL => seal(c, out),
+        OPEN => open(c, out),
+        SEAL_EXTENDED => seal_extended(c, out),
+        _ => open_extended(c, out),
     }
-    if kind == BLOCK {
-        return block(c, out);
-    }
-    if kind == DERIVE {
-        return derive(c, out);
-    }
-    if kind == AUTHENTICATE {
-        return authenticate(c, out);
-    }
-    if kind == AUTHENTICATE_AEAD {
-        return authenticate_aead(c, out);
-    }
-    if kind == SEAL {
-        return seal(c, out);
-    }
-    if kind == OPEN {
-        return open(c, out);
-    }
-    if kind == SEAL_EXTENDED {
-        return seal_extended(c, out);
-    }
-    open_extended(c, out)
 }

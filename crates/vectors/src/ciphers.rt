@@ -41,8 +41,7 @@ fn decrypt(c: &[u8], out: &mut [u8]) -> u64 {
 
 fn derive(c: &[u8], out: &mut [u8]) -> u64 {
     let d = blake3::derive_key(field(c, SALT), field(c, DATA));
-    let bytes = d.bytes;
-    fits(out, &bytes);
+    fits(out, &d.bytes);
     refused_unless(d.ok)
 }
 
@@ -62,9 +61,9 @@ fn seal(c: &[u8], out: &mut [u8]) -> u64 {
 
 fn open(c: &[u8], out: &mut [u8]) -> u64 {
     match gcm::open(field(c, KEY), field(c, SALT), field(c, DATA), out) {
-        gcm::Opened::Text => 0,
-        gcm::Opened::Forged => 1,
-        gcm::Opened::Unlawful => 2,
+        Ok(()) => 0,
+        Err(gcm::OpenError::Forged) => 1,
+        Err(gcm::OpenError::Unlawful) => 2,
     }
 }
 
@@ -72,24 +71,15 @@ fn open(c: &[u8], out: &mut [u8]) -> u64 {
 fn write_schedule(out: &mut [u8], w: &[u32; 60])
     requires { length out.old ≡ 240 }
 {
-    for i in 0..60 {
-        octets::write_u32_le(out, 4 * i, w[i]);
+    for (i, word) in w.iter().enumerate() {
+        octets::write_u32_le(out, 4 * i, *word);
     }
 }
 
 fn expand(c: &[u8], out: &mut [u8]) -> u64 {
     let key = field(c, KEY);
     let nk = key.len() / 4;
-    if nk < 4 {
-        return 1;
-    }
-    if 8 < nk {
-        return 1;
-    }
-    if key.len() != 4 * nk {
-        return 1;
-    }
-    if out.len() != 240 {
+    if nk < 4 || 8 < nk || key.len() != 4 * nk || out.len() != 240 {
         return 1;
     }
     let sbox = aes_tables::sbox();
@@ -99,23 +89,13 @@ fn expand(c: &[u8], out: &mut [u8]) -> u64 {
 }
 
 pub(crate) fn call(c: &[u8], kind: u64, out: &mut [u8]) -> u64 {
-    if kind == ENCRYPT {
-        return encrypt(c, out);
+    match kind {
+        ENCRYPT => encrypt(c, out),
+        DECRYPT => decrypt(c, out),
+        DERIVE => derive(c, out),
+        DERIVE_SUBKEY => derive_subkey(c, out),
+        EXPAND => expand(c, out),
+        SEAL => seal(c, out),
+        _ => open(c, out),
     }
-    if kind == DECRYPT {
-        return decrypt(c, out);
-    }
-    if kind == DERIVE {
-        return derive(c, out);
-    }
-    if kind == DERIVE_SUBKEY {
-        return derive_subkey(c, out);
-    }
-    if kind == EXPAND {
-        return expand(c, out);
-    }
-    if kind == SEAL {
-        return seal(c, out);
-    }
-    open(c, out)
 }

@@ -1,8 +1,10 @@
 // Calls about datagrams. Each answers 0 or the number of a refusal, and writes its values into an answer of 9 words.
 use crate::case::{CLOCK, DATA, KEY, METHOD, OTHER, SALT, field, number, size};
+use crate::ciphers::refused_unless;
 use crate::memory::{put, set};
-use datagram_open::Opened;
-use datagram_seal::{Begun, Sealed, Sealing, Sender};
+use datagram_read::Header;
+use datagram_seal::{Sealing, Sender};
+use protocol::Refusal;
 use session_table::Peer;
 
 // The kinds of calls.
@@ -58,21 +60,19 @@ fn seal(c: &[u8], out: &mut [u8]) -> Sealing {
 
 // The datagram's length, and the sending session.
 fn write_sealing(done: Sealing, answer: &mut [u64]) -> u64 {
-    let next = done.sender;
-    let sealed = done.answer;
-    put(answer, 1, &words::session_words(next));
-    match sealed {
-        Sealed::Datagram(n) => {
+    put(answer, 1, &words::session_words(done.sender));
+    match done.answer {
+        Ok(n) => {
             set(answer, 0, n as u64);
             0
         }
-        Sealed::Refused(r) => r.number(),
+        Err(r) => r.number(),
     }
 }
 
-fn begun(c: &[u8], table: &[u64]) -> Begun {
+fn begun(c: &[u8], table: &[u64]) -> Result<Sender, Refusal> {
     if number(c, SIDE) == 0 {
-        return Begun::Ready(Sender::client(number(c, ID)));
+        return Ok(Sender::client(number(c, ID)));
     }
     reply_session::begin_reply(number(c, ID), number(c, CLIENT), number(c, CLOCK), table)
 }
@@ -80,19 +80,16 @@ fn begun(c: &[u8], table: &[u64]) -> Begun {
 // The sending session.
 fn begin(c: &[u8], table: &[u64], answer: &mut [u64]) -> u64 {
     match begun(c, table) {
-        Begun::Ready(next) => {
+        Ok(next) => {
             put(answer, 1, &words::session_words(next));
             0
         }
-        Begun::Refused(r) => r.number(),
+        Err(r) => r.number(),
     }
 }
 
 fn make(c: &[u8], table: &mut [u64]) -> u64 {
-    if session_table::make(number(c, RETENTION), table) {
-        return 0;
-    }
-    1
+    refused_unless(session_table::make(number(c, RETENTION), table))
 }
 
 fn peer(c: &[u8]) -> Peer {
@@ -103,7 +100,7 @@ fn peer(c: &[u8]) -> Peer {
     }
 }
 
-fn open_server(c: &[u8], table: &mut [u64], out: &mut [u8]) -> Opened {
+fn open_server(c: &[u8], table: &mut [u64], out: &mut [u8]) -> Result<Header, Refusal> {
     datagram_open::open_server(
         number(c, METHOD),
         field(c, KEY),
@@ -115,7 +112,7 @@ fn open_server(c: &[u8], table: &mut [u64], out: &mut [u8]) -> Opened {
     )
 }
 
-fn open_client(c: &[u8], table: &mut [u64], out: &mut [u8]) -> Opened {
+fn open_client(c: &[u8], table: &mut [u64], out: &mut [u8]) -> Result<Header, Refusal> {
     datagram_open::open_client(
         number(c, METHOD),
         field(c, KEY),
@@ -131,21 +128,18 @@ fn open_client(c: &[u8], table: &mut [u64], out: &mut [u8]) -> Opened {
 // Where the payload begins that is shown of a plaintext.
 fn payload_place(plain: &[u8], place: usize) -> usize {
     let shown = datagram_open::payload(plain, place);
-    if plain.len() < shown.len() {
-        return 0;
-    }
-    plain.len() - shown.len()
+    plain.len().saturating_sub(shown.len())
 }
 
 // The header, with the place of the payload as it is shown.
-fn write_opened(opened: Opened, plain: &[u8], answer: &mut [u64]) -> u64 {
+fn write_opened(opened: Result<Header, Refusal>, plain: &[u8], answer: &mut [u64]) -> u64 {
     match opened {
-        Opened::Datagram(h) => {
+        Ok(h) => {
             put(answer, 0, &words::header_words(h));
             set(answer, 8, payload_place(plain, h.payload) as u64);
             0
         }
-        Opened::Refused(r) => r.number(),
+        Err(r) => r.number(),
     }
 }
 
@@ -156,19 +150,17 @@ pub(crate) fn call(
     out: &mut [u8],
     answer: &mut [u64],
 ) -> u64 {
-    if kind == SEAL {
-        return write_sealing(seal(c, out), answer);
+    match kind {
+        SEAL => write_sealing(seal(c, out), answer),
+        BEGIN => begin(c, table, answer),
+        MAKE => make(c, table),
+        OPEN_SERVER => {
+            let opened = open_server(c, table, out);
+            write_opened(opened, out, answer)
+        }
+        _ => {
+            let opened = open_client(c, table, out);
+            write_opened(opened, out, answer)
+        }
     }
-    if kind == BEGIN {
-        return begin(c, table, answer);
-    }
-    if kind == MAKE {
-        return make(c, table);
-    }
-    if kind == OPEN_SERVER {
-        let opened = open_server(c, table, out);
-        return write_opened(opened, out, answer);
-    }
-    let opened = open_client(c, table, out);
-    write_opened(opened, out, answer)
 }

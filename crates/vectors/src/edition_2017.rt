@@ -1,8 +1,7 @@
 // Calls of the 2017 edition: about datagrams, and about streams on the eight words of each. Each answers 0 or the number of a refusal,
-// and writes its values into an answer of 9 words.
+// and writes its values into an answer of 9 words. Calls of one shape stay apart: each is of another function.
 use crate::case::{DATA, KEY, METHOD, SALT, field, number};
 use crate::memory::set;
-use sip004::{Opened, Sealed};
 use sip004_stream::framing_of;
 use stream_answers::{open_on, seal_on, write_receiver, write_sender};
 use words::method_in;
@@ -27,22 +26,22 @@ fn seal_datagram(c: &[u8], out: &mut [u8], answer: &mut [u64]) -> u64 {
         field(c, DATA),
         out,
     ) {
-        Sealed::Datagram(n) => {
+        Ok(n) => {
             set(answer, 0, n as u64);
             0
         }
-        Sealed::Refused(r) => r.number(),
+        Err(r) => r.number(),
     }
 }
 
 // The length of what was sealed.
 fn open_datagram(c: &[u8], out: &mut [u8], answer: &mut [u64]) -> u64 {
     match sip004::open(number(c, METHOD), field(c, KEY), field(c, DATA), out) {
-        Opened::Text(n) => {
+        Ok(n) => {
             set(answer, 0, n as u64);
             0
         }
-        Opened::Refused(r) => r.number(),
+        Err(r) => r.number(),
     }
 }
 
@@ -87,20 +86,12 @@ pub(crate) fn call(
     stream: &mut [u64],
     answer: &mut [u64],
 ) -> u64 {
-    if kind == SEAL_DATAGRAM {
-        return seal_datagram(c, out, answer);
+    match kind {
+        SEAL_DATAGRAM => seal_datagram(c, out, answer),
+        OPEN_DATAGRAM => open_datagram(c, out, answer),
+        BEGIN_SEALING => begin_sealing(c, stream),
+        BEGIN_OPENING => begin_opening(c, stream),
+        SEAL_CHUNK => seal_chunk(c, out, stream, answer),
+        _ => open_chunk(c, out, stream, answer),
     }
-    if kind == OPEN_DATAGRAM {
-        return open_datagram(c, out, answer);
-    }
-    if kind == BEGIN_SEALING {
-        return begin_sealing(c, stream);
-    }
-    if kind == BEGIN_OPENING {
-        return begin_opening(c, stream);
-    }
-    if kind == SEAL_CHUNK {
-        return seal_chunk(c, out, stream, answer);
-    }
-    open_chunk(c, out, stream, answer)
 }

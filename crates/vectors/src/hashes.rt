@@ -29,14 +29,10 @@ fn derive(c: &[u8], out: &mut [u8]) -> u64 {
 }
 
 pub(crate) fn call(c: &[u8], kind: u64, out: &mut [u8]) -> u64 {
-    if kind == HASH {
-        return hash(c, out);
+    match kind {
+        HASH => hash(c, out),
+        AUTHENTICATE => authenticate(c, out),
+        EXTRACT => extract(c, out),
+        _ => derive(c, out),
     }
-    if kind == AUTHENTICATE {
-        return authenticate(c, out);
-    }
-    if kind == EXTRACT {
-        return extract(c, out);
-    }
-    derive(c, out)
 }

@@ -16,7 +16,7 @@ mod tally;
 
 ghost use Rattle.std.specs.Prelude.{◌≡◌, length};
 
-use case::{COUNT, COUNTER, KIND, LENT, OUTPUT, ROOM, STREAM, field, least, number, size};
+use case::{COUNT, COUNTER, KIND, LENT, OUTPUT, ROOM, STREAM, field, number, size};
 use reading::read_full;
 use std::io::Read;
 use std::rt::Files;
@@ -90,7 +90,7 @@ fn lend(c: &[u8], words: &mut [u64], out: &mut [u8], stream: &mut [u64], answer:
     requires stream_len { length stream.old ≡ 8 }
     requires answer_len { length answer.old ≡ 9 }
 {
-    let n = least(size(c, LENT), words.len());
+    let n = size(c, LENT).min(words.len());
     answer_to(c, number(c, KIND), &mut words[..n], out, stream, answer)
 }
 
@@ -128,7 +128,7 @@ fn leaves(c: &[u8], words: &mut [u64], out: &mut [u8]) -> bool {
 
 // The same in the front of a longer buffer.
 fn leaves_in(c: &[u8], words: &mut [u64], out: &mut [u8]) -> bool {
-    let room = least(size(c, ROOM), out.len());
+    let room = size(c, ROOM).min(out.len());
     leaves(c, words, &mut out[..room])
 }
 
@@ -136,10 +136,7 @@ fn leaves_in(c: &[u8], words: &mut [u64], out: &mut [u8]) -> bool {
 fn agrees(c: &[u8], words: &mut [u64], expected: &mut [u64]) -> bool {
     let mut out = [FILL; BUFFER];
     memory::expect(expected, c);
-    if leaves_in(c, words, &mut out) {
-        return memory::same(words, expected);
-    }
-    false
+    leaves_in(c, words, &mut out) && *words == *expected
 }
 
 // The cases of a group, on the same words.
@@ -192,7 +189,7 @@ fn next_group(
     head: &[u8],
     buf: &mut [u8],
 ) -> io::Result<Tally> {
-    let n = least(group_length(file)?, buf.len());
+    let n = group_length(file)?.min(buf.len());
     read_group(rt, file, head, &mut buf[..n])
 }
 

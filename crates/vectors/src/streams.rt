@@ -1,10 +1,12 @@
 // Calls about streams, each on the eight words of a stream. Each answers 0 or the number of a refusal, and writes its values into an
-// answer of 9 words.
+// answer of 9 words. Calls of one shape stay apart: each is of another function.
 ghost use Rattle.std.specs.Prelude.{◌≡◌, length};
 
 use crate::case::{CLOCK, DATA, KEY, METHOD, OTHER, SALT, field, number, size};
+use crate::ciphers::refused_unless;
+use protocol::Refusal;
 use stream_answers::{write_request, write_response, write_sealed, write_step, write_variable};
-use stream_seal::Sealed;
+use stream_seal::Sender;
 
 // The kinds of calls.
 const SEAL_REQUEST: u64 = 32;
@@ -24,7 +26,7 @@ const OPEN_VARIABLE: u64 = 39;
 // The number of a request that is sealed.
 const PADDING: usize = 80;
 
-fn seal_request(c: &[u8], out: &mut [u8]) -> Sealed {
+fn seal_request(c: &[u8], out: &mut [u8]) -> Result<(usize, Sender), Refusal> {
     stream_seal_heads::seal_request(
         number(c, METHOD),
         field(c, KEY),
@@ -37,7 +39,7 @@ fn seal_request(c: &[u8], out: &mut [u8]) -> Sealed {
     )
 }
 
-fn seal_response(c: &[u8], out: &mut [u8]) -> Sealed {
+fn seal_response(c: &[u8], out: &mut [u8]) -> Result<(usize, Sender), Refusal> {
     stream_seal_heads::seal_response(
         number(c, METHOD),
         field(c, KEY),
@@ -49,7 +51,7 @@ fn seal_response(c: &[u8], out: &mut [u8]) -> Sealed {
     )
 }
 
-fn seal(c: &[u8], kind: u64, stream: &[u64], out: &mut [u8]) -> Sealed
+fn seal(c: &[u8], kind: u64, stream: &[u64], out: &mut [u8]) -> Result<(usize, Sender), Refusal>
     requires { length stream.now ≡ 8 }
 {
     if kind == SEAL_REQUEST {
@@ -106,10 +108,7 @@ fn open_chunk(c: &[u8], out: &mut [u8], stream: &mut [u64], answer: &mut [u64]) 
 }
 
 fn make(c: &[u8], pool: &mut [u64]) -> u64 {
-    if salt_pool::make(number(c, METHOD), pool) {
-        return 0;
-    }
-    1
+    refused_unless(salt_pool::make(number(c, METHOD), pool))
 }
 
 pub(crate) fn call(

@@ -1,5 +1,5 @@
 // What has been compared.
-use crate::case::{field, least};
+use crate::case::field;
 use std::io;
 use std::io::Write;
 
@@ -10,27 +10,24 @@ const DIFFER: usize = 4;
 
 fn add(t: Tally, counter: usize, n: u64) -> Tally {
     let mut sum = t;
-    let i = least(counter, DIFFER);
-    sum[i] = std::num::wrapping_add_u64(sum[i], n);
+    let i = counter.min(DIFFER);
+    sum[i] = sum[i].wrapping_add(n);
     sum
 }
 
 // With one more case, which counts n times.
 pub(crate) fn counted(t: Tally, counter: usize, n: u64, same: bool) -> Tally {
     let sum = add(t, counter, n);
-    if same {
-        return sum;
-    }
-    add(sum, DIFFER, 1)
+    if same { sum } else { add(sum, DIFFER, 1) }
 }
 
 pub(crate) fn sum(a: Tally, b: Tally) -> Tally {
     [
-        std::num::wrapping_add_u64(a[0], b[0]),
-        std::num::wrapping_add_u64(a[1], b[1]),
-        std::num::wrapping_add_u64(a[2], b[2]),
-        std::num::wrapping_add_u64(a[3], b[3]),
-        std::num::wrapping_add_u64(a[4], b[4]),
+        a[0].wrapping_add(b[0]),
+        a[1].wrapping_add(b[1]),
+        a[2].wrapping_add(b[2]),
+        a[3].wrapping_add(b[3]),
+        a[4].wrapping_add(b[4]),
     ]
 }
 
@@ -44,8 +41,8 @@ fn print_count(rt: &impl Print, n: u64, name: &[u8]) -> io::Result<()> {
 }
 
 fn print_counts(rt: &impl Print, head: &[u8], t: Tally) -> io::Result<()> {
-    for i in 0..4 {
-        print_count(rt, t[i], field(head, 16 + 8 * i))?;
+    for (i, n) in t.iter().take(DIFFER).enumerate() {
+        print_count(rt, *n, field(head, 16 + 8 * i))?;
     }
     Ok(())
 }

@@ -1,4 +1,2 @@
 pub mod LentLaws
-mod AnswerLaws
-mod StateLaws
 pub mod HeldLaws

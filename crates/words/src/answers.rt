@@ -3,6 +3,7 @@ ghost use Rattle.std.specs.Prelude.{◌≡◌, length};
 ghost use Rattle.words.specs.Answers.{answer_words, kind_of, first_of, second_of, header_words, variable_words, head_words, chunk_words, adds, refused_answer};
 ghost use Rattle.protocol.specs.Refusal.{refusal_number};
 
+use super::ANSWER;
 use datagram_read::Header;
 use protocol::Refusal;
 use socks5::Target;
@@ -43,14 +44,13 @@ pub fn second(target: Target) -> u64
 }
 
 // An opened datagram.
-pub fn header_words(h: Header) -> [u64; 9]
+pub fn header_words(h: Header) -> [u64; ANSWER]
     ensures { result ≡ header_words h }
 {
-    let target = h.target;
     [
-        kind(target),
-        first(target),
-        second(target),
+        kind(h.target),
+        first(h.target),
+        second(h.target),
         h.port as u64,
         h.session,
         h.packet,
@@ -64,11 +64,10 @@ pub fn header_words(h: Header) -> [u64; 9]
 pub fn variable_words(h: VariableHeader) -> [u64; 8]
     ensures { result ≡ variable_words h }
 {
-    let target = h.target;
     [
-        kind(target),
-        first(target),
-        second(target),
+        kind(h.target),
+        first(h.target),
+        second(h.target),
         h.port as u64,
         h.padding as u64,
         h.payload as u64,
@@ -95,13 +94,11 @@ pub fn chunk_words(c: Chunk) -> [u64; 2]
 fn adds(number: u64) -> bool
     ensures { result ≡ adds number }
 {
-    if number == 10 {
-        return true;
-    }
-    number == 15
+    number == 10 || number == 15
 }
 
 // The number of a refusal; number 10 adds how many bytes are wanted in all, and 15 the setting's number.
+#[tactic(auto, unfolding(crate::specs::Answers::refused_answer))]
 pub fn refuse(refusal: Refusal, answer: &mut [u64]) -> u64
     requires { length answer.old ≡ answer_words }
     ensures value { result ≡ refusal_number refusal }

@@ -22,7 +22,7 @@ pub const SESSION: usize = 4;
 // The words of a stream.
 pub const STREAM: usize = 8;
 
-// A stream's first word, its turn.
+// A stream's first word, its turn: numbers, since C holds and lends a stream as words.
 pub const ENDED: u64 = 0;
 
 pub const LENGTH_NEXT: u64 = 1;

@@ -8,7 +8,7 @@ use datagram_parts::Side;
 use stream_open::{Receiver, Turn};
 use stream_pieces::Subkey;
 
-// A sending session's side.
+// A sending session's side, as C holds it.
 const CLIENT: u64 = 0;
 
 const SERVER: u64 = 1;
@@ -16,24 +16,23 @@ const SERVER: u64 = 1;
 // The longest variable header or payload.
 const MAX_LENGTH: u64 = 65535;
 
+// C lends slices of any length: is_session and is_receiver test it, and the functions behind them ask for it in a clause.
+
 // ---- sending sessions
 
 pub fn is_session(words: &[u64]) -> bool
     ensures { result ≡ session_lawful words.now }
 {
-    if words.len() != SESSION {
-        return false;
-    }
-    words[0] <= SERVER
+    words.len() == SESSION && words[0] <= SERVER
 }
 
 fn side_of(side: u64, client: u64) -> Side
     ensures { result ≡ side_in side client }
 {
-    if side == CLIENT {
-        return Side::Client;
+    match side {
+        CLIENT => Side::Client,
+        _ => Side::Server(client),
     }
-    Side::Server(client)
 }
 
 pub fn session_in(words: &[u64]) -> datagram_seal::Sender
@@ -47,11 +46,10 @@ pub fn session_in(words: &[u64]) -> datagram_seal::Sender
     }
 }
 
-pub fn session_words(s: datagram_seal::Sender) -> [u64; 4]
+pub fn session_words(s: datagram_seal::Sender) -> [u64; SESSION]
     ensures { result ≡ session_words s }
 {
-    let side = s.side;
-    match side {
+    match s.side {
         Side::Client => [CLIENT, s.id, 0, s.packet],
         Side::Server(client) => [SERVER, s.id, client, s.packet],
     }
@@ -63,10 +61,7 @@ pub fn session_words(s: datagram_seal::Sender) -> [u64; 4]
 pub fn method_in(words: &[u64]) -> u64
     ensures { result ≡ method_in words.now }
 {
-    if words.len() < 2 {
-        return 0;
-    }
-    words[1]
+    words.get(1).copied().unwrap_or(0)
 }
 
 fn subkey_in(words: &[u64]) -> Subkey
@@ -93,7 +88,7 @@ pub fn sender_in(words: &[u64]) -> stream_seal::Sender
     }
 }
 
-pub fn sender_words(s: stream_seal::Sender) -> [u64; 8]
+pub fn sender_words(s: stream_seal::Sender) -> [u64; STREAM]
     ensures { result ≡ sender_words s }
 {
     let w = s.subkey;
@@ -107,28 +102,21 @@ pub fn is_receiver(words: &[u64]) -> bool
     if words.len() != STREAM {
         return false;
     }
-    if words[0] == PAYLOAD_NEXT {
-        return words[3] <= MAX_LENGTH;
+    match words[0] {
+        PAYLOAD_NEXT | VARIABLE_NEXT => words[3] <= MAX_LENGTH,
+        turn => turn <= LENGTH_NEXT,
     }
-    if words[0] == VARIABLE_NEXT {
-        return words[3] <= MAX_LENGTH;
-    }
-    words[0] <= LENGTH_NEXT
 }
 
 fn turn_in(turn: u64, n: u64) -> Turn
     ensures { result ≡ turn_in turn n }
 {
-    if turn == LENGTH_NEXT {
-        return Turn::Length;
+    match turn {
+        LENGTH_NEXT => Turn::Length,
+        PAYLOAD_NEXT => Turn::Payload((n % 65536) as u16),
+        VARIABLE_NEXT => Turn::Variable((n % 65536) as u16),
+        _ => Turn::Ended,
     }
-    if turn == PAYLOAD_NEXT {
-        return Turn::Payload((n % 65536) as u16);
-    }
-    if turn == VARIABLE_NEXT {
-        return Turn::Variable((n % 65536) as u16);
-    }
-    Turn::Ended
 }
 
 pub fn receiver_in(words: &[u64]) -> Receiver
@@ -158,23 +146,20 @@ fn turn_length(turn: Turn) -> u64
     ensures { result ≡ turn_length turn }
 {
     match turn {
-        Turn::Length => 0,
-        Turn::Payload(n) => n as u64,
-        Turn::Ended => 0,
-        Turn::Variable(n) => n as u64,
+        Turn::Payload(n) | Turn::Variable(n) => n as u64,
+        Turn::Length | Turn::Ended => 0,
     }
 }
 
-pub fn receiver_words(s: Receiver) -> [u64; 8]
+pub fn receiver_words(s: Receiver) -> [u64; STREAM]
     ensures { result ≡ receiver_words s }
 {
-    let turn = s.turn;
     let w = s.subkey;
     [
-        turn_number(turn),
+        turn_number(s.turn),
         s.method,
         s.counter,
-        turn_length(turn),
+        turn_length(s.turn),
         w.a,
         w.b,
         w.c,

@@ -1,6 +1,5 @@
-use Rattle.std.proofs.Common.{rules}
 use Rattle.aes_sliced.proofs.MaskLaws.{mask-law}
 use Rattle.aes_sliced.proofs.mask.Goals as goal
 
 pub returns : goal.returns
-returns c = mask-law _ _ _ (search rules) c.wrapping_sub_u32.ensures.value
+returns c = mask-law _ _

@@ -1,10 +1,9 @@
 -- The loop's invariant: the bytes of the words passed are in place.
 use mathlib.Core.Path.{◌≡◌}
-use Prim.Native.Nat.{◌≤◌}
-use lib.ListN.{length, take}
+use lib.ListN.{take}
 use Rattle.octets.specs.Buffers.{put}
 use Rattle.blake3.specs.Words.{word_bytes}
 use Rattle.blake3.proofs.write_words.Given as goal
 
 abbrev pub invariant-loop-i : goal.invariant-loop-i
-invariant-loop-i l = (l.i ≤ length l.o) × (length l.out ≡ length l.initial.out) × (l.out ≡ put l.initial.out 0 (word_bytes (take l.i l.o)))
+invariant-loop-i l = l.out ≡ put l.initial.out 0 (word_bytes (take l.i l.o))

@@ -1,19 +1,18 @@
-use mathlib.Core.Path.{refl}
+use mathlib.Core.Path.{sym, ap₂, ◌∙◌}
+use Prim.Native.Nat.{◌+◌, ◌-◌}
 use native.Mathlib.Omega.{arith}
 use Rattle.blake3_compression.specs.Columns.{words}
-use Rattle.blake3_compression.proofs.CompressionLaws.{rounds-step, rounds-none}
+use Rattle.blake3_compression.specs.Compression.{rounds}
+use Rattle.blake3_compression.proofs.CompressionLaws.{rounds-more, rounds-done}
 use Rattle.blake3_compression.proofs.seven_rounds.Goals as goal
 
-pub loop-left-init : goal.loop-left-init
-loop-left-init c = (omega arith, refl)
-
-pub loop-left-smaller : goal.loop-left-smaller
-loop-left-smaller c = omega arith
-
-pub loop-left-preserved : goal.loop-left-preserved
-loop-left-preserved c =
-    (omega arith, cc (rounds-step c.loop-left.left (words c.loop-left.v) (words c.loop-left.w) (omega arith)))
+pub loop-preserved : goal.loop-preserved
+loop-preserved c =
+    let l = c.loop in
+    ap₂ (rounds (7 - (l.counter + 1))) c.round-v.ensures c.permute-w.ensures
+    ∙ rounds-more 7 l.counter (words l.v) (words l.w) (omega arith) ∙ l.invariant
 
 pub returns : goal.returns
 returns c =
-    cc (rounds-none c.loop-left.left (words c.loop-left.v) (words c.loop-left.w) (omega arith))
+    let l = c.loop in
+    sym (rounds-done 7 l.counter (words l.v) (words l.w) (omega arith)) ∙ l.invariant

@@ -6,14 +6,14 @@ use Rattle.blake3_lanes.proofs.load_messages.Goals as goal
 pub loop-j-init : goal.loop-j-init
 loop-j-init c =
     let a = c.args in
-    (omega arith, changed-none same (loaded a.s.now a.at) a.x.now c.requires.x_len)
+    (changed-none same (loaded a.s.now a.at) a.x.now (omega arith))
 
 pub loop-j-preserved : goal.loop-j-preserved
 loop-j-preserved c =
     let a = c.args in
-    (omega arith, changed-message (loaded a.s.now a.at) a.x.now c.loop-j.x _ c.loop-j.j c.message_at.result (omega arith) c.loop-j.invariant.1 c.message_at.ensures c.store.ensures)
+    (changed-message (loaded a.s.now a.at) a.x.now c.loop-j.x _ c.loop-j.j c.message_at.result (omega arith) c.loop-j.invariant c.message_at.ensures c.store.ensures)
 
 pub returns : goal.returns
 returns c =
     let a = c.args in
-    changed-all same (loaded a.s.now a.at) a.x.now c.loop-j.x c.loop-j.j (omega arith) c.loop-j.invariant.1
+    changed-all same (loaded a.s.now a.at) a.x.now c.loop-j.x c.loop-j.j (omega arith) c.loop-j.invariant

@@ -1,10 +1,6 @@
-use Prim.Native.Nat.{◌-◌, ◌≤◌}
 use Rattle.blake3_lanes.specs.Lanes.{same, loaded}
 use Rattle.blake3_lanes.proofs.EachLaws.{Changed}
 use Rattle.blake3_lanes.proofs.load_messages.Given as goal
 
 abbrev pub invariant-loop-j : goal.invariant-loop-j
-invariant-loop-j l = (l.j ≤ 4) × Changed same (loaded l.s l.at) l.initial.x l.x l.j
-
-abbrev pub decreases-loop-j : goal.decreases-loop-j
-decreases-loop-j l = 4 - l.j
+invariant-loop-j l = Changed same (loaded l.s l.at) l.initial.x l.x l.j

@@ -1,14 +1,14 @@
 use mathlib.Core.Path.{ap, ap₂, ◌∙◌}
 use native.Mathlib.Omega.{arith}
 use Rattle.blake3_compression.specs.Compression.{one_round, permuted}
-use Rattle.blake3_lanes.proofs.LaneLaws.{state-loaded, message-loaded, columns-size}
+use Rattle.blake3_lanes.proofs.LaneLaws.{state-loaded, message-loaded}
 use Rattle.blake3_compression.specs.Columns.{words}
 use Rattle.blake3_lanes.specs.Lanes.{mixed, reordered}
 use Rattle.blake3_lanes.proofs.EachLaws.{changed-none, changed-all, changed-both}
 use Rattle.blake3_lanes.proofs.mix_states.Goals as goal
 
 pub loop-j-init : goal.loop-j-init
-loop-j-init c = (omega arith, changed-none mixed reordered c.args.x.now c.requires)
+loop-j-init c = (changed-none mixed reordered c.args.x.now (omega arith))
 
 pub loop-j-preserved : goal.loop-j-preserved
 loop-j-preserved c =
@@ -19,19 +19,9 @@ loop-j-preserved c =
     let e = c.round.ensures ∙ ap₂ one_round (ap words c.load-t.ensures ∙ state-loaded v j) em in
     let d = c.permute.ensures ∙ ap permuted em in
     let h = c.loop-j-test.true in
-    (omega (arith, h), changed-both mixed reordered a.x.now v _ _ j c.round.result c.permute.result h c.loop-j.invariant.1 e d c.store.ensures c.store-in-loop-j.ensures)
+    (changed-both mixed reordered a.x.now v _ _ j c.round.result c.permute.result h c.loop-j.invariant e d c.store.ensures c.store-in-loop-j.ensures)
 
 pub returns : goal.returns
 returns c =
     let a = c.args in
-    changed-all mixed reordered a.x.now c.loop-j.x c.loop-j.j (omega arith) c.loop-j.invariant.1
-
-pub store-requires-in-loop-j : goal.store-requires-in-loop-j
-store-requires-in-loop-j c =
-    let h = c.loop-j-test.true in record { x_len = columns-size c.loop-j.x _ 0 c.loop-j.j _ h c.loop-j.invariant.1.size c.store.ensures; i_bound = (omega arith, h) }
-
-pub overflow_step-j : goal.overflow_step-j
-overflow_step-j c = omega (arith, c.loop-j-test.true)
-
-pub loop-j-smaller : goal.loop-j-smaller
-loop-j-smaller c = omega (arith, c.loop-j-test.true)
+    changed-all mixed reordered a.x.now c.loop-j.x c.loop-j.j (omega arith) c.loop-j.invariant

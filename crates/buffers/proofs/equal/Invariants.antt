@@ -1,10 +1,7 @@
--- The loop's invariant: no difference so far if the bytes passed are the same.
-use mathlib.Core.Path.{◌≡◌}
-use Prim.Native.Nat.{◌≤◌}
+use Rattle.std.proofs.Common.{◌≡◌, length, take}
 use lib.Dec.{eqb}
-use lib.ListN.{length, take}
 use Rattle.buffers.specs.Buffers.{same}
 use Rattle.buffers.proofs.equal.Given as goal
 
-abbrev pub invariant-loop-i : goal.invariant-loop-i
-invariant-loop-i l = (l.i ≤ length l.a) × (eqb l.differ 0 ≡ same (take l.i l.a) (take l.i l.b))
+abbrev pub invariant-loop-x : goal.invariant-loop-x
+invariant-loop-x l = eqb l.differ 0 ≡ same (take (length l.yielded) l.a) (take (length l.yielded) l.b)

@@ -1,60 +1,35 @@
-use mathlib.Core.Path.{◌≡◌, sym, ap, ◌∙◌}
-use mathlib.Core.Bool.{Bool, true, cond}
-use Prim.Native.Nat.{◌-◌}
-use native.Mathlib.Omega.{arith}
-use lib.ListN.{length, take}
-use lib.Seq.{length-take-le}
+use Rattle.std.proofs.Common.{◌≡◌, ◌≤◌, cond, Bool, length, take, ap, sym, ◌∙◌, arith}
 use Rattle.octets.specs.Buffers.{put}
-use Rattle.chacha_poly.specs.Aead.{text_of, authentic, opened}
-use Rattle.chacha_poly.proofs.AeadLaws.{length-four, tag-law, authentic-law}
+use Rattle.chacha_poly.specs.Aead.{crypt, tag, text_of, tag_of, authentic, opened}
+use Rattle.chacha_poly.proofs.AeadLaws.{front-law, crypt-law, authentic-law}
 use Rattle.chacha_poly.proofs.open.Goals as goal
+use Rattle.chacha_poly.proofs.open.Goals.{After-equal-good}
 
-pub crypt_into-requires : goal.crypt_into-requires
-crypt_into-requires c =
-    let before-tag : (let s = c.args.s.now in length (take (length s - 16) s) ≡ length s - 16) = let s = c.args.s.now in length-take-le (length s - 16) s (omega arith) in
-    record { four_value = c.blocks-four.ensures; text_in_bounds = omega (arith, c.requires.tag_length_in_bounds_2, before-tag) }
-
-pub returns-then-good : goal.returns-then-good
-unfolding opened text_of
-returns-then-good c =
-    let verdict : (let a = c.args in c.equal-good.result ≡ authentic a.n a.key.now a.nonce.now a.s.now) = let a = c.args in authentic-law a.n a.key.now a.nonce.now a.s.now _ _ (tag-law a.n a.key.now a.nonce.now _ c.blocks-four.result _ c.blocks-four.ensures c.tag_of-tag.ensures) c.equal-good.ensures in
+verdict : (c : After-equal-good) → c.equal-good.result ≡ authentic c.args.n c.args.key.now c.args.nonce.now c.args.s.now
+unfolding text_of tag_of
+verdict c =
     let a = c.args in
-    let good : c.equal-good.result ≡ true = c.if-good.true in record {
-      value = verdict;
-      out_after = c.crypt_into.ensures
-          ∙ ap (λ (b : Bool). cond b (put a.out.now 0 (opened a.n a.key.now a.nonce.now a.s.now)) a.out.now) (sym good);
-    }
+    let e = c.new-cipher.ensures in
+    c.equal-good.ensures
+    ∙ authentic-law a.n a.key.now a.nonce.now a.s.now _ _ _ c.split_at.ensures.front
+    (c.tag.ensures ∙ (λ i. tag (e.0 i) (e.1 i) (e.2 i) c.split_at.result.0.now)) c.split_at.ensures.back
 
-pub returns-else-good : goal.returns-else-good
-returns-else-good c =
-    let verdict : (let a = c.args in c.equal-good.result ≡ authentic a.n a.key.now a.nonce.now a.s.now) = let a = c.args in authentic-law a.n a.key.now a.nonce.now a.s.now _ _ (tag-law a.n a.key.now a.nonce.now _ c.blocks-four.result _ c.blocks-four.ensures c.tag_of-tag.ensures) c.equal-good.ensures in
-    let a = c.args in record {
-      value = verdict;
-      out_after = ap (λ (b : Bool). cond b (put a.out.now 0 (opened a.n a.key.now a.nonce.now a.s.now)) a.out.now)
-          (sym c.if-good.false);
-    }
+pub returns-then-good-clause-value : goal.returns-then-good-clause-value
+returns-then-good-clause-value c = verdict (goal.at.returns-then-good-clause-value c).After-equal-good
 
-pub slice_bounds-tag_of-end : goal.slice_bounds-tag_of-end
-slice_bounds-tag_of-end c =
-    let size : length c.blocks-four.result ≡ 256 = let a = c.args in length-four a.n a.key.now a.nonce.now c.blocks-four.result c.blocks-four.ensures in
-    sym (size)
+pub returns-then-good-clause-out_after : goal.returns-then-good-clause-out_after
+unfolding opened text_of
+returns-then-good-clause-out_after c =
+    let a = c.args in
+    let e = c.new-cipher.ensures in
+    let text = c.split_at.result.0.now in
+    let fits : length text ≤ length a.out.now = omega (arith, c.requires.tag_length_in_bounds_2, c.split_at.ensures.front_len) in
+    let fits-2 : length text ≤ length c.copy.new.out = omega (arith, fits, c.copy.auto.out) in
+    let crypted = c.crypt.ensures ∙ (λ i. crypt (e.0 i) (e.1 i) (e.2 i) (take (length text) c.copy.new.out)) in
+    crypt-law text a.out.now fits a.n a.key.now a.nonce.now c.copy.new.out _ c.copy.ensures
+    (front-law a.n a.key.now a.nonce.now c.copy.new.out _ (length text) fits-2 crypted)
+    ∙ ap (λ p. put a.out.now 0 (crypt a.n a.key.now a.nonce.now p)) c.split_at.ensures.front
+    ∙ ap (λ (b : Bool). cond b (put a.out.now 0 (opened a.n a.key.now a.nonce.now a.s.now)) a.out.now) (sym c.if-good.true)
 
-pub slice_bounds-tag_of-end-2 : goal.slice_bounds-tag_of-end-2
-slice_bounds-tag_of-end-2 c =
-    let before-tag : (let s = c.args.s.now in length (take (length s - 16) s) ≡ length s - 16) = let s = c.args.s.now in length-take-le (length s - 16) s (omega arith) in
-    sym (before-tag)
-
-pub tag_of-tag-requires : goal.tag_of-tag-requires
-tag_of-tag-requires c =
-    let size : length c.blocks-four.result ≡ 256 = let a = c.args in length-four a.n a.key.now a.nonce.now c.blocks-four.result c.blocks-four.ensures in
-    size
-
-pub slice_bounds-crypt_into-end : goal.slice_bounds-crypt_into-end
-slice_bounds-crypt_into-end c =
-    let size : length c.blocks-four.result ≡ 256 = let a = c.args in length-four a.n a.key.now a.nonce.now c.blocks-four.result c.blocks-four.ensures in
-    sym (size)
-
-pub slice_bounds-crypt_into-end-then-good : goal.slice_bounds-crypt_into-end-then-good
-slice_bounds-crypt_into-end-then-good c =
-    let before-tag : (let s = c.args.s.now in length (take (length s - 16) s) ≡ length s - 16) = let s = c.args.s.now in length-take-le (length s - 16) s (omega arith) in
-    sym (before-tag)
+pub returns-else-good-clause-value : goal.returns-else-good-clause-value
+returns-else-good-clause-value c = verdict (goal.at.returns-else-good-clause-value c).After-equal-good

@@ -21,14 +21,14 @@ inside s i m w e l x p = subst (λ (y : Entry). y.offset + y.len ≤ length s) (
 same : (a : List ℕ) (e e' : Entry) (b : List ℕ) (f f' : Entry) → e ≡ e' → f ≡ f' → between a e b f ≡ between a e' b f'
 same a e e' b f f' p q = ap (λ (x : Entry). between a x b f) p ∙ ap (between a e' b) q
 
-pub returns-then-n-i : goal.returns-then-n-i
-returns-then-n-i c = in-neither _ _ _ (omega arith) (omega arith)
+pub returns-in-true-false : goal.returns-in-true-false
+returns-in-true-false c = first-only _ _ _ (omega arith) (omega arith)
 
-pub returns-then-m-i : goal.returns-then-m-i
-returns-then-m-i c = second-only _ _ _ (omega arith) (omega arith)
+pub returns-in-false-true : goal.returns-in-false-true
+returns-in-false-true c = second-only _ _ _ (omega arith) (omega arith)
 
-pub returns-then-n-i-2 : goal.returns-then-n-i-2
-returns-then-n-i-2 c = first-only _ _ _ (omega arith) (omega arith)
+pub returns-in-false-false : goal.returns-in-false-false
+returns-in-false-false c = in-neither _ _ _ (omega arith) (omega arith)
 
 pub of_entries-requires : goal.of_entries-requires
 of_entries-requires c = (
@@ -36,33 +36,14 @@ of_entries-requires c = (
   inside _ _ _ c.requires.1 c.count-n.ensures (omega arith) _ c.read_entry-f.ensures,
 )
 
-pub returns : goal.returns
-returns c =
+pub returns-in-true-true : goal.returns-in-true-true
+returns-in-true-true c =
     c.of_entries.ensures
     ∙ same _ _ _ _ _ _ c.read_entry-e.ensures c.read_entry-f.ensures
     ∙ in_both _ _ _ (omega arith) (omega arith)
 
--- the place of an entry that both have
-pub overflow_mul-i : goal.overflow_mul-i
-overflow_mul-i c =
-    record { fits = omega (arith, (entry-within _ c.args.i c.requires.0 (omega arith)).1) }
-
-pub overflow_add-i : goal.overflow_add-i
-overflow_add-i c =
-    record { fits = omega (arith, (entry-within _ c.args.i c.requires.0 (omega arith)).1) }
-
 pub read_entry-e-requires : goal.read_entry-e-requires
-read_entry-e-requires c =
-    (entry-within _ c.args.i c.requires.0 (omega arith)).0
-
-pub overflow_mul-i-2 : goal.overflow_mul-i-2
-overflow_mul-i-2 c =
-    record { fits = omega (arith, (entry-within _ c.args.i c.requires.1 (omega arith)).1) }
-
-pub overflow_add-i-2 : goal.overflow_add-i-2
-overflow_add-i-2 c =
-    record { fits = omega (arith, (entry-within _ c.args.i c.requires.1 (omega arith)).1) }
+read_entry-e-requires c = (entry-within _ c.args.i c.requires.0 (omega arith)).0
 
 pub read_entry-f-requires : goal.read_entry-f-requires
-read_entry-f-requires c =
-    (entry-within _ c.args.i c.requires.1 (omega arith)).0
+read_entry-f-requires c = (entry-within _ c.args.i c.requires.1 (omega arith)).0

@@ -23,5 +23,5 @@ returns c =
       arith,
       c.header_length.ensures.0,
       c.lines_length.ensures.0,
-      whole_length _ _ _ _ _ c.count-m.ensures c.count-n.ensures c.greater-most.ensures,
+      whole_length _ _ _ _ _ c.count-m.ensures c.count-n.ensures c.max.ensures,
     )

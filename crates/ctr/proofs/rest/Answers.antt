@@ -29,7 +29,7 @@ loop-j-preserved c =
           (c.xor_block.ensures
           ∙ ap (λ (b : List ℕ). put o (16 * j) (take 16 (drop (16 * j) o) ⊞ b))
           (c.cipher-k.ensures
-          ∙ ap (cipher a.rounds (map bytes a.w.now))
+          ∙ ap (cipher a.aes.now.rounds (map bytes a.aes.now.w.now))
           (c.counter_block.ensures ∙ counter-bytes n.a n.b n.c c.loop-j.e v.fits)))
           c.inc32-e.ensures,
     )

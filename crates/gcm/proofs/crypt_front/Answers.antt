@@ -7,9 +7,9 @@ use Rattle.gcm.proofs.crypt_front.Goals as goal
 
 pub slice_bounds-gctr-end-2 : goal.slice_bounds-gctr-end-2
 slice_bounds-gctr-end-2 c =
-    sym (length-take-le c.args.len c.args.out.now c.requires.len_in_bounds)
+    sym (length-take-le c.args.len c.args.out.now c.requires)
 
 pub returns : goal.returns
 returns c =
     let a = c.args in
-    front-law (ciph_at a.rounds a.w.now) (nonce_bytes a.n) a.out.now _ a.len c.requires.len_in_bounds c.gctr.ensures
+    front-law (ciph_at a.aes.now.rounds a.aes.now.w.now) (nonce_bytes a.n) a.out.now _ a.len c.requires c.gctr.ensures

@@ -12,7 +12,7 @@ use Rattle.gcm.proofs.GcmLaws.{authentic-law}
 use Rattle.gcm.proofs.open_at.Goals as goal
 
 pub write_hash_table-requires : goal.write_hash_table-requires
-write_hash_table-requires c = record { g_len = refl; can_encrypt = c.requires.can_encrypt }
+write_hash_table-requires c = refl
 
 pub slice_bounds-tag_of-end : goal.slice_bounds-tag_of-end
 slice_bounds-tag_of-end c =
@@ -22,7 +22,7 @@ slice_bounds-tag_of-end c =
 pub tag_of-tag-requires : goal.tag_of-tag-requires
 tag_of-tag-requires c =
     let before-tag : (let s = c.args.s.now in length (take (length s - 16) s) ≡ length s - 16) = let s = c.args.s.now in length-take-le (length s - 16) s (omega arith) in
-    record { can_encrypt = c.requires.can_encrypt; c_len_bound = omega (arith, c.requires.tag_length_len_bound, before-tag); table_for = c.write_hash_table.ensures }
+    record { c_len_bound = omega (arith, c.requires.tag_length_len_bound, before-tag); table_for = c.write_hash_table.ensures }
 
 pub slice_bounds-crypt_into-end : goal.slice_bounds-crypt_into-end
 slice_bounds-crypt_into-end c =
@@ -32,13 +32,13 @@ slice_bounds-crypt_into-end c =
 pub crypt_into-requires : goal.crypt_into-requires
 crypt_into-requires c =
     let before-tag : (let s = c.args.s.now in length (take (length s - 16) s) ≡ length s - 16) = let s = c.args.s.now in length-take-le (length s - 16) s (omega arith) in
-    record { can_encrypt = c.requires.can_encrypt; text_in_bounds = omega (arith, c.requires.tag_length_in_bounds_2, before-tag) }
+    omega (arith, c.requires.tag_length_in_bounds_2, before-tag)
 
 pub returns-then-good : goal.returns-then-good
 unfolding opened text_of
 returns-then-good c =
     let a = c.args in
-    let ciph = ciph_at a.rounds a.w.now in
+    let ciph = ciph_at a.aes.now.rounds a.aes.now.w.now in
     let n = nonce_bytes a.n in
     let good : c.equal-good.result ≡ true = c.if-good.true in record {
       value = authentic-law ciph n a.s.now _ _ c.tag_of-tag.ensures c.equal-good.ensures;
@@ -49,5 +49,5 @@ returns-then-good c =
 pub returns-else-good : goal.returns-else-good
 returns-else-good c =
     let a = c.args in
-    let ciph = ciph_at a.rounds a.w.now in
+    let ciph = ciph_at a.aes.now.rounds a.aes.now.w.now in
     let n = nonce_bytes a.n in record { value = authentic-law ciph n a.s.now _ _ c.tag_of-tag.ensures c.equal-good.ensures; out_after = ap (λ (b : Bool). cond b (put a.out.now 0 (opened ciph n a.s.now)) a.out.now) (sym c.if-good.false) }

@@ -15,6 +15,6 @@ unfolding spec.tag spec.j0
 returns c =
     let a = c.args in
     c.gctr.ensures
-    ∙ ap (gctr (ciph_at a.rounds a.w.now) (counter_block (nonce_bytes a.n) 1))
+    ∙ ap (gctr (ciph_at a.aes.now.rounds a.aes.now.w.now) (counter_block (nonce_bytes a.n) 1))
     (c.element_bytes-tag.ensures
     ∙ ap (to_be 16) (c.hashed.ensures ∙ ap (λ (h : ℕ). spec.hashed h a.c.now) (key_in_lem _ _ c.requires.table_for)))

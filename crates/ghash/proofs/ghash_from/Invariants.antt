@@ -1,16 +1,11 @@
--- The loop's invariant: GHASH from z over the blocks that are left is GHASH over all.
+-- The loop's invariant: GHASH from z over what is left is GHASH over all.
 use mathlib.Core.Path.{◌≡◌}
-use Prim.Native.Nat.{◌-◌, ◌*◌, ◌≤◌}
-use lib.ListN.{drop}
-use Rattle.ghash.specs.Ghash.{blocks, first_blocks, ghash_from}
+use Rattle.ghash.specs.Ghash.{blocks, ghash_from}
 use Rattle.ghash.specs.Table.{key_in}
 use Rattle.ghash.specs.Words.{block_of}
 use Rattle.ghash.proofs.ghash_from.Given as goal
 
-abbrev pub invariant-loop-i : goal.invariant-loop-i
-invariant-loop-i l =
-    (l.i ≤ l.n)
-    × (ghash_from (key_in l.t) (block_of l.z) (first_blocks (l.n - l.i) (drop (16 * l.i) l.s)) ≡ ghash_from (key_in l.t) (block_of l.initial.z) (blocks l.s))
-
-abbrev pub decreases-loop-i : goal.decreases-loop-i
-decreases-loop-i l = l.n - l.i
+abbrev pub invariant-loop-block : goal.invariant-loop-block
+invariant-loop-block l =
+    (l.block-iterator.size ≡ 16)
+    × (ghash_from (key_in l.t) (block_of l.z) (blocks l.block-iterator.rest.now) ≡ ghash_from (key_in l.t) (block_of l.initial.z) (blocks l.s))

@@ -35,5 +35,5 @@ returns c =
 pub write_powers-requires : goal.write_powers-requires
 write_powers-requires c = record { t4_len = search rules; t3_len = search rules; t2_len = search rules; table_for = c.requires }
 
-pub step-z-requires : goal.step-z-requires
-step-z-requires c = record { four = four-tables _ _ _ _ _ _ _ c.write_powers.ensures.table_for_4 c.write_powers.ensures.table_for_3 c.write_powers.ensures.table_for_2 c.requires; at_in_bounds = omega arith }
+pub invariant_of-p : goal.invariant_of-p
+invariant_of-p c = record { four = four-tables _ _ _ _ _ _ _ c.write_powers.ensures.table_for_4 c.write_powers.ensures.table_for_3 c.write_powers.ensures.table_for_2 c.requires }

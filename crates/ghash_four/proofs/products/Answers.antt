@@ -14,7 +14,7 @@ loop-i-preserved c =
     let x = c.args in
     let words =
     c.gather-s.ensures
-    ∙ (λ j. gathers (key_in x.t4.now) (key_in x.t3.now) (key_in x.t2.now) (key_in x.t1.now) (c.word.ensures j) (c.word-in-loop-i.ensures j)
+    ∙ (λ j. gathers (key_in x.p.now.t4.now) (key_in x.p.now.t3.now) (key_in x.p.now.t2.now) (key_in x.p.now.t1.now) (c.word.ensures j) (c.word-in-loop-i.ensures j)
     (c.word-in-loop-i-2.ensures j) (c.word-in-loop-i-3.ensures j) 4) in (
       omega arith,
       c.reduce-z.ensures ∙ ap (steps 64) c.add_behind.ensures

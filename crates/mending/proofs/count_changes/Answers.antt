@@ -9,7 +9,6 @@ use Rattle.mending.proofs.count_changes.Goals as goal
 
 pub loop-i-init : goal.loop-i-init
 loop-i-init c = (
-  search rules,
   omega arith,
   omega arith,
   search rules,
@@ -26,13 +25,12 @@ overflow_add-place-in-loop-i c =
 pub loop-i-preserved : goal.loop-i-preserved
 loop-i-preserved c =
     let small = turn_small c.args.s.now c.loop-i.i c.loop-i.place _ _ c.read_entry-old.ensures c.mended_entry-new.ensures in (
-      search rules,
       omega (arith, small.1),
       omega (arith, small.0),
       omega (arith, c.entry_count-total.ensures.1),
       omega (
         arith,
-        c.loop-i.invariant.4,
+        c.loop-i.invariant.3,
         due-more c.args.s.now c.loop-i.i c.loop-i.place _ _ c.read_entry-old.ensures c.mended_entry-new.ensures c.args.n
             (omega arith) c.loop-i.total c.entry_count-total.result c.entry_count-total.ensures.0,
       ),
@@ -40,6 +38,6 @@ loop-i-preserved c =
 
 pub returns : goal.returns
 returns c = (
-  omega (arith, c.loop-i.invariant.4, ap length (none_left c.args.n c.args.s.now c.loop-i.i c.loop-i.place (omega arith))),
-  omega (arith, c.loop-i.invariant.3),
+  omega (arith, c.loop-i.invariant.3, ap length (none_left c.args.n c.args.s.now c.loop-i.i c.loop-i.place (omega arith))),
+  omega (arith, c.loop-i.invariant.2),
 )

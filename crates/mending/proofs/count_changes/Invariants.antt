@@ -9,8 +9,5 @@ use Rattle.mending.proofs.count_changes.Given as goal
 
 abbrev pub invariant-loop-i : goal.invariant-loop-i
 invariant-loop-i l =
-    (l.i ≤ l.n) × (l.place ≤ length l.s) × (l.place ≤ 61444 + 65507 * l.i) × (l.total ≤ 3 * l.i)
+    (l.place ≤ length l.s) × (l.place ≤ 61444 + 65507 * l.i) × (l.total ≤ 3 * l.i)
     × (l.total + length (report_from (l.n - l.i) l.s l.i l.place) ≡ length (report_from l.n l.s 0 (place_of l.n)))
-
-abbrev pub decreases-loop-i : goal.decreases-loop-i
-decreases-loop-i l = l.n - l.i

@@ -12,10 +12,7 @@ use Rattle.mending.proofs.mend_entries.Given as goal
 -- what is mended and written, with what is left, is the whole
 abbrev pub invariant-loop-i : goal.invariant-loop-i
 invariant-loop-i l =
-    (l.i ≤ l.n) × (l.place ≤ length l.s) × (l.place ≤ 61444 + 65507 * l.i) × (length l.s ≡ length l.initial.s) × (length l.out ≡ length l.initial.out)
+    (l.place ≤ length l.s) × (l.place ≤ 61444 + 65507 * l.i) × (length l.s ≡ length l.initial.s) × (length l.out ≡ length l.initial.out)
     × (mended_from (l.n - l.i) l.s l.i l.place ≡ mended_from l.n l.initial.s 0 (place_of l.n))
     × (put l.out l.end (words (report_from (l.n - l.i) l.s l.i l.place)) ≡ put l.initial.out l.at (words (report_from l.n l.initial.s 0 (place_of l.n))))
     × (l.end + length (words (report_from (l.n - l.i) l.s l.i l.place)) ≡ l.at + length (words (report_from l.n l.initial.s 0 (place_of l.n))))
-
-abbrev pub decreases-loop-i : goal.decreases-loop-i
-decreases-loop-i l = l.n - l.i

@@ -6,4 +6,4 @@ use Rattle.mending.proofs.mended_count.Goals as goal
 
 pub returns : goal.returns
 unfolding mended_count
-returns c = omega (arith, c.least.ensures, c.count.ensures, c.least-fit.ensures)
+returns c = omega arith

@@ -1,8 +1,10 @@
 -- `mending::put_count` meets its contract.
 -- Assumes nothing.
-use Rattle.mending.proofs.WritingLaws.{count-put}
+use mathlib.Core.Path.{◌∙◌, ap}
+use Rattle.octets.specs.Buffers.{put}
+use Rattle.octets.proofs.NumberLaws.{high-first}
 use Rattle.mending.proofs.put_count.Goals as goal
 
 pub returns : goal.returns
 returns c =
-    count-put c.args.s.now _ _ _ c.requires.0 c.requires.1 c.write_u16_be.ensures c.write_u16_be-2.ensures
+    c.copy.ensures ∙ ap (put c.args.s.now 0) (c.to_be_bytes.ensures ∙ high-first 4 c.args.n)

@@ -17,11 +17,11 @@ pub loop-i-init : goal.loop-i-init
 loop-i-init c =
     let a = c.args in
     let e : a.n - 0 ≡ a.n = omega arith in
-    (search rules, search rules, ap (λ (m : ℕ). are_good a.s.now m 0 (place_of a.n)) e)
+    (search rules, ap (λ (m : ℕ). are_good a.s.now m 0 (place_of a.n)) e)
 
 pub returns-then-not-is_good : goal.returns-then-not-is_good
 returns-then-not-is_good c =
-    sym (sym c.loop-i.invariant.2
+    sym (sym c.loop-i.invariant.1
     ∙ bad-step _ _ _ _ (omega arith) (tested _ _ _ _ _ c.read_entry-e.ensures c.is_good.ensures ∙ c.if-not-is_good.true))
 
 pub loop-i-preserved : goal.loop-i-preserved
@@ -30,16 +30,15 @@ loop-i-preserved c =
     let a = c.args in
     let found : is_good (entry a.s.now c.loop-i.i) c.loop-i.place ≡ true =
     tested _ _ _ _ _ c.read_entry-e.ensures c.is_good.ensures ∙ c.if-not-is_good.false in (
-      search rules,
       omega (arith, short),
       ap (λ (e : Entry). are_good a.s.now (a.n - (c.loop-i.i + 1)) (c.loop-i.i + 1) (c.loop-i.place + e.len)) c.read_entry-e.ensures
-          ∙ sym (good-step _ _ _ _ (omega arith) found) ∙ c.loop-i.invariant.2,
+          ∙ sym (good-step _ _ _ _ (omega arith) found) ∙ c.loop-i.invariant.1,
     )
 
 pub returns : goal.returns
 returns c =
     let e : c.loop-i.i ≡ c.args.n = omega arith in
-    sym (last_step _ _ _) ∙ rw e at c.loop-i.invariant.2
+    sym (last_step _ _ _) ∙ rw e at c.loop-i.invariant.1
 
 pub overflow_add-place-in-loop-i : goal.overflow_add-place-in-loop-i
 overflow_add-place-in-loop-i c =

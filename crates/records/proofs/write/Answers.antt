@@ -1,29 +1,17 @@
-use Prim.Native.Nat.{ℕ, ◌+◌}
+use mathlib.Core.Path.{◌∙◌, sym, ap}
+use Prim.Native.Nat.{◌+◌, ◌-◌}
 use native.Mathlib.Omega.{arith}
-use mathlib.Core.List.{List}
-use mathlib.Core.Path.{refl, sym, ap, ◌∙◌}
-use lib.ListN.{set, get_or, length-set}
+use borrow.Rule.Slice.PartMut.{put_mid}
+use lib.ListN.{length}
 use lib.Seq.{sets-eq}
 use Rattle.octets.specs.Buffers.{put}
-use Rattle.octets.proofs.BufferLaws.{put-none, put_next, put_all}
-use borrow.Author.Rules.{rules}
+use Rattle.octets.proofs.BufferLaws.{part-put}
 use Rattle.records.proofs.write.Goals as goal
-
-pub loop-i-init : goal.loop-i-init
-loop-i-init c = (search rules, put-none c.args.words.now c.args.at, refl)
-
-pub loop-i-preserved : goal.loop-i-preserved
-loop-i-preserved c =
-    let a = c.args in (
-      search rules,
-      ap (λ (t : List ℕ). set t (a.at + c.loop-i.i) (get_or a.from.now c.loop-i.i 0)) c.loop-i.invariant.1
-          ∙ put_next a.words.now a.at a.from.now c.loop-i.i (omega arith) (omega arith),
-      simp length-set (omega arith),
-    )
 
 pub returns : goal.returns
 unfolding put
 returns c =
     let a = c.args in
-    c.loop-i.invariant.1 ∙ put_all a.words.now a.at a.from.now c.loop-i.i (omega arith)
+    let n = a.at + length a.from.now - a.at in
+    ap (put_mid a.at n a.words.now) c.copy_from_slice.ensures.after ∙ part-put a.words.now a.from.now a.at n (omega arith)
     ∙ sym (sets-eq a.from.now a.words.now a.at (omega arith))

@@ -1,31 +1,12 @@
-use native.Mathlib.Omega.{arith}
-use mathlib.Core.Bool.{not}
-use mathlib.Core.Path.{sym, ap, ◌∙◌}
-use borrow.Author.Count.{below_none, below_more}
-use Rattle.salt_pool.proofs.PlaceLaws.{free-place}
-use borrow.Author.Rules.{rules}
+use Rattle.std.proofs.Common.{◌≡◌, ℕ, Bool, true, false, not, rules}
+use Rattle.std.proofs.lemmas.Iterator.{first_from_Range}
+use Rattle.records.proofs.PlaceLaws.{finds-lowest}
+use Rattle.salt_pool.specs.Pool.{capacity, kept, free_place}
 use Rattle.salt_pool.proofs.find_room.Goals as goal
 
-pub loop-r-init : goal.loop-r-init
-loop-r-init c = (search rules, below_none _)
-
-pub returns-then-not-is_kept : goal.returns-then-not-is_kept
-returns-then-not-is_kept c =
-    let a = c.args in
-    (free-place a.pool.now a.clock).found c.loop-r.r (omega arith) c.loop-r.invariant.1
-    (ap not (sym c.is_kept.ensures) ∙ (ap not c.if-not-is_kept.true))
-
-pub loop-r-preserved : goal.loop-r-preserved
-loop-r-preserved c =
-    (search rules, below_more _ _ c.loop-r.invariant.1 (ap not (sym c.is_kept.ensures) ∙ (ap not c.if-not-is_kept.false)))
-
 pub returns : goal.returns
+unfolding free_place
 returns c =
-    let a = c.args in
-    (free-place a.pool.now a.clock).passed c.loop-r.r (omega arith) c.loop-r.invariant.1
-
-pub overflow_add-r : goal.overflow_add-r
-overflow_add-r c = omega arith
-
-pub loop-r-smaller : goal.loop-r-smaller
-loop-r-smaller c = omega arith
+    let test : ℕ → Bool = λ i. not (kept c.args.pool.now c.args.clock i) in
+    finds-lowest test capacity _
+    (first_from_Range _ _ _ _ (λ k. test k ≡ true) (λ k. test k ≡ false) c.find.ensures.ran (λ x q h. search rules) (λ x q h. search rules))

@@ -10,15 +10,15 @@ pub loop-i-init : goal.loop-i-init
 loop-i-init c =
     let a = c.args in
     let e : a.n - 0 ≡ a.n = omega arith in
-    (search rules, search rules, ap (λ (m : ℕ). follow a.s.now m 0 (place_of a.n)) e)
+    (search rules, ap (λ (m : ℕ). follow a.s.now m 0 (place_of a.n)) e)
 
 pub returns-then-e-place : goal.returns-then-e-place
 returns-then-e-place c =
-    sym (sym c.loop-i.invariant.2 ∙ elsewhere _ _ _ _ _ (omega arith) c.read_entry-e.ensures (omega arith))
+    sym (sym c.loop-i.invariant.1 ∙ elsewhere _ _ _ _ _ (omega arith) c.read_entry-e.ensures (omega arith))
 
 pub loop-i-preserved : goal.loop-i-preserved
 loop-i-preserved c =
-    (search rules, omega arith, sym (here _ _ _ _ _ (omega arith) c.read_entry-e.ensures (omega arith)) ∙ c.loop-i.invariant.2)
+    (omega arith, sym (here _ _ _ _ _ (omega arith) c.read_entry-e.ensures (omega arith)) ∙ c.loop-i.invariant.1)
 
 pub returns : goal.returns
-returns c = sym (sym c.loop-i.invariant.2 ∙ at-end _ _ _ _ (omega arith))
+returns c = sym (sym c.loop-i.invariant.1 ∙ at-end _ _ _ _ (omega arith))

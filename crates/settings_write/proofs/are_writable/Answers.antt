@@ -1,57 +1,74 @@
 use mathlib.Core.Path.{◌≡◌, sym, ap, ◌∙◌}
-use mathlib.Core.Bool.{true}
-use Prim.Native.Nat.{ℕ, ◌+◌, ◌-◌, ◌/◌, ◌≤◌}
+use Prim.Native.Nat.{ℕ, ◌-◌, ◌<◌}
 use native.Mathlib.Omega.{arith}
-use lib.ListN.{length}
-use borrow.Author.Rules.{rules}
-use Rattle.settings_write.specs.Writing.{length_at, given, is_writable, are_writable}
-use Rattle.settings_write.proofs.GivenLaws.{before-first, before-next, before-within, described, tested}
+use lib.ListN.{length, drop, length-drop}
+use Rattle.settings_write.specs.Writing.{size_of, before, given, are_writable}
+use Rattle.settings_write.proofs.GivenLaws.{before-first, before-within, described, tested, next-rest}
+use Rattle.settings_write.proofs.PairLaws.{number-there, length-there}
 use Rattle.settings_write.proofs.WritableLaws.{admitted, good-step, bad-step, last_step}
 use Rattle.settings_write.proofs.are_writable.Goals as goal
 
-pub loop-i-init : goal.loop-i-init
-loop-i-init c =
+pub loop-number-init : goal.loop-number-init
+loop-number-init c =
     let a = c.args in
     let t = given a.settings.now a.bodies.now in
-    let e : length a.settings.now / 2 - 0 ≡ length a.settings.now / 2 = omega arith in
-    (search rules, sym (before-first a.settings.now), ap (λ (m : ℕ). are_writable t m 0 0) e)
+    let e : size_of a.settings.now - 0 ≡ size_of a.settings.now = omega arith in
+    (ap (λ (k : ℕ). drop k a.bodies.now) (sym (before-first a.settings.now)), ap (λ (m : ℕ). are_writable t m 0 0) e)
 
-pub overflow_add-end-in-loop-i : goal.overflow_add-end-in-loop-i
-overflow_add-end-in-loop-i c =
-    let ends : (let a = c.args in c.loop-i.at + length_at a.settings.now c.loop-i.i ≤ length a.bodies.now) = let ws = c.args.settings.now in omega (arith, before-within ws c.loop-i.i (length ws / 2) (omega arith), described ws (length c.args.bodies.now) c.requires, c.loop-i.invariant.1) in
-    record { fits = omega (arith, ends) }
-
-pub slice_bounds-is_writable-end : goal.slice_bounds-is_writable-end
-slice_bounds-is_writable-end c =
-    let ends : (let a = c.args in c.loop-i.at + length_at a.settings.now c.loop-i.i ≤ length a.bodies.now) = let ws = c.args.settings.now in omega (arith, before-within ws c.loop-i.i (length ws / 2) (omega arith), described ws (length c.args.bodies.now) c.requires, c.loop-i.invariant.1) in
-    ends
+pub split_at-requires : goal.split_at-requires
+split_at-requires c =
+    let ws = c.args.settings.now in
+    let bodies = c.args.bodies.now in
+    let i = c.loop-number.number-index in
+    omega (
+      arith,
+      length-there ws _ c.as_chunks.ensures.front i (omega arith),
+      before-within ws i (size_of ws) (omega arith),
+      described ws (length bodies) c.requires,
+      ap length c.loop-number.invariant.0,
+      length-drop (before ws i) bodies,
+    )
 
 pub returns-then-not-is_writable : goal.returns-then-not-is_writable
 returns-then-not-is_writable c =
-    let a = c.args in
     let ws = c.args.settings.now in
-    let t = given ws a.bodies.now in
-    sym (sym c.loop-i.invariant.2
-    ∙ bad-step t (length ws / 2) c.loop-i.i c.loop-i.least (omega arith)
-    (tested ws a.bodies.now c.loop-i.i c.loop-i.at c.loop-i.invariant.1 c.loop-i.least _ c.is_writable.ensures ∙ c.if-not-is_writable.true))
+    let bodies = c.args.bodies.now in
+    let i = c.loop-number.number-index in
+    let l : i < size_of ws = omega arith in
+    let front = c.as_chunks.ensures.front in
+    let found = tested ws bodies i _ _ _ c.loop-number.invariant.0 (number-there ws _ front i l) (length-there ws _ front i l) _
+    c.split_at.ensures.front c.loop-number.least _ c.is_writable.ensures in
+    sym (sym c.loop-number.invariant.1
+    ∙ bad-step (given ws bodies) (size_of ws) i c.loop-number.least l (found ∙ c.if-not-is_writable.true))
 
 pub overflow_add-least : goal.overflow_add-least
 overflow_add-least c =
-    let found : (let a = c.args in is_writable (given a.settings.now a.bodies.now) c.loop-i.i c.loop-i.least ≡ true) = let a = c.args in tested a.settings.now a.bodies.now c.loop-i.i c.loop-i.at c.loop-i.invariant.1 c.loop-i.least _ c.is_writable.ensures ∙ c.if-not-is_writable.false in
-    record { fits = omega (arith, (admitted _ _ _ found).most) }
+    let ws = c.args.settings.now in
+    let bodies = c.args.bodies.now in
+    let i = c.loop-number.number-index in
+    let l : i < size_of ws = omega arith in
+    let front = c.as_chunks.ensures.front in
+    let found = tested ws bodies i _ _ _ c.loop-number.invariant.0 (number-there ws _ front i l) (length-there ws _ front i l) _
+    c.split_at.ensures.front c.loop-number.least _ c.is_writable.ensures in
+    record { fits = omega (arith, (admitted _ _ _ (found ∙ c.if-not-is_writable.false)).most, number-there ws _ front i l) }
 
-pub loop-i-preserved : goal.loop-i-preserved
-loop-i-preserved c =
-    let found : (let a = c.args in is_writable (given a.settings.now a.bodies.now) c.loop-i.i c.loop-i.least ≡ true) = let a = c.args in tested a.settings.now a.bodies.now c.loop-i.i c.loop-i.at c.loop-i.invariant.1 c.loop-i.least _ c.is_writable.ensures ∙ c.if-not-is_writable.false in
-    let a = c.args in
-    let ws = c.args.settings.now in (
-      search rules,
-      ap (λ (x : ℕ). x + length_at ws c.loop-i.i) c.loop-i.invariant.1 ∙ sym (before-next ws c.loop-i.i),
-      sym (good-step (given ws a.bodies.now) (length ws / 2) c.loop-i.i c.loop-i.least _ (omega arith) found (omega arith)) ∙ c.loop-i.invariant.2,
+pub loop-number-preserved : goal.loop-number-preserved
+loop-number-preserved c =
+    let ws = c.args.settings.now in
+    let bodies = c.args.bodies.now in
+    let i = c.loop-number.number-index in
+    let l : i < size_of ws = omega arith in
+    let front = c.as_chunks.ensures.front in
+    let number = number-there ws _ front i l in
+    let len = length-there ws _ front i l in
+    let found = tested ws bodies i _ _ _ c.loop-number.invariant.0 number len _ c.split_at.ensures.front c.loop-number.least _ c.is_writable.ensures in (
+      next-rest ws bodies i _ _ _ c.loop-number.invariant.0 number len _ c.split_at.ensures.back,
+      sym (good-step (given ws bodies) (size_of ws) i c.loop-number.least _ l (found ∙ c.if-not-is_writable.false) (omega (arith, number)))
+          ∙ c.loop-number.invariant.1,
     )
 
 pub returns : goal.returns
 returns c =
     let a = c.args in
     let ws = c.args.settings.now in
-    sym (last_step (given ws a.bodies.now) (length ws / 2) c.loop-i.i c.loop-i.least (omega arith)) ∙ c.loop-i.invariant.2
+    sym (last_step (given ws a.bodies.now) (size_of ws) c.loop-number.number-index c.loop-number.least (omega arith)) ∙ c.loop-number.invariant.1

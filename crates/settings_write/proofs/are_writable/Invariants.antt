@@ -1,14 +1,11 @@
 -- The test of the rest from here is the test of the whole.
 use mathlib.Core.Path.{◌≡◌}
-use Prim.Native.Nat.{◌-◌, ◌/◌, ◌≤◌}
-use lib.ListN.{length}
-use Rattle.settings_write.specs.Writing.{before, given, are_writable, all_writable}
+use Prim.Native.Nat.{◌-◌}
+use lib.ListN.{drop}
+use Rattle.settings_write.specs.Writing.{size_of, before, given, are_writable, all_writable}
 use Rattle.settings_write.proofs.are_writable.Given as goal
 
-abbrev pub invariant-loop-i : goal.invariant-loop-i
-invariant-loop-i l =
-    (l.i ≤ length l.settings / 2) × (l.at ≡ before l.settings l.i)
-    × (are_writable (given l.settings l.bodies) (length l.settings / 2 - l.i) l.i l.least ≡ all_writable (given l.settings l.bodies))
-
-abbrev pub decreases-loop-i : goal.decreases-loop-i
-decreases-loop-i l = length l.settings / 2 - l.i
+abbrev pub invariant-loop-number : goal.invariant-loop-number
+invariant-loop-number l =
+    (l.rest ≡ drop (before l.settings l.number-index) l.bodies)
+    × (are_writable (given l.settings l.bodies) (size_of l.settings - l.number-index) l.number-index l.least ≡ all_writable (given l.settings l.bodies))

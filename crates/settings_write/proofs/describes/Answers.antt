@@ -1,27 +1,35 @@
-use mathlib.Core.Path.{◌≡◌}
+use mathlib.Core.Path.{◌≡◌, sym, ◌∙◌}
 use Prim.Native.Nat.{◌/◌}
 use native.Mathlib.Omega.{arith}
 use lib.ListN.{length}
-use borrow.Author.Rules.{rules}
+use borrow.Author.Tests.{eqb-true, eqb-false}
 use Rattle.settings_write.proofs.GivenLaws.{before-first, before-next, odd-words, over-left, all-taken}
+use Rattle.settings_write.proofs.PairLaws.{length-there}
 use Rattle.settings_write.proofs.describes.Goals as goal
 
-pub returns-then-settings-ne0 : goal.returns-then-settings-ne0
-returns-then-settings-ne0 c = odd-words c.args.settings.now _ (omega arith)
-
-pub loop-i-init : goal.loop-i-init
-loop-i-init c = (search rules, omega (arith, before-first c.args.settings.now))
+pub loop-len-init : goal.loop-len-init
+loop-len-init c = omega (arith, before-first c.args.settings.now)
 
 pub returns-then-left-len : goal.returns-then-left-len
 returns-then-left-len c =
-    over-left c.args.settings.now _ c.loop-i.i c.loop-i.left (omega arith) c.loop-i.invariant.1 (omega arith)
-
-pub loop-i-preserved : goal.loop-i-preserved
-loop-i-preserved c =
-    (search rules, omega (arith, before-next c.args.settings.now c.loop-i.i, c.loop-i.invariant.1))
-
-pub returns : goal.returns
-returns c =
     let ws = c.args.settings.now in
-    let e : c.loop-i.i ≡ length ws / 2 = omega arith in
-    all-taken ws _ c.loop-i.left (omega arith) (rw e at c.loop-i.invariant.1)
+    let there = length-there ws _ c.as_chunks.ensures.front c.loop-len.len-index (omega arith) in
+    over-left ws _ c.loop-len.len-index c.loop-len.left (omega arith) c.loop-len.invariant (omega (arith, there))
+
+pub loop-len-preserved : goal.loop-len-preserved
+loop-len-preserved c =
+    let ws = c.args.settings.now in
+    let there = length-there ws _ c.as_chunks.ensures.front c.loop-len.len-index (omega arith) in
+    omega (arith, there, before-next ws c.loop-len.len-index, c.loop-len.invariant)
+
+pub returns-then-is_empty : goal.returns-then-is_empty
+returns-then-is_empty c =
+    let ws = c.args.settings.now in
+    let e : c.loop-len.len-index ≡ length ws / 2 = omega arith in
+    let none = eqb-true _ _ (sym c.is_empty.ensures ∙ c.if-is_empty.true) in
+    all-taken ws _ c.loop-len.left (omega (arith, none)) (rw e at c.loop-len.invariant)
+
+pub returns-else-is_empty : goal.returns-else-is_empty
+returns-else-is_empty c =
+    let some = eqb-false _ _ (sym c.is_empty.ensures ∙ c.if-is_empty.false) in
+    c.if-is_empty.false ∙ odd-words c.args.settings.now _ (λ e. some (omega (arith, e)))

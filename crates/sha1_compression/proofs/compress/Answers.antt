@@ -8,6 +8,6 @@ returns c =
     let a = c.args in
     let m = block_words a.s.now in
     next-hash a.h m
-    (c.further_words.ensures.1 m (length-words 16 a.s.now)
-    (c.first_words.ensures.1 ∙ ap (schedule 16) c.load_block.ensures.1))
+    (c.further_words.ensures m (length-words 16 a.s.now)
+    (c.first_words.ensures ∙ ap (schedule 16) c.load_block.ensures))
     c.eighty.ensures c.plus.ensures

@@ -1,22 +1,23 @@
-use Rattle.std.proofs.Common.{◌≡◌, ◌<◌, ◌≤◌, length, arith, length-set, rules}
-use Rattle.sha1_compression.proofs.ScheduleLaws.{grow-further, grown-up}
+use Rattle.std.proofs.Common.{length-set, arith}
+use Rattle.sha1_compression.specs.Functions.{ROTL}
+use Rattle.sha1_compression.proofs.ScheduleLaws.{fits-set, grow-further, grown-up}
 use Rattle.sha1_compression.proofs.further_words.Goals as goal
 
 pub loop-t-init : goal.loop-t-init
-loop-t-init c = (search rules, search rules, search rules, λ m em e. e)
+loop-t-init c = (omega arith, c.fits-w, λ m em e. e)
 
 pub loop-t-preserved : goal.loop-t-preserved
+unfolding ROTL
 loop-t-preserved c =
-    let t = c.loop-t.t in
-    let h : 32 ≤ t = omega arith in
-    let h' : t < length c.loop-t.w = omega arith in (
-      omega arith,
-      omega arith,
-      simp length-set c.loop-t.invariant.2,
-      λ m em e. grow-further m c.loop-t.w t c.rotate_left.result em (λ i. (c.slice_known-in-loop-t-4-1.given i).fits) h h' (c.loop-t.invariant.3 m em e) c.rotate_left.ensures,
+    let l = c.loop-t in
+    let v = c.rotate_left in
+    let i = l.invariant in (
+      simp length-set i.0,
+      fits-set l.w l.t v.result i.1 v.type_inv,
+      λ m em e. grow-further m l.w l.t v.result em i.1 (omega arith) (omega arith) (i.2 m em e) v.ensures,
     )
 
 pub returns : goal.returns
 returns c =
-    let e : c.loop-t.t ≡ 80 = omega arith in
-    (c.loop-t.invariant.2, λ m em e₀. grown-up m c.loop-t.w c.loop-t.t e c.loop-t.invariant.2 (c.loop-t.invariant.3 m em e₀))
+    let l = c.loop-t in
+    λ m em e. grown-up m l.w l.t (omega arith) l.invariant.0 (l.invariant.2 m em e)

@@ -1,5 +1,6 @@
+use Rattle.std.proofs.Common.{refl}
 use Rattle.sha1_hash.proofs.ChainLaws.{in-bits}
 use Rattle.sha1_hash.proofs.bit_length.Goals as goal
 
 pub returns : goal.returns
-returns c = let a = c.args in in-bits a.blocks a.n c.wrapping_add_u64.ensures.value
+returns c = let a = c.args in in-bits a.blocks a.n refl

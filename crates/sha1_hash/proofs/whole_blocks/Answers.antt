@@ -1,31 +1,29 @@
-use Rattle.std.proofs.Common.{ℕ, ◌+◌, ◌-◌, ◌*◌, ◌/◌, List, length, drop, sym, ap, ◌∙◌, arith}
-use native.Mathlib.Nat.{sub-zero}
-use Rattle.octets.proofs.BufferLaws.{rest}
-use Rattle.sha1_compression.specs.declared.State.{State}
-use Rattle.sha1_compression.specs.Schedule.{block_words}
-use Rattle.sha1_compression.specs.Compression.{compressed}
+use Rattle.std.proofs.Common.{◌<◌, ℕ, ◌/◌, List, length, ap, ◌∙◌, arith}
+use Rattle.std.specs.declared.slice.ChunksExact.{ChunksExact}
 use Rattle.sha1_hash.specs.Hash.{chain}
-use Rattle.sha1_hash.proofs.ChainLaws.{chain-step, chain-end}
+use Rattle.sha1_hash.proofs.ChainLaws.{chain-block, chain-rest}
 use Rattle.sha1_hash.proofs.whole_blocks.Goals as goal
 
-pub loop-i-init : goal.loop-i-init
-loop-i-init c =
-    let a = c.args in
-    let s = c.args.s.now in
-    (omega arith, ap (λ (k : ℕ). chain k a.h s) (sub-zero (length s / 64)))
+pub loop-block-init : goal.loop-block-init
+loop-block-init c =
+    let k = c.chunks_exact-block-items.ensures in
+    let e = c.into_iter-block-iterator.ensures.into_iter_gives in (
+      ap (λ (x : ChunksExact ℕ). x.size) e ∙ k.size,
+      ap (λ (p : List ℕ). chain (length p / 64) c.args.h p) (ap (λ (x : ChunksExact ℕ). x.rest.now) e ∙ k.rest),
+    )
 
-pub loop-i-preserved : goal.loop-i-preserved
-loop-i-preserved c =
-    let s = c.args.s.now in
-    let i = c.loop-i.i in
-    let n = length s / 64 in (
-      omega arith,
-      ap (λ (z : State). chain (n - (i + 1)) z (drop (64 * (i + 1)) s))
-          (c.compress-z.ensures ∙ ap (λ (b : List ℕ). compressed c.loop-i.z (block_words b)) (rest s (64 * i)))
-          ∙ sym (chain-step c.loop-i.z s n i (omega arith)) ∙ c.loop-i.invariant.1,
+pub loop-block-preserved : goal.loop-block-preserved
+loop-block-preserved c =
+    let i = c.loop-block.invariant in
+    let s = c.in-Some.ensures.steps in (
+      s.0 ∙ i.0,
+      ap (λ z. chain (length c.next.new.self.rest.now / 64) z c.next.new.self.rest.now) c.compress-z.ensures
+          ∙ chain-block c.loop-block.z _ _ _ s.1.0 (s.1.1 ∙ i.0) ∙ i.1,
     )
 
 pub returns : goal.returns
 returns c =
-    let s = c.args.s.now in
-    sym (chain-end c.loop-i.z s (length s / 64) c.loop-i.i (omega arith)) ∙ c.loop-i.invariant.1
+    let i = c.loop-block.invariant in
+    let s = c.in-None.ensures.steps in
+    let h : length c.loop-block.block-iterator.rest.now < 64 = omega (arith, i.0, s.1.0) in
+    chain-rest c.loop-block.z _ h ∙ i.1

@@ -1,9 +1,8 @@
-use Rattle.std.proofs.Common.{◌≡◌, ◌-◌, ◌*◌, ◌≤◌, drop}
+use Rattle.std.proofs.Common.{◌≡◌, ◌/◌, length}
 use Rattle.sha1_hash.specs.Hash.{chain}
 use Rattle.sha1_hash.proofs.whole_blocks.Given as goal
 
-abbrev pub invariant-loop-i : goal.invariant-loop-i
-invariant-loop-i l = (l.i ≤ l.n) × (chain (l.n - l.i) l.z (drop (64 * l.i) l.s) ≡ chain l.n l.initial.z l.s)
-
-abbrev pub decreases-loop-i : goal.decreases-loop-i
-decreases-loop-i l = l.n - l.i
+abbrev pub invariant-loop-block : goal.invariant-loop-block
+invariant-loop-block l =
+    let left = l.block-iterator.rest.now in
+    (l.block-iterator.size ≡ 64) × (chain (length left / 64) l.z left ≡ chain (length l.s / 64) l.fn.h l.s)

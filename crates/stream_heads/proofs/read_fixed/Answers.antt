@@ -4,11 +4,11 @@ use Rattle.stream_heads.proofs.read_fixed.Goals as goal
 pub returns-then-byte_or_zero-kind : goal.returns-then-byte_or_zero-kind
 returns-then-byte_or_zero-kind c = fixed-type _ _ _ _ c.byte_or_zero.ensures c.if-byte_or_zero-kind.true
 
-pub returns-then-time_valid : goal.returns-then-time_valid
-returns-then-time_valid c =
-    fixed-read _ _ _ _ c.byte_or_zero.ensures c.if-byte_or_zero-kind.false _ _ c.read_u64_be-time.ensures c.time_valid.ensures c.if-time_valid.true _
-    c.read_u16_be.ensures
+pub returns-then-not-time_valid : goal.returns-then-not-time_valid
+returns-then-not-time_valid c =
+    fixed-time _ _ _ _ c.byte_or_zero.ensures c.if-byte_or_zero-kind.false _ _ c.read_u64_be-time.ensures c.time_valid.ensures c.if-not-time_valid.true
 
 pub returns : goal.returns
 returns c =
-    fixed-time _ _ _ _ c.byte_or_zero.ensures c.if-byte_or_zero-kind.false _ _ c.read_u64_be-time.ensures c.time_valid.ensures c.if-time_valid.false
+    fixed-read _ _ _ _ c.byte_or_zero.ensures c.if-byte_or_zero-kind.false _ _ c.read_u64_be-time.ensures c.time_valid.ensures c.if-not-time_valid.false _
+    c.read_u16_be-length.ensures

@@ -1,45 +1,44 @@
 use mathlib.Core.Path.{sym}
 use native.Mathlib.Omega.{arith}
 use lib.Seq.{length-take-le}
-use Rattle.stream_open_response.proofs.ResponseLaws.{response-settings, response-salt, response-more, response-done, Salted, salted}
+use Rattle.stream_open_response.proofs.ResponseLaws.{response-settings, response-salt, response-more, response-done, salted}
 use Rattle.stream_open_response.proofs.open_response.Goals as goal
+use Rattle.stream_open_response.proofs.open_response.Goals.{then-not-key_fits-via-then-not-key_fits, then-not-key_fits-via-else-not-key_fits+then-request_salt-n}
 
-pub returns-then-request_salt-n : goal.returns-then-request_salt-n
-returns-then-request_salt-n c =
-    response-salt _ _ _ _ _ _ c.key_fits.ensures c.if-key_fits.true _ c.salt_length-n.ensures c.if-request_salt-n.true
+pub returns-then-not-key_fits : goal.returns-then-not-key_fits
+returns-then-not-key_fits c =
+    elim c.then-not-key_fits.branch [
+      | then-not-key_fits-via-then-not-key_fits w ↦ response-settings _ _ _ _ _ _ c.key_fits.ensures w.if-not-key_fits.true
+      | then-not-key_fits-via-else-not-key_fits+then-request_salt-n w ↦
+          response-salt _ _ _ _ _ _ c.key_fits.ensures w.if-not-key_fits.false _ c.salt_length-n.ensures w.if-request_salt-n.true
+    ]
 
-pub overflow_add-n-then-key_fits : goal.overflow_add-n-then-key_fits
-overflow_add-n-then-key_fits c =
-    let has-salt : (let a = c.args in Salted a.method a.key.now c.salt_length-n.result) = salted _ _ _ _ c.key_fits.ensures c.if-key_fits.true c.salt_length-n.ensures in
-    record { fits = omega (arith, has-salt.most) }
+pub overflow_add-due-2 : goal.overflow_add-due-2
+overflow_add-due-2 c =
+    let h = salted _ _ _ _ c.key_fits.ensures c.if-not-key_fits.false c.salt_length-n.ensures in
+    record { fits = omega (arith, h.most) }
 
-pub overflow_add-result-then-s-n : goal.overflow_add-result-then-s-n
-overflow_add-result-then-s-n c =
-    let has-salt : (let a = c.args in Salted a.method a.key.now c.salt_length-n.result) = salted _ _ _ _ c.key_fits.ensures c.if-key_fits.true c.salt_length-n.ensures in
-    record { fits = omega (arith, has-salt.most) }
-
-pub returns-then-s-n : goal.returns-then-s-n
-returns-then-s-n c =
-    response-more _ _ _ _ _ _ c.key_fits.ensures c.if-key_fits.true _ c.salt_length-n.ensures c.if-request_salt-n.false c.if-s-n.true
+pub returns-then-s-due : goal.returns-then-s-due
+returns-then-s-due c =
+    response-more _ _ _ _ _ _ c.key_fits.ensures c.if-not-key_fits.false _ c.salt_length-n.ensures c.if-request_salt-n.false c.if-s-due.true
 
 pub slice_bounds-derive-end : goal.slice_bounds-derive-end
-slice_bounds-derive-end c = sym (length-take-le _ _ (omega (arith, c.if-s-n.false)))
+slice_bounds-derive-end c = sym (length-take-le _ _ (omega (arith, c.if-s-due.false)))
 
-pub derive-w-requires : goal.derive-w-requires
-derive-w-requires c =
-    let has-salt : (let a = c.args in Salted a.method a.key.now c.salt_length-n.result) = salted _ _ _ _ c.key_fits.ensures c.if-key_fits.true c.salt_length-n.ensures in
-    let h = has-salt in
-    let l = length-take-le c.salt_length-n.result c.args.s.now (omega (arith, c.if-s-n.false)) in record { key_len_bound = omega (arith, h.as-key, h.most); salt_len_bound = omega (arith, l, h.most) }
+pub derive-requires : goal.derive-requires
+derive-requires c =
+    let h = salted _ _ _ _ c.key_fits.ensures c.if-not-key_fits.false c.salt_length-n.ensures in
+    let l = length-take-le c.salt_length-n.result c.args.s.now (omega (arith, c.if-s-due.false)) in
+    record { key_len_bound = omega (arith, h.as-key, h.most); salt_len_bound = omega (arith, l, h.most) }
+
+pub invariant_of-key : goal.invariant_of-key
+invariant_of-key c =
+    record { key_for = (salted _ _ _ _ c.key_fits.ensures c.if-not-key_fits.false c.salt_length-n.ensures).lawful _ c.cipher_of.ensures }
 
 pub open_response_at-requires : goal.open_response_at-requires
-open_response_at-requires c =
-    let has-salt : (let a = c.args in Salted a.method a.key.now c.salt_length-n.result) = salted _ _ _ _ c.key_fits.ensures c.if-key_fits.true c.salt_length-n.ensures in
-    record { key_for = has-salt.lawful _ c.cipher_of-cipher.ensures; request_salt_len = c.if-request_salt-n.false; n_in_bounds = c.if-s-n.false }
-
-pub returns-then-key_fits : goal.returns-then-key_fits
-returns-then-key_fits c =
-    response-done _ _ _ _ _ _ c.key_fits.ensures c.if-key_fits.true _ c.salt_length-n.ensures c.if-request_salt-n.false c.if-s-n.false _ _ _
-    c.derive-w.ensures c.cipher_of-cipher.ensures c.open_response_at.ensures
+open_response_at-requires c = record { request_salt_len = c.if-request_salt-n.false; n_in_bounds = c.if-s-due.false }
 
 pub returns : goal.returns
-returns c = response-settings _ _ _ _ _ _ c.key_fits.ensures c.if-key_fits.false
+returns c =
+    response-done _ _ _ _ _ _ c.key_fits.ensures c.if-not-key_fits.false _ c.salt_length-n.ensures c.if-request_salt-n.false c.if-s-due.false _ _ _
+    c.derive.ensures c.cipher_of.ensures c.open_response_at.ensures

@@ -16,10 +16,10 @@ size_answer-requires c = record { greatest_le_max_chunk = c.requires; before_le_
 pub returns-then-stream : goal.returns-then-stream
 returns-then-stream c =
     let a = c.args in
-    chunk-sized a.f a.stream _ _ c.if-f-eq0.false c.if-payload-f.false c.if-stream.true _ c.behind_chunk.ensures _
-    c.size_answer.ensures
+    chunk-used a.f a.stream _ _ c.if-f-eq0.false c.if-payload-f.false c.if-stream.true
 
 pub returns : goal.returns
 returns c =
     let a = c.args in
-    chunk-used a.f a.stream _ _ c.if-f-eq0.false c.if-payload-f.false c.if-stream.false
+    chunk-sized a.f a.stream _ _ c.if-f-eq0.false c.if-payload-f.false c.if-stream.false _ c.behind_chunk.ensures _
+    c.size_answer.ensures

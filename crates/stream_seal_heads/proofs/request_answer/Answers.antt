@@ -1,32 +1,33 @@
 use mathlib.Core.Path.{sym, ◌∙◌}
 use native.Mathlib.Omega.{arith}
-use lib.ListN.{length}
-use Rattle.stream_seal_heads.proofs.HeadAnswerLaws.{Suited, suited, request-unfit, request-no-address, request-unlawful, request-sized}
+use Rattle.stream_seal_heads.proofs.HeadAnswerLaws.{suited, request-unfit, request-no-address, request-unlawful, request-sized}
 use Rattle.stream_seal_heads.proofs.request_answer.Goals as goal
+use Rattle.stream_seal_heads.proofs.request_answer.Goals.{then-not-is_address-via-then-not-is_address, then-not-is_address-via-else-not-is_address+then-not-padding_lawful}
+
+pub returns-then-not-sizes_fit : goal.returns-then-not-sizes_fit
+returns-then-not-sizes_fit c = request-unfit _ _ _ _ _ _ _ (sym c.sizes_fit.ensures ∙ c.if-not-sizes_fit.true)
+
+pub returns-then-not-is_address : goal.returns-then-not-is_address
+returns-then-not-is_address c =
+    elim c.then-not-is_address.branch [
+      | then-not-is_address-via-then-not-is_address w ↦
+          request-no-address _ _ _ _ _ _ _ (sym c.sizes_fit.ensures ∙ c.if-not-sizes_fit.false) (sym c.is_address.ensures ∙ w.if-not-is_address.true)
+      | then-not-is_address-via-else-not-is_address+then-not-padding_lawful w ↦
+          request-unlawful _ _ _ _ _ _ _ (sym c.sizes_fit.ensures ∙ c.if-not-sizes_fit.false) (sym c.is_address.ensures ∙ w.if-not-is_address.false)
+          (sym w.padding_lawful.ensures ∙ w.if-not-padding_lawful.true)
+    ]
 
 pub begin-requires : goal.begin-requires
 begin-requires c =
-    let fit : (let a = c.args in Suited a.method (length a.key.now) (length a.salt.now)) = suited _ _ _ (sym c.sizes_fit.ensures ∙ c.if-sizes_fit.true) in
-    let f = fit in record { key_len_bound = f.key-within; salt_len_bound = f.salt-within }
+    let f = suited _ _ _ (sym c.sizes_fit.ensures ∙ c.if-not-sizes_fit.false) in
+    record { key_len_bound = f.key-within; salt_len_bound = f.salt-within }
 
 pub size_answer-requires : goal.size_answer-requires
 size_answer-requires c =
-    let fit : (let a = c.args in Suited a.method (length a.key.now) (length a.salt.now)) = suited _ _ _ (sym c.sizes_fit.ensures ∙ c.if-sizes_fit.true) in
-    record { greatest_le_max_chunk = omega (arith, fit.salt-within); before_le_max_chunk = omega (arith, fit.salt-within) }
-
-pub returns-then-padding_lawful : goal.returns-then-padding_lawful
-returns-then-padding_lawful c =
-    request-sized _ _ _ _ _ _ _ (sym c.sizes_fit.ensures ∙ c.if-sizes_fit.true) (sym c.is_address.ensures ∙ c.if-is_address.true)
-    (sym c.padding_lawful.ensures ∙ c.if-padding_lawful.true) _ c.variable_length-n.ensures _ c.begin.ensures _ c.size_answer.ensures
-
-pub returns-else-padding_lawful : goal.returns-else-padding_lawful
-returns-else-padding_lawful c =
-    request-unlawful _ _ _ _ _ _ _ (sym c.sizes_fit.ensures ∙ c.if-sizes_fit.true) (sym c.is_address.ensures ∙ c.if-is_address.true)
-    (sym c.padding_lawful.ensures ∙ c.if-padding_lawful.false)
-
-pub returns-else-is_address : goal.returns-else-is_address
-returns-else-is_address c =
-    request-no-address _ _ _ _ _ _ _ (sym c.sizes_fit.ensures ∙ c.if-sizes_fit.true) (sym c.is_address.ensures ∙ c.if-is_address.false)
+    let f = suited _ _ _ (sym c.sizes_fit.ensures ∙ c.if-not-sizes_fit.false) in
+    record { greatest_le_max_chunk = omega arith; before_le_max_chunk = omega (arith, f.salt-within) }
 
 pub returns : goal.returns
-returns c = request-unfit _ _ _ _ _ _ _ (sym c.sizes_fit.ensures ∙ c.if-sizes_fit.false)
+returns c =
+    request-sized _ _ _ _ _ _ _ (sym c.sizes_fit.ensures ∙ c.if-not-sizes_fit.false) (sym c.is_address.ensures ∙ c.if-not-is_address.false)
+    (sym c.padding_lawful.ensures ∙ c.if-not-padding_lawful.false) _ c.variable_length-n.ensures _ c.begin.ensures _ c.size_answer.ensures

@@ -1,25 +1,17 @@
-use mathlib.Core.Path.{sym, ap}
-use lib.ListN.{length}
-use Rattle.protocol.specs.Method.{cipher_of}
-use Rattle.stream_seal.specs.declared.Sealed.{Sealed}
-use Rattle.stream_seal.specs.Sealing.{seal_out}
-use Rattle.stream_seal_heads.specs.HeadSealing.{request}
-use Rattle.stream_seal.proofs.SealAnswerLaws.{answered}
-use Rattle.stream_seal_heads.proofs.HeadAnswerLaws.{SealableRequest, request-sealable}
+use Rattle.stream_seal_heads.proofs.HeadAnswerLaws.{request-answered}
 use Rattle.stream_seal_heads.proofs.HeadWriteLaws.{request-under}
 use Rattle.stream_seal_heads.proofs.seal_request.Goals as goal
 
+pub invariant_of-key : goal.invariant_of-key
+invariant_of-key c =
+    record { key_for = (request-answered _ _ _ _ _ _ _ _ _ _ c.request_answer.ensures c.in_ok-n.was).good _ c.cipher_of.ensures }
+
 pub write_request-requires : goal.write_request-requires
 write_request-requires c =
-    let facts : (let a = c.args in SealableRequest a.method a.key.now a.salt.now a.address.now a.padding (length a.payload.now) (length a.out.now) c.in-Bytes.n c.in-Bytes.stream) = request-sealable _ _ _ _ _ _ _ _ _ (answered _ _ _ _ c.request_answer-answer.ensures c.in-Bytes.is) in
-    let f = facts in record { key_for = f.good _ c.cipher_of-cipher.ensures; payload_bound = f.most; n_value = f.size; n_in_bounds = f.space }
+    let f = request-answered _ _ _ _ _ _ _ _ _ _ c.request_answer.ensures c.in_ok-n.was in
+    record { payload_bound = f.most; n_value = f.size; n_in_bounds = f.space }
 
-pub returns-in-Bytes : goal.returns-in-Bytes
-returns-in-Bytes c =
-    let facts : (let a = c.args in SealableRequest a.method a.key.now a.salt.now a.address.now a.padding (length a.payload.now) (length a.out.now) c.in-Bytes.n c.in-Bytes.stream) = request-sealable _ _ _ _ _ _ _ _ _ (answered _ _ _ _ c.request_answer-answer.ensures c.in-Bytes.is) in
-    record { value = sym (answered _ _ _ _ c.request_answer-answer.ensures c.in-Bytes.is); out_after = request-under _ _ c.cipher_of-cipher.ensures _ _ _ _ _ _ facts.held _ _ _ c.write_request.ensures }
-
-pub returns-in-Refused : goal.returns-in-Refused
-returns-in-Refused c =
-    let a = c.args in
-    let text = request (cipher_of a.method) a.key.now a.salt.now a.clock a.address.now a.padding a.payload.now in record { value = c.request_answer-answer.ensures; out_after = ap (λ (x : Sealed). seal_out x text a.out.now) (sym c.in-Refused.is) }
+pub returns-clause-out_after : goal.returns-clause-out_after
+returns-clause-out_after c =
+    request-under _ _ c.cipher_of.ensures _ _ _ _ _ _ (request-answered _ _ _ _ _ _ _ _ _ _ c.request_answer.ensures c.in_ok-n.was).held _ _ _
+    c.write_request.ensures

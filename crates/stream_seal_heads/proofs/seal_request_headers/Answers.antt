@@ -23,7 +23,7 @@ write_variable-requires c =
     record { padding_le_max_chunk = padding-most; payload_in_bounds = omega (arith, c.write_fixed.auto.out, c.requires.body_len) }
 
 pub seal_pair-requires : goal.seal_pair-requires
-seal_pair-requires c = record { key_for = c.requires.key_for; counter_lt_last_counter = lit< tt; tag_length_le_at = lit≤ tt; tag_length_in_bounds = omega (arith, c.write_variable.auto.out, c.write_fixed.auto.out, c.requires.body_len); body_len_bound = omega (arith, c.write_variable.auto.out, c.write_fixed.auto.out, c.requires.payload_bound, c.requires.body_len) }
+seal_pair-requires c = record { counter_lt_last_counter = lit< tt; tag_length_le_at = lit≤ tt; tag_length_in_bounds = omega (arith, c.write_variable.auto.out, c.write_fixed.auto.out, c.requires.body_len); body_len_bound = omega (arith, c.write_variable.auto.out, c.write_fixed.auto.out, c.requires.payload_bound, c.requires.body_len) }
 
 pub returns : goal.returns
 returns c =

@@ -11,7 +11,7 @@ copy-requires c =
     omega (arith, c.write_fixed.auto.out, c.requires.body_len)
 
 pub seal_pair-requires : goal.seal_pair-requires
-seal_pair-requires c = record { key_for = c.requires.key_for; counter_lt_last_counter = lit< tt; tag_length_le_at = omega arith; tag_length_in_bounds = omega (arith, c.copy.auto.out, c.write_fixed.auto.out, c.requires.body_len); body_len_bound = omega (arith, c.copy.auto.out, c.write_fixed.auto.out, c.requires.binding_len_bound, c.requires.payload_len_bound, c.requires.body_len) }
+seal_pair-requires c = record { counter_lt_last_counter = lit< tt; tag_length_le_at = omega arith; tag_length_in_bounds = omega (arith, c.copy.auto.out, c.write_fixed.auto.out, c.requires.body_len); body_len_bound = omega (arith, c.copy.auto.out, c.write_fixed.auto.out, c.requires.binding_len_bound, c.requires.payload_len_bound, c.requires.body_len) }
 
 pub returns : goal.returns
 returns c =

@@ -6,5 +6,5 @@ pub returns-then-key_fits : goal.returns-then-key_fits
 returns-then-key_fits c =
     salt-decides _ _ _ (sym c.key_fits.ensures ∙ c.if-key_fits.true) _ c.salt_length.ensures
 
-pub returns : goal.returns
-returns c = key-unfit _ _ _ (sym c.key_fits.ensures ∙ c.if-key_fits.false)
+pub returns-else-key_fits : goal.returns-else-key_fits
+returns-else-key_fits c = c.if-key_fits.false ∙ key-unfit _ _ _ (sym c.key_fits.ensures ∙ c.if-key_fits.false)

@@ -1,10 +1,8 @@
-use mathlib.Core.Path.{◌≡◌, ◌∙◌}
-use Prim.Native.Nat.{◌-◌}
+use mathlib.Core.Path.{◌∙◌}
 use native.Mathlib.Omega.{arith}
-use lib.ListN.{length, take, drop, length-drop}
-use lib.Seq.{length-take-le}
+use lib.ListN.{length}
 use Rattle.octets.proofs.BufferLaws.{part-put}
-use Rattle.stream_seal_heads.proofs.HeadWriteLaws.{request-law}
+use Rattle.stream_seal_heads.proofs.HeadWriteLaws.{length-part, request-law}
 use Rattle.stream_seal_heads.proofs.write_request.Goals as goal
 
 pub copy-requires : goal.copy-requires
@@ -22,11 +20,11 @@ slice_bounds-seal_request_headers-end c =
 
 pub seal_request_headers-requires : goal.seal_request_headers-requires
 seal_request_headers-requires c =
-    let body-part : (let a = c.args in let k = length a.salt.now in length (take (a.n - k) (drop k c.copy.new.out)) ≡ a.n - k) = let k = length c.args.salt.now in length-take-le _ _ (omega (arith, length-drop k c.copy.new.out, c.copy.auto.out, c.requires.n_in_bounds)) in
-    record { key_for = c.requires.key_for; payload_bound = c.requires.payload_bound; body_len = omega (arith, body-part, c.requires.n_value) }
+    let body-part = length-part c.args.n (length c.args.salt.now) c.copy.new.out (omega (arith, c.copy.auto.out, c.requires.n_in_bounds)) in
+    record { payload_bound = c.requires.payload_bound; body_len = omega (arith, body-part, c.requires.n_value) }
 
 pub returns : goal.returns
 returns c =
-    let body-part : (let a = c.args in let k = length a.salt.now in length (take (a.n - k) (drop k c.copy.new.out)) ≡ a.n - k) = let k = length c.args.salt.now in length-take-le _ _ (omega (arith, length-drop k c.copy.new.out, c.copy.auto.out, c.requires.n_in_bounds)) in
+    let body-part = length-part c.args.n (length c.args.salt.now) c.copy.new.out (omega (arith, c.copy.auto.out, c.requires.n_in_bounds)) in
     request-law _ _ _ _ _ _ _ (omega (arith, c.requires.n_value, c.requires.n_in_bounds)) c.copy.ensures
     (part-put _ _ _ _ (c.seal_request_headers.auto.body ∙ body-part)) _ _ _ c.seal_request_headers.ensures

@@ -1,6 +1,4 @@
-use Prim.Native.Nat.{◌+◌, ◌≤◌}
 use native.Mathlib.Omega.{arith}
-use lib.ListN.{length}
 use Rattle.stream_seal_heads.specs.HeadSealing.{variable_length}
 use Rattle.stream_seal_heads.proofs.HeadWriteLaws.{variable-law}
 use Rattle.stream_seal_heads.proofs.write_variable.Goals as goal
@@ -8,50 +6,42 @@ use Rattle.stream_seal_heads.proofs.write_variable.Goals as goal
 pub overflow_add-behind : goal.overflow_add-behind
 unfolding variable_length
 overflow_add-behind c =
-    let room : (let a = c.args in a.at + (length a.address.now + 2 + a.padding + length a.payload.now) ≤ length a.out.now) = c.requires.payload_in_bounds in
-    omega (arith, room, c.well_formed)
+    omega (arith, c.requires.payload_in_bounds, c.well_formed)
 
 pub copy-requires : goal.copy-requires
 unfolding variable_length
 copy-requires c =
-    let room : (let a = c.args in a.at + (length a.address.now + 2 + a.padding + length a.payload.now) ≤ length a.out.now) = c.requires.payload_in_bounds in
-    omega (arith, room)
+    omega (arith, c.requires.payload_in_bounds)
 
 pub write_u16_be-requires : goal.write_u16_be-requires
 unfolding variable_length
 write_u16_be-requires c =
-    let room : (let a = c.args in a.at + (length a.address.now + 2 + a.padding + length a.payload.now) ≤ length a.out.now) = c.requires.payload_in_bounds in
-    omega (arith, room, c.copy.auto.out)
+    omega (arith, c.requires.payload_in_bounds, c.copy.auto.out)
 
 pub overflow_add-behind-2 : goal.overflow_add-behind-2
 unfolding variable_length
 overflow_add-behind-2 c =
-    let room : (let a = c.args in a.at + (length a.address.now + 2 + a.padding + length a.payload.now) ≤ length a.out.now) = c.requires.payload_in_bounds in
-    omega (arith, room, c.well_formed)
+    omega (arith, c.requires.payload_in_bounds, c.well_formed)
 
 pub zero-requires : goal.zero-requires
 unfolding variable_length
 zero-requires c =
-    let room : (let a = c.args in a.at + (length a.address.now + 2 + a.padding + length a.payload.now) ≤ length a.out.now) = c.requires.payload_in_bounds in
-    omega (arith, room, c.copy.auto.out, c.write_u16_be.auto.out)
+    omega (arith, c.requires.payload_in_bounds, c.copy.auto.out, c.write_u16_be.auto.out)
 
 pub overflow_add-behind-3 : goal.overflow_add-behind-3
 unfolding variable_length
 overflow_add-behind-3 c =
-    let room : (let a = c.args in a.at + (length a.address.now + 2 + a.padding + length a.payload.now) ≤ length a.out.now) = c.requires.payload_in_bounds in
-    omega (arith, room, c.well_formed)
+    omega (arith, c.requires.payload_in_bounds, c.well_formed)
 
 pub overflow_add-behind-4 : goal.overflow_add-behind-4
 unfolding variable_length
 overflow_add-behind-4 c =
-    let room : (let a = c.args in a.at + (length a.address.now + 2 + a.padding + length a.payload.now) ≤ length a.out.now) = c.requires.payload_in_bounds in
-    omega (arith, room, c.well_formed)
+    omega (arith, c.requires.payload_in_bounds, c.well_formed)
 
 pub copy-requires-2 : goal.copy-requires-2
 unfolding variable_length
 copy-requires-2 c =
-    let room : (let a = c.args in a.at + (length a.address.now + 2 + a.padding + length a.payload.now) ≤ length a.out.now) = c.requires.payload_in_bounds in
-    omega (arith, room, c.copy.auto.out, c.write_u16_be.auto.out, c.zero.auto.out)
+    omega (arith, c.requires.payload_in_bounds, c.copy.auto.out, c.write_u16_be.auto.out, c.zero.auto.out)
 
 pub returns : goal.returns
 returns c =

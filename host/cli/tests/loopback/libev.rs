@@ -22,13 +22,14 @@ fn url_safe(place: &Place) -> String {
 }
 
 fn exchange(branch: SocketAddr) {
+    // Streams first: the peer listens for them, which is waited for, before it binds its socket for datagrams. It closes both
+    // directions when one of them ends.
+    plain::exchange_open_stream(branch, b"short");
+    plain::exchange_open_stream(branch, &plain::bytes(2, LONG));
     let user = User::new(branch);
     for length in LENGTHS {
         user.exchange(&plain::bytes(1, length));
     }
-    // The peer closes both directions when one of them ends.
-    plain::exchange_open_stream(branch, b"short");
-    plain::exchange_open_stream(branch, &plain::bytes(2, LONG));
 }
 
 #[test]

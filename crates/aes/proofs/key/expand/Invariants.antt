@@ -1,6 +1,6 @@
 use mathlib.Core.Path.{◌≡◌}
 use mathlib.Core.List.{map}
-use Prim.Native.Nat.{◌+◌, ◌-◌, ◌*◌, ◌≤◌, ◌<◌}
+use Prim.Native.Nat.{◌<◌}
 use lib.ListN.{length, take}
 use Rattle.aes.specs.KeyExpansion.{key_words}
 use Rattle.aes.specs.Words.{bytes}
@@ -8,13 +8,7 @@ use Rattle.aes.proofs.KeyLaws.{Zeros, Expanding}
 use Rattle.aes.proofs.key.expand.Given as goal
 
 abbrev pub invariant-loop-i : goal.invariant-loop-i
-invariant-loop-i l = (l.i ≤ l.nk) × (length l.w ≡ 60) × (map bytes (take l.i l.w) ≡ key_words l.key l.i) × Zeros l.w l.i
-
-abbrev pub decreases-loop-i : goal.decreases-loop-i
-decreases-loop-i l = l.nk - l.i
+invariant-loop-i l = (length l.w ≡ 60) × (map bytes (take l.i l.w) ≡ key_words l.key l.i) × Zeros l.w l.i
 
 abbrev pub invariant-loop-n : goal.invariant-loop-n
-invariant-loop-n l = (l.n ≤ 3 * l.nk + 28) × (l.at < l.nk) × (length l.w ≡ 60) × Expanding l.key l.w l.nk l.n l.t l.at l.c
-
-abbrev pub decreases-loop-n : goal.decreases-loop-n
-decreases-loop-n l = 3 * l.nk + 28 - l.n
+invariant-loop-n l = (l.at < l.nk) × (length l.w ≡ 60) × Expanding l.key l.w l.nk l.n l.t l.at l.c

@@ -1,20 +1,21 @@
 use mathlib.Core.Path.{sym, ap}
+use native.Mathlib.Omega.{arith}
 use borrow.Author.Tests.{ne_eqb}
 use Rattle.aes.specs.Keyed.{nk_of}
 use Rattle.aes.proofs.key.key_words.Goals as goal
 
-pub returns-in-16 : goal.returns-in-16
+pub returns-in-16-clause-some : goal.returns-in-16-clause-some
 unfolding nk_of
-returns-in-16 c = sym (ap nk_of c.in-16.is)
+returns-in-16-clause-some c = (sym (ap nk_of c.in-16.is), record { words = c.in-16.is; least = omega arith; most = omega arith })
 
-pub returns-in-24 : goal.returns-in-24
+pub returns-in-24-clause-some : goal.returns-in-24-clause-some
 unfolding nk_of
-returns-in-24 c = sym (ap nk_of c.in-24.is)
+returns-in-24-clause-some c = (sym (ap nk_of c.in-24.is), record { words = c.in-24.is; least = omega arith; most = omega arith })
 
-pub returns-in-32 : goal.returns-in-32
+pub returns-in-32-clause-some : goal.returns-in-32-clause-some
 unfolding nk_of
-returns-in-32 c = sym (ap nk_of c.in-32.is)
+returns-in-32-clause-some c = (sym (ap nk_of c.in-32.is), record { words = c.in-32.is; least = omega arith; most = omega arith })
 
-pub returns-in_default : goal.returns-in_default
+pub returns-in_default-clause-none : goal.returns-in_default-clause-none
 unfolding nk_of
-returns-in_default c = simp (ne_eqb _ _ c.in_default.in_default-own.rest.0.0.1, ne_eqb _ _ c.in_default.in_default-own.rest.0.1, ne_eqb _ _ c.in_default.in_default-own.rest.1)
+returns-in_default-clause-none c = simp (ne_eqb _ _ c.in_default.in_default-own.rest.0.0.1, ne_eqb _ _ c.in_default.in_default-own.rest.0.1, ne_eqb _ _ c.in_default.in_default-own.rest.1)

@@ -1,6 +1,7 @@
+use mathlib.Core.Path.{◌∙◌, ap}
+use Rattle.aes.specs.Words.{bytes}
 use Rattle.aes.proofs.WordLaws.{bytes-rotate3}
-use borrow.Author.Rules.{rules}
 use Rattle.aes.proofs.word.rotate3.Goals as goal
 
 pub returns : goal.returns
-returns c = bytes-rotate3 c.args.w (search rules)
+returns c = ap bytes c.rotate_left.ensures ∙ bytes-rotate3 c.args.w c.ranges.w.fits

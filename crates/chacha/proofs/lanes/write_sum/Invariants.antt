@@ -1,5 +1,5 @@
 -- The loop's invariant: the first i words are written.
-use Rattle.std.proofs.Common.{◌≡◌, ◌-◌, ◌≤◌, length, take}
+use Rattle.std.proofs.Common.{◌≡◌, length, take}
 use Rattle.octets.specs.Buffers.{put}
 use Rattle.chacha.specs.Words.{bytes}
 use Rattle.chacha.specs.ChaCha.{summed}
@@ -8,7 +8,4 @@ use Rattle.chacha.proofs.lanes.write_sum.Given as goal
 
 abbrev pub invariant-loop-i : goal.invariant-loop-i
 invariant-loop-i l =
-    (l.i ≤ 16) × (l.out ≡ put l.initial.out l.at (bytes (take l.i (summed (lane l.v l.j) l.t)))) × (length l.out ≡ length l.initial.out)
-
-abbrev pub decreases-loop-i : goal.decreases-loop-i
-decreases-loop-i l = 16 - l.i
+    (l.out ≡ put l.initial.out l.at (bytes (take l.i (summed (lane l.v l.j) l.t)))) × (length l.out ≡ length l.initial.out)

@@ -7,7 +7,7 @@ use Rattle.comparison_text.proofs.TextLaws.{no_lines, length-next}
 use Rattle.comparison_text.proofs.lines.lines_length.Goals as goal
 
 pub loop-i-init : goal.loop-i-init
-loop-i-init c = (search rules, omega (arith, ap length (no_lines c.args.first.now c.args.second.now)), search rules)
+loop-i-init c = (omega (arith, ap length (no_lines c.args.first.now c.args.second.now)), search rules)
 
 pub line_length-total-requires : goal.line_length-total-requires
 line_length-total-requires c =
@@ -19,12 +19,11 @@ overflow_add-total c =
 
 pub loop-i-preserved : goal.loop-i-preserved
 loop-i-preserved c = (
-  search rules,
-  omega (arith, c.loop-i.invariant.1, c.line_length-total.ensures, length-next c.args.first.now c.args.second.now c.loop-i.i _ c.difference_at-d.ensures),
-  omega (arith, c.loop-i.invariant.2, c.line_length-total.ensures, line-short _ _ c.loop-i.i c.requires.0 c.requires.1 (omega arith) _ c.difference_at-d.ensures),
+  omega (arith, c.loop-i.invariant.0, c.line_length-total.ensures, length-next c.args.first.now c.args.second.now c.loop-i.i _ c.difference_at-d.ensures),
+  omega (arith, c.loop-i.invariant.1, c.line_length-total.ensures, line-short _ _ c.loop-i.i c.requires.0 c.requires.1 (omega arith) _ c.difference_at-d.ensures),
 )
 
 pub returns : goal.returns
 returns c =
     let e : c.loop-i.i ≡ c.args.most = omega arith in
-    (rw e at c.loop-i.invariant.1, rw e at c.loop-i.invariant.2)
+    (rw e at c.loop-i.invariant.0, rw e at c.loop-i.invariant.1)

@@ -1,6 +1,5 @@
-use Rattle.std.proofs.Common.{◌≡◌, ℕ, ap, ◌∙◌, subst, arith, rules}
+use Rattle.std.proofs.Common.{◌≡◌, ℕ, ◌∙◌, subst, arith}
 use Rattle.octets.specs.Numbers.{to_be}
-use Rattle.ctr.specs.Gctr.{counter_block}
 use Rattle.ctr.specs.Long.{Batch}
 use Rattle.ctr.specs.Words.{nonce_bytes}
 use Rattle.ctr.proofs.CounterLaws.{counter-bytes}
@@ -20,8 +19,7 @@ loop-i-preserved c =
       c.set_block.ensures.s_len_2,
       batch-more (to_be 16) (nonce_bytes n) a.c c.loop-i.i c.loop-i.s _ c.counter_block-x.result v.1 (omega arith) v.2 c.set_block.ensures.s_after
           (c.counter_block-x.ensures
-          ∙ counter-bytes n.a n.b n.c c.wrapping_add_u32.result (search rules)
-          ∙ ap (λ (x : ℕ). to_be 16 (counter_block (nonce_bytes n) x)) c.wrapping_add_u32.ensures.value),
+          ∙ counter-bytes n.a n.b n.c _ (omega arith)),
     )
 
 pub returns : goal.returns

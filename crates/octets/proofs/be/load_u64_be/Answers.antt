@@ -1,10 +1,8 @@
-use native.Mathlib.Nat.{le_refl}
-use Rattle.buffers.proofs.BufferLaws.{octets-fit}
-use Rattle.octets.proofs.NumberLaws.{be-join}
+use mathlib.Core.Path.{◌∙◌}
+use Rattle.octets.proofs.NumberLaws.{be_at, from_be_64}
 use Rattle.octets.proofs.be.load_u64_be.Goals as goal
 
 pub returns : goal.returns
 returns c =
-    let a = c.args in
-    be-join 4 4 8 (le_refl 8) a.s.now (octets-fit a.s.now c.shared_slice_known-1.given) a.at
-    c.load_u32-2.ensures c.load_u32.ensures
+    let b = c.bytes_there.result in
+    c.from_be_bytes.ensures ∙ from_be_64 b ∙ be_at 8 c.args.at c.args.s.now b c.bytes_there.ensures

@@ -1,11 +1,8 @@
 use mathlib.Core.Path.{◌∙◌}
-use Rattle.octets.proofs.NumberLaws.{be-past, be-rest}
+use Rattle.octets.proofs.NumberLaws.{be_at, from_be_16}
 use Rattle.octets.proofs.be.read_u16_be.Goals as goal
-
-pub returns-then-s-at : goal.returns-then-s-at
-returns-then-s-at c = be-past 2 c.args.s.now c.if-s-at.true
 
 pub returns : goal.returns
 returns c =
-    let a = c.args in
-    c.load_u16-2.ensures ∙ be-rest 2 8 a.s.now a.at c.padded.ensures
+    let b = c.bytes_at.result in
+    c.from_be_bytes.ensures ∙ from_be_16 b ∙ be_at 2 c.args.at c.args.s.now b c.bytes_at.ensures

@@ -1,8 +1,9 @@
-use borrow.Author.Rules.{rules}
-use Rattle.octets.proofs.NumberLaws.{put-be}
+use mathlib.Core.Path.{◌∙◌, ap}
+use Rattle.buffers.specs.Buffers.{put}
+use Rattle.octets.proofs.NumberLaws.{high-first}
 use Rattle.octets.proofs.be.write_u64_be.Goals as goal
 
 pub returns : goal.returns
 returns c =
     let a = c.args in
-    put-be 4 4 a.out.now a.at a.x (search rules) c.write_u32_be.ensures c.write_u32_be-2.ensures
+    c.copy.ensures ∙ ap (put a.out.now a.at) (c.to_be_bytes.ensures ∙ high-first 8 a.x)

@@ -1,8 +1,9 @@
-use borrow.Author.Rules.{rules}
-use Rattle.octets.proofs.NumberLaws.{put-le}
+use mathlib.Core.Path.{◌∙◌, ap}
+use Rattle.buffers.specs.Buffers.{put}
+use Rattle.octets.proofs.NumberLaws.{low-first}
 use Rattle.octets.proofs.le.write_u64_le.Goals as goal
 
 pub returns : goal.returns
 returns c =
     let a = c.args in
-    put-le 4 4 a.out.now a.at a.x (search rules) c.write_u32_le.ensures c.write_u32_le-2.ensures
+    c.copy.ensures ∙ ap (put a.out.now a.at) (c.to_le_bytes.ensures ∙ low-first 8 a.x)

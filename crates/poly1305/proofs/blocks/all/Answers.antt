@@ -1,28 +1,21 @@
-use mathlib.Core.Path.{ap, ◌∙◌}
-use Prim.Native.Nat.{ℕ, ◌+◌, ◌*◌, ◌/◌}
-use native.Mathlib.Omega.{arith}
-use lib.ListN.{length}
-use Rattle.octets.proofs.BufferLaws.{rest}
+use Rattle.std.proofs.Common.{◌≡◌, ℕ, ◌+◌, ◌*◌, ◌%◌, length, ap, sym, ◌∙◌}
+use Rattle.std.proofs.lemmas.Bool.{eqb-true, eqb-false}
 use Rattle.poly1305.specs.Limbs.{value}
 use Rattle.poly1305.specs.Poly1305.{mod_p}
-use Rattle.poly1305.proofs.PrimeLaws.{below-loose}
 use Rattle.poly1305.proofs.MessageLaws.{poly-whole, poly-short}
 use Rattle.poly1305.proofs.blocks.all.Goals as goal
 
-pub step-requires : goal.step-requires
-step-requires c = record { loose = c.whole-a.ensures.loose; below = c.short.ensures.below; loose_2 = below-loose c.requires }
+pub returns-then-is_empty-clause-result_value : goal.returns-then-is_empty-clause-result_value
+returns-then-is_empty-clause-result_value c =
+    let size = ap length c.remainder-rest.ensures ∙ c.chunks_exact.ensures.remainder_len in
+    let none = sym size ∙ eqb-true _ _ (sym c.if-is_empty.ensures) in
+    poly-whole (value c.args.r) _ c.args.s.now c.whole-a.ensures.result_value none
 
-pub returns-then-at-s : goal.returns-then-at-s
-returns-then-at-s c =
-    let a = c.args in
-    let s = c.args.s.now in
-    let r = value a.r in
-    let n = mod_p (value c.whole-a.result) in record {
-      loose = c.step.ensures.loose_3;
-      result_value = c.step.ensures.result_value ∙ ap (λ (x : ℕ). mod_p ((n + x) * r)) c.short.ensures.result_value
-          ∙ poly-short r n s c.whole-a.ensures.result_value _ (omega arith) (rest s (length s / 16 * 16));
-    }
-
-pub returns : goal.returns
-returns c =
-    let a = c.args in record { loose = c.whole-a.ensures.loose; result_value = poly-whole (value a.r) _ a.s.now c.whole-a.ensures.result_value (omega arith) }
+pub returns-clause-result_value : goal.returns-clause-result_value
+returns-clause-result_value c =
+    let r = value c.args.r in
+    let n = mod_p (value c.whole-a.result) in
+    let size = ap length c.remainder-rest.ensures ∙ c.chunks_exact.ensures.remainder_len in
+    let some : length c.args.s.now % 16 ≡ 0 → ⊥ = λ e. eqb-false _ _ (sym c.if-is_empty.ensures) (size ∙ e) in
+    c.step.ensures.result_value ∙ ap (λ (x : ℕ). mod_p ((n + x) * r)) c.short.ensures.result_value
+    ∙ poly-short r n c.args.s.now c.whole-a.ensures.result_value _ some (c.remainder-rest.ensures ∙ c.chunks_exact.ensures.remainder)

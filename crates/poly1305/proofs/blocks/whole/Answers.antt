@@ -1,45 +1,42 @@
-use mathlib.Core.Path.{sym, ap, ◌∙◌}
-use mathlib.Core.List.{List}
-use Prim.Native.Nat.{ℕ, ◌+◌, ◌-◌, ◌*◌, ◌/◌}
-use native.Mathlib.Omega.{arith}
-use lib.Dec.{lit<}
-use lib.ListN.{length, take, drop}
-use Rattle.octets.proofs.BufferLaws.{rest}
+use Rattle.std.proofs.Common.{ℕ, ◌+◌, ◌*◌, ◌/◌, length, ap, sym, ◌∙◌, arith}
 use Rattle.poly1305.specs.Limbs.{value}
-use Rattle.poly1305.specs.Poly1305.{mod_p, block_number, poly_from, zero_padded}
+use Rattle.poly1305.specs.Poly1305.{mod_p, poly_from}
+use Rattle.poly1305.proofs.MessageLaws.{zero-loose, zero-value, blocks_next, blocks_none}
 use Rattle.poly1305.proofs.PrimeLaws.{below-loose}
-use Rattle.poly1305.proofs.MessageLaws.{blocks_step, blocks_end, blocks_start}
 use Rattle.poly1305.proofs.blocks.whole.Goals as goal
 
-pub loop-i-init : goal.loop-i-init
-loop-i-init c =
-    let a = c.args in (
-      omega arith,
-      record { b0 = lit< tt; b1 = lit< tt; b2 = lit< tt; b3 = lit< tt; b4 = lit< tt },
-      blocks_start (value a.r) a.s.now (length a.s.now / 16),
-    )
+pub loop-block-init : goal.loop-block-init
+loop-block-init c =
+    let z = c.default-a.ensures in
+    let e = ap (λ x. x.rest.now) c.into_iter-block-iterator.ensures.into_iter_gives ∙ c.chunks_exact-block-items.ensures.rest in
+    record {
+      loose = zero-loose _ z;
+      size = ap (λ x. x.size) c.into_iter-block-iterator.ensures.into_iter_gives ∙ c.chunks_exact-block-items.ensures.size;
+      left = λ i. poly_from (length (e i) / 16) (value c.args.r) (zero-value _ z i) (e i);
+    }
 
-pub step-t-requires : goal.step-t-requires
-step-t-requires c = record { loose = c.loop-i.invariant.1; below = c.first.ensures.below; loose_2 = below-loose c.requires }
+pub step-a-requires : goal.step-a-requires
+step-a-requires c = record { loose = c.loop-block.invariant.loose; below = c.first.ensures.below; loose_2 = below-loose c.requires }
 
-pub loop-i-preserved : goal.loop-i-preserved
-loop-i-preserved c =
-    let a = c.args in
-    let s = c.args.s.now in
-    let r = value a.r in
-    let i = c.loop-i.i in
-    let n = length s / 16 in (
-      omega arith,
-      c.step-t.ensures.loose_3,
-      ap (λ (x : ℕ). poly_from (n - (i + 1)) r x (drop (16 * (i + 1)) s))
-          (c.step-t.ensures.result_value
-          ∙ ap (λ (x : ℕ). mod_p ((mod_p (value c.loop-i.a) + x) * r))
-          (c.first.ensures.result_value ∙ ap (λ (b : List ℕ). block_number (zero_padded (take 16 b))) (rest s (16 * i))))
-          ∙ sym (blocks_step r (mod_p (value c.loop-i.a)) s n i (omega arith) (omega arith)) ∙ c.loop-i.invariant.2,
-    )
+pub loop-block-preserved : goal.loop-block-preserved
+loop-block-preserved c =
+    let r = value c.args.r in
+    let step = c.in-Some.ensures.steps in
+    let rest = c.next.new.self.rest.now in
+    record {
+      loose = c.step-a.ensures.loose_3;
+      size = step.0 ∙ c.loop-block.invariant.size;
+      left = ap (λ (x : ℕ). poly_from (length rest / 16) r x rest)
+          (c.step-a.ensures.result_value ∙ ap (λ (x : ℕ). mod_p ((mod_p (value c.loop-block.a) + x) * r)) c.first.ensures.result_value)
+          ∙ sym (blocks_next r (mod_p (value c.loop-block.a)) _ _ rest step.1.0 (step.1.1 ∙ c.loop-block.invariant.size))
+          ∙ c.loop-block.invariant.left;
+    }
 
 pub returns : goal.returns
 returns c =
-    let a = c.args in
-    let s = c.args.s.now in
-    let n = length s / 16 in record { loose = c.loop-i.invariant.1; result_value = sym (blocks_end (value a.r) (mod_p (value c.loop-i.a)) s n c.loop-i.i (omega arith)) ∙ c.loop-i.invariant.2 }
+    let short = c.in-None.ensures.steps.1.0 in
+    record {
+      loose = c.loop-block.invariant.loose;
+      result_value = sym (blocks_none (value c.args.r) (mod_p (value c.loop-block.a)) c.loop-block.block-iterator.rest.now (omega (arith, short, c.loop-block.invariant.size)))
+          ∙ c.loop-block.invariant.left;
+    }

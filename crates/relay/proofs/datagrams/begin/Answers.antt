@@ -7,12 +7,12 @@ returns-then-session-ne-SESSION c =
     let a = c.args in
     not-lent a.begun a.session.now c.if-session-ne-SESSION.true
 
-pub returns-in-Ready : goal.returns-in-Ready
-returns-in-Ready c =
+pub returns-in-Ok : goal.returns-in-Ok
+returns-in-Ok c =
     let a = c.args in
-    ready a.begun a.session.now c.if-session-ne-SESSION.false _ _ _ c.in-Ready.is c.session_words-words.ensures c.write.ensures
+    ready a.begun a.session.now c.if-session-ne-SESSION.false _ _ _ c.in-Ok.is c.session_words.ensures c.write.ensures
 
-pub returns-in-Refused : goal.returns-in-Refused
-returns-in-Refused c =
+pub returns-in-Err : goal.returns-in-Err
+returns-in-Err c =
     let a = c.args in
-    not-begun a.begun a.session.now c.if-session-ne-SESSION.false _ _ c.in-Refused.is c.number.ensures
+    not-begun a.begun a.session.now c.if-session-ne-SESSION.false _ _ c.in-Err.is c.number.ensures

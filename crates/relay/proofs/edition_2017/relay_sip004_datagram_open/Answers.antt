@@ -10,14 +10,14 @@ returns-then-answer-ne-ANSWER c =
     let a = c.args in
     untold (opened_told (open_answer a.method a.key.now a.datagram.now (length a.out.now)) (payload_of a.key.now a.datagram.now) a.out.now a.answer.now) a.out.now a.answer.now c.if-answer-ne-ANSWER.true
 
-pub returns-in-Text : goal.returns-in-Text
-returns-in-Text c =
+pub returns-in-Ok : goal.returns-in-Ok
+returns-in-Ok c =
     let a = c.args in
     a-text (open_answer a.method a.key.now a.datagram.now (length a.out.now)) _
-    (payload_of a.key.now a.datagram.now) a.out.now a.answer.now _ c.if-answer-ne-ANSWER.false c.open.ensures.value c.open.ensures.out_after _ c.in-Text.is
+    (payload_of a.key.now a.datagram.now) a.out.now a.answer.now _ c.if-answer-ne-ANSWER.false c.open.ensures.value c.open.ensures.out_after _ c.in-Ok.is
 
-pub returns-in-Refused : goal.returns-in-Refused
-returns-in-Refused c =
+pub returns-in-Err : goal.returns-in-Err
+returns-in-Err c =
     let a = c.args in
     no_text (open_answer a.method a.key.now a.datagram.now (length a.out.now)) _
-    (payload_of a.key.now a.datagram.now) a.out.now a.answer.now _ c.if-answer-ne-ANSWER.false c.open.ensures.value c.open.ensures.out_after _ _ c.in-Refused.is c.number.ensures
+    (payload_of a.key.now a.datagram.now) a.out.now a.answer.now _ c.if-answer-ne-ANSWER.false c.open.ensures.value c.open.ensures.out_after _ _ c.in-Err.is c.number.ensures

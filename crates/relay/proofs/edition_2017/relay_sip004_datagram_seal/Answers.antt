@@ -10,14 +10,14 @@ returns-then-answer-ne-ANSWER c =
     let a = c.args in
     untold (sealed_told (seal_answer a.method (length a.key.now) (length a.salt.now) (length a.payload.now) (length a.out.now)) (datagram a.key.now a.salt.now a.payload.now) a.out.now a.answer.now) a.out.now a.answer.now c.if-answer-ne-ANSWER.true
 
-pub returns-in-Datagram : goal.returns-in-Datagram
-returns-in-Datagram c =
+pub returns-in-Ok : goal.returns-in-Ok
+returns-in-Ok c =
     let a = c.args in
     a-datagram (seal_answer a.method (length a.key.now) (length a.salt.now) (length a.payload.now) (length a.out.now)) _
-    (datagram a.key.now a.salt.now a.payload.now) a.out.now a.answer.now _ c.if-answer-ne-ANSWER.false c.seal.ensures.value c.seal.ensures.out_after _ c.in-Datagram.is
+    (datagram a.key.now a.salt.now a.payload.now) a.out.now a.answer.now _ c.if-answer-ne-ANSWER.false c.seal.ensures.value c.seal.ensures.out_after _ c.in-Ok.is
 
-pub returns-in-Refused : goal.returns-in-Refused
-returns-in-Refused c =
+pub returns-in-Err : goal.returns-in-Err
+returns-in-Err c =
     let a = c.args in
     no-datagram (seal_answer a.method (length a.key.now) (length a.salt.now) (length a.payload.now) (length a.out.now)) _
-    (datagram a.key.now a.salt.now a.payload.now) a.out.now a.answer.now _ c.if-answer-ne-ANSWER.false c.seal.ensures.value c.seal.ensures.out_after _ _ c.in-Refused.is c.number.ensures
+    (datagram a.key.now a.salt.now a.payload.now) a.out.now a.answer.now _ c.if-answer-ne-ANSWER.false c.seal.ensures.value c.seal.ensures.out_after _ _ c.in-Err.is c.number.ensures

@@ -7,19 +7,19 @@ use Rattle.protocol.specs.Method.{cipher_of}
 use Rattle.relay.proofs.streams.relay_stream_seal_response.Goals as goal
 
 pub write_sealed-requires : goal.write_sealed-requires
-write_sealed-requires c = let all = fitting _ _ (sym c.fits.ensures ∙ c.if-fits.true) in record { stream_len = all.0; answer_len = all.1 }
-
-pub returns-then-fits : goal.returns-then-fits
-unfolding seals_response
-returns-then-fits c =
-    let a = c.args in
-    sealed-fit (response_answer a.method a.key.now a.salt.now a.request_salt.now (length a.payload.now) (length a.out.now))
-    (response (cipher_of a.method) a.key.now a.salt.now a.request_salt.now a.clock a.payload.now) a.out.now
-    a.stream.now a.answer.now _ c.fits.ensures c.if-fits.true _ _ _ _ _ c.seal_response-sealed.ensures.value c.seal_response-sealed.ensures.out_after
-    c.write_sealed.ensures.value c.write_sealed.ensures.stream_after c.write_sealed.ensures.answer_after
+write_sealed-requires c = let all = fitting _ _ (sym c.fits.ensures ∙ c.if-not-fits.false) in record { stream_len = all.0; answer_len = all.1 }
 
 pub returns : goal.returns
 unfolding seals_response
 returns c =
     let a = c.args in
-    unfit _ _ a.out.now a.stream.now a.answer.now _ c.fits.ensures c.if-fits.false
+    sealed-fit (response_answer a.method a.key.now a.salt.now a.request_salt.now (length a.payload.now) (length a.out.now))
+    (response (cipher_of a.method) a.key.now a.salt.now a.request_salt.now a.clock a.payload.now) a.out.now
+    a.stream.now a.answer.now _ c.fits.ensures c.if-not-fits.false _ _ _ _ _ c.seal_response-sealed.ensures.value c.seal_response-sealed.ensures.out_after
+    c.write_sealed.ensures.value c.write_sealed.ensures.stream_after c.write_sealed.ensures.answer_after
+
+pub returns-then-not-fits : goal.returns-then-not-fits
+unfolding seals_response
+returns-then-not-fits c =
+    let a = c.args in
+    unfit _ _ a.out.now a.stream.now a.answer.now _ c.fits.ensures c.if-not-fits.true

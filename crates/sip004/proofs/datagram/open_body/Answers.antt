@@ -7,7 +7,7 @@ use Rattle.octets.proofs.BufferLaws.{rest}
 use Rattle.aes.proofs.KeyedLaws.{key-most}
 use Rattle.sip004.specs.Datagram.{subkey_of}
 use Rattle.sip004.proofs.SubkeyLaws.{subkey-front}
-use Rattle.sip004.proofs.DatagramLaws.{BodyOpened, body-opened, body-text, body-forged, body-lawful}
+use Rattle.sip004.proofs.DatagramLaws.{body-opened, body-answer}
 use Rattle.sip004.proofs.datagram.open_body.Goals as goal
 
 pub slice_bounds-derive_subkey-end : goal.slice_bounds-derive_subkey-end
@@ -26,20 +26,14 @@ slice_bounds-open-end c = sym (length-take-le _ _ (omega (arith, key-most _ c.re
 pub slice_bounds-open-count : goal.slice_bounds-open-count
 slice_bounds-open-count c = omega (arith, c.requires.key_in_bounds)
 
-pub returns-in-Text : goal.returns-in-Text
+pub returns : goal.returns
 unfolding subkey_of
-returns-in-Text c =
-    let opened : (let a = c.args in BodyOpened a.key.now a.datagram.now a.out.now c.open.result c.open.new.out) = let a = c.args in let at = length a.key.now in body-opened a.key.now a.datagram.now a.out.now c.requires.nonzero c.requires.key_in_bounds c.requires.datagram_len_bound c.requires.key_in_bounds_2 _ _ (subkey-front a.key.now (take at a.datagram.now) (replicate 32 0) _ (key-most _ c.requires.nonzero) c.derive_subkey.ensures) (rest a.datagram.now at) _ _ c.open.ensures.value c.open.ensures.out_after in
-    let all = body-text _ _ _ _ _ opened c.in-Text.is in record { value = all.0; out_after = all.1 }
-
-pub returns-in-Forged : goal.returns-in-Forged
-unfolding subkey_of
-returns-in-Forged c =
-    let opened : (let a = c.args in BodyOpened a.key.now a.datagram.now a.out.now c.open.result c.open.new.out) = let a = c.args in let at = length a.key.now in body-opened a.key.now a.datagram.now a.out.now c.requires.nonzero c.requires.key_in_bounds c.requires.datagram_len_bound c.requires.key_in_bounds_2 _ _ (subkey-front a.key.now (take at a.datagram.now) (replicate 32 0) _ (key-most _ c.requires.nonzero) c.derive_subkey.ensures) (rest a.datagram.now at) _ _ c.open.ensures.value c.open.ensures.out_after in
-    let all = body-forged _ _ _ _ _ opened c.in-Forged.is in record { value = all.0; out_after = all.1 }
-
-pub returns-in-Unlawful : goal.returns-in-Unlawful
-unfolding subkey_of
-returns-in-Unlawful c =
-    let opened : (let a = c.args in BodyOpened a.key.now a.datagram.now a.out.now c.open.result c.open.new.out) = let a = c.args in let at = length a.key.now in body-opened a.key.now a.datagram.now a.out.now c.requires.nonzero c.requires.key_in_bounds c.requires.datagram_len_bound c.requires.key_in_bounds_2 _ _ (subkey-front a.key.now (take at a.datagram.now) (replicate 32 0) _ (key-most _ c.requires.nonzero) c.derive_subkey.ensures) (rest a.datagram.now at) _ _ c.open.ensures.value c.open.ensures.out_after in
-    absurd (body-lawful _ _ _ _ _ opened c.in-Unlawful.is)
+returns c =
+    let a = c.args in
+    let at = length a.key.now in
+    let opened = body-opened a.key.now a.datagram.now a.out.now c.requires.nonzero c.requires.key_in_bounds c.requires.datagram_len_bound
+    c.requires.key_in_bounds_2 _ _
+    (subkey-front a.key.now (take at a.datagram.now) (replicate 32 0) _ (key-most _ c.requires.nonzero) c.derive_subkey.ensures)
+    (rest a.datagram.now at) _ _ c.open.ensures.value c.open.ensures.out_after in
+    let all = body-answer _ _ _ _ _ opened c.is_ok.result c.is_ok.ensures.value in
+    record { value = all.0; out_after = all.1 }

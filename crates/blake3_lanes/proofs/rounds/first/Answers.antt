@@ -1,7 +1,0 @@
-use mathlib.Core.Path.{refl}
-use Rattle.blake3_compression.specs.Columns.{words}
-use Rattle.blake3_lanes.proofs.rounds.first.Goals as goal
-
-pub returns : goal.returns
-unfolding words
-returns c = refl

@@ -1,8 +1,0 @@
-use Rattle.sha1_compression.proofs.RoundLaws.{round-maj}
-use Rattle.std.proofs.Common.{rules}
-use Rattle.sha1_compression.proofs.rounds.round_maj.Goals as goal
-
-pub returns : goal.returns
-returns c = λ t l h.
-    let a = c.args in
-    round-maj a.s a.w c.turn.ensures (search rules) t l h

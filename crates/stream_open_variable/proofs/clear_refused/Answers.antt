@@ -1,6 +1,0 @@
-use Rattle.stream_open_variable.proofs.VariableLaws.{settled-law}
-use Rattle.stream_open_variable.proofs.clear_refused.Goals as goal
-
-pub returns-in-Refused : goal.returns-in-Refused
-returns-in-Refused c =
-    settled-law _ _ _ _ _ c.in-Refused.is c.zero.ensures
