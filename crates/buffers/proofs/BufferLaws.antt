@@ -4,7 +4,7 @@ use mathlib.Core.Bool.{Bool, true, false, ◌&&◌, false≢true, and-eq-true_if
 use mathlib.Core.Path.{◌≡◌, refl, sym, ap, ap₂, ◌∙◌, subst}
 use mathlib.Core.List.{List, [], ◌∷◌, ◌++◌, append_assoc, append-nil}
 use Prim.Native.Nat.{ℕ, zero, suc, ◌+◌, ◌-◌, ◌≤◌, ◌<◌, min}
-use native.Mathlib.Nat.{le_of_eq, le_of_suc-le-suc, not-suc-le-zero}
+use native.Mathlib.Nat.{le_of_eq, le_of_lt, le_of_suc-le-suc, not-suc-le-zero}
 use native.Mathlib.Numerals.{add-one}
 use native.Mathlib.Decide.{dec_le}
 use native.Mathlib.Omega.{arith}
@@ -14,7 +14,7 @@ use lib.Bits.{bit_xor, bit_or, xor_lt, xor_self, or_zero_l, or_add_and, and_le_l
 use borrow.Author.Tests.{eq-eqb, ne_eqb, eqb-true, eqb-false}
 use lib.Dec.{eqb, lit<}
 use lib.ListN.{length, get_or, take, drop, set, replicate, length-append, length-drop, length-replicate, drop_of_length-le}
-use lib.Seq.{get_or-drop, take_at, drop_at, drop-drop, length-take-le, append_snoc, set_split, paste-zero, take_all, take-nil}
+use lib.Seq.{get_or-drop, take_at, drop_at, drop-drop, length-take-le, append_snoc, set_split, paste-zero, take-suc, take-length, take_all, take-nil}
 use Rattle.buffers.specs.Buffers.{Octets, put, ◌⊞◌, same}
 use Rattle.buffers.proofs.XorLaws.{xor-cancel, xor-zero}
 
@@ -150,10 +150,27 @@ put_one d at a h =
     ∙ append_snoc (take at d) a (drop (suc at) d)
     ∙ sym (set_split d at a h)
 
--- no byte
+-- a string put in byte by byte: none of it, one more byte, all of it
 pub put-none : (d : List ℕ) (at : ℕ) → d ≡ put d at []
 unfolding put
 put-none d at = paste-zero d at []
+
+module _ (d : List ℕ) (at : ℕ) (s : List ℕ) (i : ℕ) (inside : at + i < length d) (more : i < length s) where
+  part : length (take i s) ≡ i
+  part = length-take-le i s (le_of_lt more)
+
+  fits : at + length (take i s) ≤ length d
+  fits = omega (arith, part)
+
+  pub put_next : set (put d at (take i s)) (at + i) (get_or s i 0) ≡ put d at (take (i + 1) s)
+  put_next =
+      sym (put_one (put d at (take i s)) (at + i) (get_or s i 0) (omega (arith, length-put d at (take i s) fits)))
+      ∙ ap (λ (k : ℕ). put (put d at (take i s)) (at + k) (get_or s i 0 ∷ [])) (sym part)
+      ∙ put-put d at (take i s) fits (get_or s i 0 ∷ [])
+      ∙ ap (put d at) (sym (take-suc s i 0 more) ∙ ap (λ (k : ℕ). take k s) (sym (add-one i)))
+
+pub put_all : (d : List ℕ) (at : ℕ) (s : List ℕ) (n : ℕ) → n ≡ length s → put d at (take n s) ≡ put d at s
+put_all d at s n e = ap (λ (k : ℕ). put d at (take k s)) e ∙ ap (put d at) (take-length s)
 
 -- a string as long as the buffer takes its place
 pub put_whole : (d s : List ℕ) → length d ≤ length s → put d 0 s ≡ s

@@ -16,7 +16,10 @@ pub fn copy(out: &mut [u8], at: usize, from: &[u8])
     requires { at + length from.now ≤ length out.old }
     ensures { out.new ≡ put out.old at from.now }
 {
-    out[at..at + from.len()].copy_from_slice(from);
+    // Byte by byte: for `copy_from_slice` the compiler calls memmove, which an archive for C would need from outside.
+    for (i, byte) in from.iter().enumerate() {
+        out[at + i] = *byte;
+    }
 }
 
 // A string of up to N bytes, with zeros behind it.

@@ -43,14 +43,6 @@ module _ (a b : List ℕ) (i j n p : ℕ) where
   unfolding agree
   agree-end h = let e : n - p ≡ zero = omega arith in let f : p ≡ p + 0 = omega arith in rw e f
 
-  pub agree-begin : 0 + agree (n - 0) a (i + 0) b (j + 0) ≡ agree n a i b j
-  agree-begin =
-      let e : n - 0 ≡ n = omega arith in
-      let f : i + 0 ≡ i = omega arith in
-      let g : j + 0 ≡ j = omega arith in
-      let x : agree (n - 0) a (i + 0) b (j + 0) ≡ agree n a i b j = rw (e, f, g) in
-      omega (arith, x)
-
 -- the cases of `bodies`
 pub some_byte : (n p : ℕ) → p < n → Byte p ≡ bodies n p
 unfolding bodies

@@ -1,2 +1,3 @@
 pub mod DifferenceLaws
+pub mod EightLaws
 pub mod Real

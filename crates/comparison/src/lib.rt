@@ -1,7 +1,7 @@
 // What differs between two recordings, index by index.
 #![tactic(auto)]
 
-ghost use Rattle.std.specs.Prelude.{◌≡◌, true, ◌+◌, ◌≤◌, length};
+ghost use Rattle.std.specs.Prelude.{◌≡◌, true, ◌+◌, ◌-◌, ◌≤◌, length};
 ghost use Rattle.recording.specs.Format.{is_well_formed};
 ghost use Rattle.comparison.specs.Differences.{agree, bodies, between, difference_at};
 
@@ -18,13 +18,29 @@ pub enum Difference {
     SecondOnly,
 }
 
+// The same of whole eights, as far as all of one agrees: what is left is for the bytes one by one. Byte by byte, two long bodies took half as
+// long again where the loop lay across a line of the processor's code.
+fn agreeing_eights(a: &[u8], i: usize, b: &[u8], j: usize, n: usize) -> usize
+    requires { (i + n ≤ length a.now) × (j + n ≤ length b.now) }
+    ensures { (result ≤ n) × (result + agree (n - result) a.now (i + result) b.now (j + result) ≡ agree n a.now i b.now j) }
+{
+    // An index: each string is read at it from a place of its own.
+    for k in 0..n / 8 {
+        if octets::load_u64_be(a, i + 8 * k) != octets::load_u64_be(b, j + 8 * k) {
+            return 8 * k;
+        }
+    }
+    n / 8 * 8
+}
+
 // How many of n bytes, of a from i on and of b from j on, agree before the first that differ.
 fn agreeing(a: &[u8], i: usize, b: &[u8], j: usize, n: usize) -> usize
     requires { (i + n ≤ length a.now) × (j + n ≤ length b.now) }
     ensures { result ≡ agree n a.now i b.now j }
 {
+    let start = agreeing_eights(a, i, b, j, n);
     // An index: it is the answer, and each string is read at it from a place of its own.
-    for p in 0..n {
+    for p in start..n {
         if a[i + p] != b[j + p] {
             return p;
         }

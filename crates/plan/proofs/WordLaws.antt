@@ -116,9 +116,6 @@ module _ (most n : ℕ) (w : List ℕ) where
 
 -- ---- writing
 
-pub least : (a b : ℕ) → min a b ≡ smaller a b
-least a b = search rules
-
 module _ (most n k : ℕ) (start : List ℕ) where
   -- what is written, with the plan of what is left, is the whole plan
   abbrev pub Written : List ℕ → (rest i : ℕ) → Type 0

@@ -7,7 +7,7 @@ ghost use Rattle.plan_pieces.specs.Plans.{words, passes, made};
 ghost use Rattle.plan.specs.Answers.{head_with, most_of, limit_answer, argument_answer, capacity_answer, check_answer, make_answer, make_out};
 
 use datagram_parts::{MAX_DATAGRAM, Side, fixed_length, overhead_of};
-use plan_pieces::{fewest_of, piece_fits};
+use plan_pieces::{fewest_of, piece_fits, saturating_sub, smaller_of};
 use protocol::Refusal;
 
 mod told;
@@ -20,10 +20,11 @@ pub use told::{write_checked, write_made};
 fn most_of(limit: u64, overhead: usize, address: usize) -> u64
     ensures { result ≡ limit - head_with overhead address }
 {
-    limit
-        .saturating_sub(overhead as u64)
-        .saturating_sub(fixed_length(Side::Client) as u64)
-        .saturating_sub(address as u64)
+    let fixed = fixed_length(Side::Client);
+    saturating_sub(
+        saturating_sub(saturating_sub(limit, overhead), fixed),
+        address,
+    )
 }
 
 // Refusal 12 of a limit that is over the longest datagram, or has no room for one byte of a report that has any.
@@ -104,7 +105,7 @@ fn write_plan(plan: &mut [u64], most: u64, report: u64, k: usize)
     let mut rest = report;
     // An index: of two words beside each other, which pairs lent by an iterator say no plainer.
     for i in 0..k {
-        let bytes = rest.min(most);
+        let bytes = smaller_of(rest, most);
         plan[2 * i] = bytes;
         plan[2 * i + 1] = 0;
         rest -= bytes;

@@ -22,6 +22,9 @@ fn describes(settings: &[u64], bodies: usize) -> bool
     ensures { result ≡ describes settings.now bodies }
 {
     let (pairs, odd) = settings.as_chunks::<2>();
+    if !odd.is_empty() {
+        return false;
+    }
     let mut left = bodies as u64;
     for &[_, len] in pairs {
         if left < len {
@@ -29,7 +32,7 @@ fn describes(settings: &[u64], bodies: usize) -> bool
         }
         left -= len;
     }
-    odd.is_empty() && left == 0
+    left == 0
 }
 
 // Whether a setting may be written whose number is to be at least `least`.

@@ -1,10 +1,10 @@
 use mathlib.Core.Path.{◌≡◌, sym, ◌∙◌}
 use native.Mathlib.Omega.{arith}
-use Rattle.comparison.proofs.DifferenceLaws.{agree-begin, agree-more, agree-stop, agree-end}
+use Rattle.comparison.proofs.DifferenceLaws.{agree-more, agree-stop, agree-end}
 use Rattle.comparison.proofs.agreeing.Goals as goal
 
 pub loop-p-init : goal.loop-p-init
-loop-p-init c = agree-begin _ _ _ _ _ 0
+loop-p-init c = c.agreeing_eights-start.ensures.1
 
 pub returns-then-a-i : goal.returns-then-a-i
 returns-then-a-i c = agree-stop _ _ _ _ _ _ (omega arith) c.if-a-i.true ∙ c.loop-p.invariant

@@ -1,8 +1,8 @@
-use mathlib.Core.Path.{refl, ◌∙◌}
+use mathlib.Core.Path.{refl}
 use native.Mathlib.Omega.{arith}
 use lib.ListN.{length-set}
 use borrow.Author.Rules.{rules}
-use Rattle.plan.proofs.WordLaws.{least, write-none, write-next, write-all}
+use Rattle.plan.proofs.WordLaws.{write-none, write-next, write-all}
 use Rattle.plan.proofs.write_plan.Goals as goal
 
 pub loop-i-init : goal.loop-i-init
@@ -15,7 +15,7 @@ pub loop-i-preserved : goal.loop-i-preserved
 loop-i-preserved c = (
   search rules,
   simp length-set c.loop-i.invariant.1,
-  write-next _ _ _ _ _ _ _ _ c.loop-i-test.true (c.min-bytes.ensures ∙ least _ _) c.loop-i.invariant.2,
+  write-next _ _ _ _ _ _ _ _ c.loop-i-test.true c.smaller_of-bytes.ensures.value c.loop-i.invariant.2,
 )
 
 pub returns : goal.returns

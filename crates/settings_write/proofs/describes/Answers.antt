@@ -7,6 +7,11 @@ use Rattle.settings_write.proofs.GivenLaws.{before-first, before-next, odd-words
 use Rattle.settings_write.proofs.PairLaws.{length-there}
 use Rattle.settings_write.proofs.describes.Goals as goal
 
+pub returns-then-not-is_empty : goal.returns-then-not-is_empty
+returns-then-not-is_empty c =
+    let some = eqb-false _ _ (sym c.is_empty.ensures ∙ c.if-not-is_empty.true) in
+    odd-words c.args.settings.now _ (λ e. some (omega (arith, e)))
+
 pub loop-len-init : goal.loop-len-init
 loop-len-init c = omega (arith, before-first c.args.settings.now)
 
@@ -22,14 +27,9 @@ loop-len-preserved c =
     let there = length-there ws _ c.as_chunks.ensures.front c.loop-len.len-index (omega arith) in
     omega (arith, there, before-next ws c.loop-len.len-index, c.loop-len.invariant)
 
-pub returns-then-is_empty : goal.returns-then-is_empty
-returns-then-is_empty c =
+pub returns : goal.returns
+returns c =
     let ws = c.args.settings.now in
     let e : c.loop-len.len-index ≡ length ws / 2 = omega arith in
-    let none = eqb-true _ _ (sym c.is_empty.ensures ∙ c.if-is_empty.true) in
+    let none = eqb-true _ _ (sym c.is_empty.ensures ∙ c.if-not-is_empty.false) in
     all-taken ws _ c.loop-len.left (omega (arith, none)) (rw e at c.loop-len.invariant)
-
-pub returns-else-is_empty : goal.returns-else-is_empty
-returns-else-is_empty c =
-    let some = eqb-false _ _ (sym c.is_empty.ensures ∙ c.if-is_empty.false) in
-    c.if-is_empty.false ∙ odd-words c.args.settings.now _ (λ e. some (omega (arith, e)))
