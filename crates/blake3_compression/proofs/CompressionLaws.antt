@@ -1,6 +1,6 @@
 -- The rounds, one by one.
 -- Assumes nothing.
-use mathlib.Core.Path.{◌≡◌, refl, sym, ap₂}
+use mathlib.Core.Path.{◌≡◌, refl, sym, ap₂, ◌∙◌}
 use mathlib.Core.List.{List}
 use Prim.Native.Nat.{ℕ, zero, suc, ◌+◌, ◌-◌, ◌<◌, ◌≤◌}
 use native.Mathlib.Nat.{not-suc-le-zero}
@@ -28,6 +28,16 @@ module _ (n i : ℕ) (v m : List ℕ) where
 
   pub rounds-done : n ≤ i → rounds (n - i) v m ≡ v
   rounds-done h = rounds-none (n - i) v m (omega arith)
+
+-- a round before n others, and the last
+pub round-before :
+    (n : ℕ) (v m a b w : List ℕ) → a ≡ one_round v m → b ≡ permuted m → w ≡ rounds n a b → w ≡ rounds (suc n) v m
+unfolding rounds
+round-before n v m a b w r p h = h ∙ ap₂ (rounds n) r p
+
+pub last-round : (v m w : List ℕ) → w ≡ one_round v m → w ≡ rounds 1 v m
+unfolding rounds
+last-round v m w r = r
 
 -- of a message the first sixteen words count
 sixteen-round : (v m : List ℕ) → one_round v (sixteen m) ≡ one_round v m

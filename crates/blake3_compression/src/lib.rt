@@ -98,16 +98,24 @@ pub fn permute(m: State) -> State
     }
 }
 
+// One after another and in no loop: each round's place for each message word is then known as the code is made, and no word is
+// moved between rounds.
 fn seven_rounds(t: State, m: State) -> State
     ensures { words result ≡ rounds 7 (words t) (words m) }
 {
-    let mut v = t;
-    let mut w = m;
-    for _ in 0..7u32 {
-        v = round(v, w);
-        w = permute(w);
-    }
-    v
+    let v = round(t, m);
+    let m = permute(m);
+    let v = round(v, m);
+    let m = permute(m);
+    let v = round(v, m);
+    let m = permute(m);
+    let v = round(v, m);
+    let m = permute(m);
+    let v = round(v, m);
+    let m = permute(m);
+    let v = round(v, m);
+    let m = permute(m);
+    round(v, m)
 }
 
 // The state before the first round.

@@ -12,8 +12,6 @@ use Rattle.std.proofs.lemmas.List.{get_or-drop}
 use Rattle.std.specs.Simd.{first_chunks}
 use lib.Seq.{sets, drop-cons}
 use borrow.Author.Tests.{eq-eqb, ne_eqb, leb-true}
-use Rattle.std.proofs.Common.{rules}
-use Rattle.std.specs.Prelude.{min}
 use Rattle.plan_pieces.specs.Plans.{words, fewest, piece_fits, adds, passes, smaller, made}
 
 -- ---- reading

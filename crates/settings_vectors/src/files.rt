@@ -83,14 +83,17 @@ fn answers(c: &[u8], out: &mut [u8]) -> bool {
     number_told == number(c, EXPECTED) as u64 && are(&answer, field(c, ANSWER))
 }
 
-fn byte_or_fill(s: &[u8], i: usize) -> u8 {
-    s.get(i).copied().unwrap_or(FILL)
+// Whether bytes are as they were filled. They are compared eight at a time.
+fn is_filling(s: &[u8]) -> bool {
+    let (eights, rest) = s.as_chunks::<8>();
+    eights.iter().all(|eight| *eight == [FILL; 8]) && rest.iter().all(|byte| *byte == FILL)
 }
 
-// Whether a buffer holds a string and is as it was filled behind that.
+// Whether a buffer holds a string, as far as there is room, and is as it was filled behind that.
 fn holds(out: &[u8], s: &[u8]) -> bool {
-    let mut bytes = out.iter().enumerate();
-    bytes.all(|(i, byte)| *byte == byte_or_fill(s, i))
+    let n = s.len().min(out.len());
+    let (front, behind) = out.split_at(n);
+    front == &s[..n] && is_filling(behind)
 }
 
 fn answers_in_room(c: &[u8], out: &mut [u8]) -> bool {

@@ -1,18 +1,12 @@
-use mathlib.Core.Path.{sym, ap₂, ◌∙◌}
-use Prim.Native.Nat.{◌+◌, ◌-◌}
-use native.Mathlib.Omega.{arith}
-use Rattle.blake3_compression.specs.Columns.{words}
-use Rattle.blake3_compression.specs.Compression.{rounds}
-use Rattle.blake3_compression.proofs.CompressionLaws.{rounds-more, rounds-done}
+use Rattle.blake3_compression.proofs.CompressionLaws.{round-before, last-round}
 use Rattle.blake3_compression.proofs.seven_rounds.Goals as goal
-
-pub loop-preserved : goal.loop-preserved
-loop-preserved c =
-    let l = c.loop in
-    ap₂ (rounds (7 - (l.counter + 1))) c.round-v.ensures c.permute-w.ensures
-    ∙ rounds-more 7 l.counter (words l.v) (words l.w) (omega arith) ∙ l.invariant
 
 pub returns : goal.returns
 returns c =
-    let l = c.loop in
-    sym (rounds-done 7 l.counter (words l.v) (words l.w) (omega arith)) ∙ l.invariant
+    round-before 6 _ _ _ _ _ c.round-v.ensures c.permute-m.ensures
+    (round-before 5 _ _ _ _ _ c.round-v-2.ensures c.permute-m-2.ensures
+    (round-before 4 _ _ _ _ _ c.round-v-3.ensures c.permute-m-3.ensures
+    (round-before 3 _ _ _ _ _ c.round-v-4.ensures c.permute-m-4.ensures
+    (round-before 2 _ _ _ _ _ c.round-v-5.ensures c.permute-m-5.ensures
+    (round-before 1 _ _ _ _ _ c.round-v-6.ensures c.permute-m-6.ensures
+    (last-round _ _ _ c.round.ensures))))))
